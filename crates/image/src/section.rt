@@ -36,7 +36,7 @@ pub struct Layout {
 // Where record i stands, and, at the count, where the section ends.
 pub fn place(y: Section, i: usize) -> usize
     requires { ⌜ i ≤ y .count ⌝ }
-    ensures { λ r. ⌜ r ≡ placeIn y i ⌝ }
+    ensures { λ r. ⌜ (r ≡ placeIn y i) × (r ≤ 18446744069414584320) ⌝ }
 {
     let at = y.at as usize;
     let width = y.width as usize;

@@ -22,7 +22,9 @@ add-result c =
     omega (arith, product (a .y .width) (a .i) (search needs) (search needs))
 
 returns : tie.Need-returns
-returns c = search needs
+returns c =
+    let a = c .before .before .args in
+    omega (arith, product (a .y .width) (a .i) (search needs) (search needs))
 
 pub place-spec : {M : Type 1} → statement M
 place-spec = tie.close (tie.spec cast-at cast-width mul-result add-result returns)
