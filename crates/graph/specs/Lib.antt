@@ -5,3 +5,8 @@ pub mod Flow
 pub mod Transfer
 pub mod Route
 pub mod Leaders
+pub mod Blocks
+pub mod Edges
+pub mod Regions
+pub mod Refuse
+pub mod Build
