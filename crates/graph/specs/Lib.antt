@@ -1,5 +1,6 @@
 pub mod Graph
 pub mod Fold
+pub mod Records
 pub mod Table
 pub mod Flow
 pub mod Transfer
@@ -10,3 +11,5 @@ pub mod Edges
 pub mod Regions
 pub mod Refuse
 pub mod Build
+pub mod WellFormed
+pub mod Reached
