@@ -85,7 +85,7 @@ use Rattle.graph.specs.Graph.{Graph, held}
 use Rattle.graph.specs.Build.{Outcome, built, refused, buildOf}
 use Rattle.graph.specs.Table.{entryAt}
 use Rattle.graph.specs.WellFormed.{wellFormed}
-use Rattle.graph.specs.Reached.{reachedCount}
+use Rattle.graph.specs.Reached.{reachedBlocks}
 
 unfoldable pub join : List (List ℕ) → List ℕ
 join [] = []
@@ -98,7 +98,7 @@ unfoldable pub dump : Outcome → List ℕ
 dump (refused r) = r .number ∷ r .first ∷ r .second ∷ []
 dump (built g) =
     (length (g .blocks) ∷ length (g .edges) ∷ length (g .regions) ∷ length (g .unresolved) ∷ length (g .calls) ∷
-    g .entry ∷ reachedCount g ∷ cond (wellFormed (held g)) 1 0 ∷ [])
+    g .entry ∷ length (reachedBlocks g) ∷ cond (wellFormed (held g)) 1 0 ∷ [])
     ++ join (map (λ b. cond (eqb (b .count) 0) 0 (suc (entryAt (g .table) (b .first) .address)) ∷ b .count ∷ []) (g .blocks))
     ++ join (map (λ e. e .source ∷ e .target ∷ e .kind ∷ e .role ∷ e .number ∷ e .key ∷ e .«source_address» ∷ e .«target_address» ∷ []) (g .edges))
     ++ join (map (λ r. maybe (eqb (r .«has_parent») 1) (r .parent) ∷ r .start ∷ r .end ∷ r .protected) (g .regions))

@@ -1,6 +1,5 @@
 pub mod Graph
 pub mod Fold
-pub mod Records
 pub mod Table
 pub mod Flow
 pub mod Transfer
@@ -9,7 +8,6 @@ pub mod Leaders
 pub mod Blocks
 pub mod Edges
 pub mod Regions
-pub mod Refuse
 pub mod Build
 pub mod WellFormed
 pub mod Reached
