@@ -1,0 +1,3 @@
+-- The laws that belong to no single function.
+pub mod Computed
+pub mod Cases
