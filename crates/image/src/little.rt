@@ -21,7 +21,10 @@ pub fn u32_at(s: &[u8], at: usize) -> u64
     requires { ⌜ at + 4 ≤ length (now s) ⌝ }
     ensures { λ r. ⌜ (r ≡ le4 (now (s .entry)) at) × (r < 4294967296) ⌝ }
 {
-    byte_at(s, at) + 0x100 * byte_at(s, at + 1) + 0x10000 * byte_at(s, at + 2) + 0x1000000 * byte_at(s, at + 3)
+    byte_at(s, at)
+        + 0x100 * byte_at(s, at + 1)
+        + 0x10000 * byte_at(s, at + 2)
+        + 0x1000000 * byte_at(s, at + 3)
 }
 
 pub fn u64_at(s: &[u8], at: usize) -> u64

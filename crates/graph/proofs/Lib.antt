@@ -1,0 +1,5 @@
+-- The laws that belong to no single function.
+pub mod FoldLaws
+pub mod SectionLaws
+pub mod WordLaws
+pub mod RecordLaws
