@@ -18,9 +18,9 @@ use native.Mathlib.Numerals.{add-one}
 use native.Mathlib.Omega.{arith}
 use lib.ListN.{length, getD, take, drop, set, List·getD-eq-default}
 use lib.Seq.{sets, take-suc, length-sets, sets-eq, take-at, drop-at, getD-set-same, getD-set-other, drop-set-lt, drop-set-add, take-set-le, length-take-le}
-use Rattle.graph.specs.Fold.{flat}
+use Rattle.image.specs.Image.{table}
 use Rattle.graph.specs.Section.{Section, place, size, rowAt, records, Beside}
-use Rattle.graph.proofs.FoldLaws.{each, length-each, each-same, getD-each}
+use Rattle.graph.proofs.FoldLaws.{length-table, table-same, getD-table}
 
 -- ---- a part of a list after stores
 
@@ -71,11 +71,11 @@ size-most s l = min-le-right (getD l (s .count) 0) (s .most)
 module _ {A : Type 0} (s : Section) (of : List ℕ → A) (l : List ℕ) where
   pub length-records : length (records s of l) ≡ size s l
   unfolding records
-  length-records = length-each (λ (i : ℕ). of (rowAt s l i)) (size s l)
+  length-records = length-table (λ (i : ℕ). of (rowAt s l i)) (size s l)
 
   pub record-at : (i : ℕ) (d : A) → i < size s l → getD (records s of l) i d ≡ of (take (s .stride) (drop (place s i) l))
   unfolding records rowAt
-  record-at i d h = getD-each (λ (j : ℕ). of (rowAt s l j)) (size s l) i d h
+  record-at i d h = getD-table (λ (j : ℕ). of (rowAt s l j)) (size s l) i d h
 
   pub record-past : (i : ℕ) (d : A) → size s l ≤ i → getD (records s of l) i d ≡ d
   record-past i d h = List·getD-eq-default (records s of l) d (rw length-records h)
@@ -93,7 +93,7 @@ module _ (s : Section) (l vs : List ℕ) (k : ℕ) (away : Away s k (length vs))
   unfolding records size rowAt
   records-away of =
       rw count-away
-      (each-same _ _ (size s l) (λ i h. ap of (part-sets (s .stride) (place s i) vs l k (clear i h (away .rows-clear)))))
+      (table-same _ _ (size s l) (λ i h. ap of (part-sets (s .stride) (place s i) vs l k (clear i h (away .rows-clear)))))
     where
       clear : (i : ℕ) → i < size s l → (k + length vs ≤ s .base) ⊎ (place s (s .most) ≤ k) → (k + length vs ≤ place s i) ⊎ (place s i + s .stride ≤ k)
       clear i h (inl a) = inl (omega arith)
@@ -128,10 +128,10 @@ module _ (s : Section) (l vs : List ℕ) (full : length vs ≡ s .stride) (count
   new = still (size s l) ∙ part-own vs l (place s (size s l)) (s .stride) full (omega (arith, row-step s room))
 
   pub records-push : {A : Type 0} (of : List ℕ → A) → records s of (push s l vs) ≡ records s of l ++ (of vs ∷ [])
-  unfolding records flat
+  unfolding records table
   records-push of =
       rw size-push
-      (ap (λ (r : List _). r ++ (of (rowAt s (push s l vs) (size s l)) ∷ [])) (each-same _ _ (size s l) (λ j h. ap of (old j h)))
+      (ap (λ (r : List _). r ++ (of (rowAt s (push s l vs) (size s l)) ∷ [])) (table-same _ _ (size s l) (λ j h. ap of (old j h)))
       ∙ ap (λ (r : List ℕ). records s of l ++ (of r ∷ [])) new)
 
   -- the words that no row has afterwards are as they were

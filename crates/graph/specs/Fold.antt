@@ -31,3 +31,8 @@ count f (suc n) = one (f n) + count f n
     one : Bool → ℕ
     one true = 1
     one false = 0
+
+-- f 0 + f 1 + .. below n
+unfoldable pub sum : (ℕ → ℕ) → ℕ → ℕ
+sum f zero = zero
+sum f (suc n) = sum f n + f n

@@ -1,10 +1,10 @@
 -- A section of a list of words: rows of `stride` words from `base` on, as many as the word at `count` says, and `most` at
 -- most. Whatever the count says, no more than `most` rows are read, so every list of words has its rows.
 use mathlib.Core.Logic.{_⊎_}
-use mathlib.Core.List.{List, [], _∷_}
+use mathlib.Core.List.{List}
 use Prim.Native.Nat.{ℕ, _+_, _*_, _≤_, _<_, min}
 use lib.ListN.{getD, take, drop}
-use Rattle.graph.specs.Fold.{flat}
+use Rattle.image.specs.Image.{table}
 
 pub record Section : Type 0 where
   pub count : ℕ
@@ -25,7 +25,7 @@ rowAt s l i = take (s .stride) (drop (place s i) l)
 
 -- the rows, each read as a record
 unfoldable pub records : {A : Type 0} → Section → (List ℕ → A) → List ℕ → List A
-records s of l = flat (λ (i : ℕ). of (rowAt s l i) ∷ []) (size s l)
+records s of l = table (λ i. of (rowAt s l i)) (size s l)
 
 -- word k is in none of the rows that are read
 abbrev pub Beside : Section → List ℕ → ℕ → Type 0

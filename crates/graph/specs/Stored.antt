@@ -1,12 +1,12 @@
 -- What stores do to the graph that words hold, and to the words that it does not use.
-use mathlib.Core.Bool.{Bool, cond, _&&_}
+use mathlib.Core.Bool.{cond}
 use mathlib.Core.List.{List, [], _∷_, _++_}
 use mathlib.Core.Path.{_≡_}
 use Prim.Native.Nat.{ℕ, _+_, _≤_, _<_}
-use lib.Dec.{ltb, leb}
+use lib.Dec.{ltb}
 use lib.ListN.{getD}
 use Rattle.graph.specs.Section.{Section, Beside}
-use Rattle.graph.specs.Graph.{Counts, Held}
+use Rattle.graph.specs.Graph.{Held}
 use Rattle.graph.specs.Words.{tableRows, blockRows, edgeRows, regionRows, handlerRows, unresolvedRows, callRows, section, Part, holding, heldIn}
 use Rattle.graph.specs.declared.record.TableEntry.{TableEntry}
 use Rattle.graph.specs.declared.record.Block.{Block}
@@ -73,11 +73,6 @@ nothing = holding 0 none none none none none none none
   where
     none : {A : Type 0} → Part A
     none = record { count = 0; list = [] }
-
--- 'at most 512 .. 1,024 blocks and at most 4,096 edges; at most 32 regions, 32 handlers, 1,024 unresolved records and 512
--- calls': nothing is cut
-unfoldable pub within : Counts → Bool
-within c = leb (c .table) 512 && leb (c .blocks) 1024 && leb (c .edges) 4096 && leb (c .regions) 32 && leb (c .handlers) 32 && leb (c .unresolved) 1024 && leb (c .calls) 512
 
 -- ---- the words that it does not use
 

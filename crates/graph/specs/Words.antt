@@ -85,7 +85,7 @@ callFrom l at = record { source = getD l at 0; «has_target» = getD l (at + 1) 
 abbrev pub callInto : List ℕ → ℕ → CallSite → List ℕ
 callInto l at r = set (set (set l at (r .source)) (at + 1) (r .«has_target»)) (at + 2) (r .target)
 
--- ---- a record of a row of its own, of zeros where there is none
+-- ---- a record from its row
 
 abbrev pub entryOf : List ℕ → TableEntry
 entryOf w = entryFrom w 0
@@ -107,24 +107,6 @@ unresolvedOf w = unresolvedFrom w 0
 
 abbrev pub callOf : List ℕ → CallSite
 callOf w = callFrom w 0
-
-abbrev pub noBlock : Block
-noBlock = blockOf []
-
-abbrev pub noEdge : Edge
-noEdge = edgeOf []
-
-abbrev pub noRegion : Region
-noRegion = regionOf []
-
-abbrev pub noHandler : HandlerRecord
-noHandler = handlerOf []
-
-abbrev pub noUnresolved : UnresolvedTransfer
-noUnresolved = unresolvedOf []
-
-abbrev pub noCall : CallSite
-noCall = callOf []
 
 -- ---- what the words hold
 

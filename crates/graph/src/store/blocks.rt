@@ -5,8 +5,9 @@ use crate::store::rows_in;
 use crate::store::whole;
 ghost use mathlib.Core.Path.{_≡_};
 ghost use Prim.Native.Nat.{_+_, _≤_};
-ghost use lib.ListN.{length, getD};
-ghost use Rattle.graph.specs.Words.{blockFrom, blockInto, noBlock, heldIn};
+ghost use lib.ListN.{length};
+ghost use Rattle.graph.specs.Records.{block};
+ghost use Rattle.graph.specs.Words.{blockFrom, blockInto, heldIn};
 ghost use Rattle.graph.specs.Stored.{withBlock, Stored};
 
 const COUNT: usize = 1;
@@ -24,7 +25,7 @@ pub fn block_count(g: &Words) -> usize
 
 // Number i of them, and zeros past the last.
 pub fn block_at(g: &Words, i: usize) -> Block
-    ensures { λ r. ⌜ r ≡ getD (heldIn (now (g .entry)) .graph .blocks) i noBlock ⌝ }
+    ensures { λ r. ⌜ r ≡ block (heldIn (now (g .entry)) .graph) i ⌝ }
 {
     if i < rows_in(g, COUNT, MOST) {
         return read(g, BASE + 2 * i);

@@ -5,8 +5,9 @@ use crate::store::rows_in;
 use crate::store::whole;
 ghost use mathlib.Core.Path.{_≡_};
 ghost use Prim.Native.Nat.{_+_, _≤_};
-ghost use lib.ListN.{length, getD};
-ghost use Rattle.graph.specs.Words.{callFrom, callInto, noCall, heldIn};
+ghost use lib.ListN.{length};
+ghost use Rattle.graph.specs.Records.{call};
+ghost use Rattle.graph.specs.Words.{callFrom, callInto, heldIn};
 ghost use Rattle.graph.specs.Stored.{withCall, Stored};
 
 const COUNT: usize = 6;
@@ -24,7 +25,7 @@ pub fn call_count(g: &Words) -> usize
 
 // Number i of them, and zeros past the last.
 pub fn call_at(g: &Words, i: usize) -> CallSite
-    ensures { λ r. ⌜ r ≡ getD (heldIn (now (g .entry)) .graph .calls) i noCall ⌝ }
+    ensures { λ r. ⌜ r ≡ call (heldIn (now (g .entry)) .graph) i ⌝ }
 {
     if i < rows_in(g, COUNT, MOST) {
         return read(g, BASE + 3 * i);

@@ -5,8 +5,9 @@ use crate::store::rows_in;
 use crate::store::whole;
 ghost use mathlib.Core.Path.{_≡_};
 ghost use Prim.Native.Nat.{_+_, _≤_};
-ghost use lib.ListN.{length, getD};
-ghost use Rattle.graph.specs.Words.{edgeFrom, edgeInto, noEdge, heldIn};
+ghost use lib.ListN.{length};
+ghost use Rattle.graph.specs.Records.{edge};
+ghost use Rattle.graph.specs.Words.{edgeFrom, edgeInto, heldIn};
 ghost use Rattle.graph.specs.Stored.{withEdge, Stored};
 
 const COUNT: usize = 2;
@@ -24,7 +25,7 @@ pub fn edge_count(g: &Words) -> usize
 
 // Number i of them, and zeros past the last.
 pub fn edge_at(g: &Words, i: usize) -> Edge
-    ensures { λ r. ⌜ r ≡ getD (heldIn (now (g .entry)) .graph .edges) i noEdge ⌝ }
+    ensures { λ r. ⌜ r ≡ edge (heldIn (now (g .entry)) .graph) i ⌝ }
 {
     if i < rows_in(g, COUNT, MOST) {
         return read(g, BASE + 8 * i);

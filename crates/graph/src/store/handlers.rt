@@ -5,8 +5,9 @@ use crate::store::rows_in;
 use crate::store::whole;
 ghost use mathlib.Core.Path.{_≡_};
 ghost use Prim.Native.Nat.{_+_, _≤_};
-ghost use lib.ListN.{length, getD};
-ghost use Rattle.graph.specs.Words.{handlerFrom, handlerInto, noHandler, heldIn};
+ghost use lib.ListN.{length};
+ghost use Rattle.graph.specs.Records.{handler};
+ghost use Rattle.graph.specs.Words.{handlerFrom, handlerInto, heldIn};
 ghost use Rattle.graph.specs.Stored.{withHandler, Stored};
 
 const COUNT: usize = 4;
@@ -24,7 +25,7 @@ pub fn handler_count(g: &Words) -> usize
 
 // Number i of them, and zeros past the last.
 pub fn handler_at(g: &Words, i: usize) -> HandlerRecord
-    ensures { λ r. ⌜ r ≡ getD (heldIn (now (g .entry)) .graph .handlers) i noHandler ⌝ }
+    ensures { λ r. ⌜ r ≡ handler (heldIn (now (g .entry)) .graph) i ⌝ }
 {
     if i < rows_in(g, COUNT, MOST) {
         return read(g, BASE + 5 * i);

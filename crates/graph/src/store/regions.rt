@@ -5,9 +5,10 @@ use crate::store::rows_in;
 use crate::store::whole;
 ghost use mathlib.Core.Path.{_≡_};
 ghost use Prim.Native.Nat.{_+_, _≤_};
-ghost use lib.ListN.{length, getD};
+ghost use lib.ListN.{length};
 ghost use lib.Seq.{sets};
-ghost use Rattle.graph.specs.Words.{regionFrom, regionInto, noRegion, heldIn};
+ghost use Rattle.graph.specs.Records.{region};
+ghost use Rattle.graph.specs.Words.{regionFrom, regionInto, heldIn};
 ghost use Rattle.graph.specs.Stored.{withRegion, Stored};
 
 const COUNT: usize = 3;
@@ -25,7 +26,7 @@ pub fn region_count(g: &Words) -> usize
 
 // Number i of them, and zeros past the last.
 pub fn region_at(g: &Words, i: usize) -> Region
-    ensures { λ r. ⌜ r ≡ getD (heldIn (now (g .entry)) .graph .regions) i noRegion ⌝ }
+    ensures { λ r. ⌜ r ≡ region (heldIn (now (g .entry)) .graph) i ⌝ }
 {
     if i < rows_in(g, COUNT, MOST) {
         return read(g, BASE + 21 * i);

@@ -5,7 +5,7 @@ use crate::store::rows_in;
 use crate::store::whole;
 ghost use mathlib.Core.Path.{_≡_};
 ghost use Prim.Native.Nat.{_+_, _≤_};
-ghost use lib.ListN.{length, getD};
+ghost use lib.ListN.{length};
 ghost use Rattle.graph.specs.Table.{entryAt};
 ghost use Rattle.graph.specs.Words.{entryFrom, entryInto, heldIn};
 ghost use Rattle.graph.specs.Stored.{withEntry, Stored};
