@@ -3,3 +3,4 @@ pub mod FoldLaws
 pub mod SectionLaws
 pub mod WordLaws
 pub mod RecordLaws
+pub mod StoredLaws

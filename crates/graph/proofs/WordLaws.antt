@@ -11,13 +11,14 @@ use native.Mathlib.Omega.{arith}
 use borrow.Author.Tests.{lt-ltb, le-ltb, eqb-true, leb-true}
 use lib.Dec.{T, eqb, leb, ltb, eqb→eq, leb→le, ltb→lt, eqb-refl, T-not, lit<, lit≤}
 use lib.ListN.{length, getD, take, drop, set}
-use lib.Seq.{sets, getD-take, getD-drop, getD-set-other}
+use lib.Seq.{sets, sets-eq, getD-set-same, getD-set-other}
+use Rattle.image.specs.Image.{table}
 use Rattle.graph.specs.Fold.{all}
 use Rattle.graph.specs.Section.{Section, place, size, records, Beside}
-use Rattle.graph.specs.Words.{section, Part, part, heldIn}
-use Rattle.graph.specs.Stored.{more, Unused, Untouched}
+use Rattle.graph.specs.Words.{section, Part, part, entryOf, blockOf, edgeOf, regionOf, handlerOf, unresolvedOf, callOf, holding, heldIn}
+use Rattle.graph.specs.Stored.{more, entered, nothing, Unused, Untouched, Stored, Emptied}
 use Rattle.graph.proofs.FoldLaws.{both, all-at}
-use Rattle.graph.proofs.SectionLaws.{Apart, push, size-most, count-push, size-push, records-push, word-sets, word-push, count-push-other, records-push-other}
+use Rattle.graph.proofs.SectionLaws.{Apart, push, size-most, count-push, size-push, records-push, word-sets, word-push, Away, count-away, records-away, count-push-other, records-push-other}
 
 -- ---- the sections: each within the words behind its count, and apart from every other, by one test
 
@@ -158,4 +159,42 @@ adds-none l ws i h =
       other = λ of j t. refl;
       uses = λ k u. u;
       kept = λ k u. refl;
+    }
+
+-- ---- the header
+
+-- a word of the header that counts nothing
+module _ (l : List ℕ) (long : length l ≡ 43872) (b : ℕ) where
+  beside-entry : (j : ℕ) → j < 7 → Away (section j) 7 1
+  beside-entry j h = let x = laid j h in record { rows-clear = inl (omega arith); count-clear = inl (omega arith) }
+
+  same : {A : Type 0} (of : List ℕ → A) (j : ℕ) → T (ltb j 7) → part (section j) of (set l 7 b) ≡ part (section j) of l
+  same of j t =
+      let away = beside-entry j (ltb→lt j 7 t) in
+      λ i. record { count = count-away (section j) l (b ∷ []) 7 away i; list = records-away (section j) l (b ∷ []) 7 away of i }
+
+  same-size : (j : ℕ) → j < 7 → size (section j) (set l 7 b) ≡ size (section j) l
+  unfolding size
+  same-size j h = rw (count-away (section j) l (b ∷ []) 7 (beside-entry j h))
+
+  pub entry-set : Stored l (set l 7 b) (entered (heldIn l) b)
+  unfolding heldIn
+  entry-set =
+      record {
+        holds =
+            λ i.
+            holding (getD-set-same l 7 b 0 (omega arith) i) (same entryOf 0 tt i) (same blockOf 1 tt i) (same edgeOf 2 tt i) (same regionOf 3 tt i) (same handlerOf 4 tt i) (same unresolvedOf 5 tt i) (same callOf 6 tt i);
+        uses = λ k u. record { behind = u .behind; beside = λ j h. rw (same-size j h) at (u .beside j h) };
+        kept = λ k u. getD-set-other l 7 k b 0 (let h = u .behind in omega arith);
+      }
+
+abbrev zeros : List ℕ
+zeros = 0 ∷ 0 ∷ 0 ∷ 0 ∷ 0 ∷ 0 ∷ 0 ∷ 0 ∷ []
+
+pub emptied : (l : List ℕ) → length l ≡ 43872 → Emptied l (sets l 0 zeros)
+unfolding heldIn records size table
+emptied l long =
+    record {
+      holds = ap heldIn (sets-eq zeros l 0 (omega arith)) ∙ refl;
+      kept = λ k u. word-sets zeros l 0 k (inr (u .behind));
     }
