@@ -1,2 +1,3 @@
 // The control flow graph of a sequence: its store, the three builds, its own rule (21) and what is reached.
 pub mod record;
+pub mod store;
