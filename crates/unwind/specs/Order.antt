@@ -6,9 +6,14 @@ use lib.Dec.{isEq}
 use Rattle.image.specs.Deal.{UnwindEnd, handler, propagate, resume}
 
 -- x put at its place in a sorted list, unless it stands there
+unfoldable pub placed : {A : Type 0} → Ordering → A → A → List A → List A → List A
+placed Ordering·lt x y l more = x ∷ y ∷ l
+placed Ordering·eq x y l more = y ∷ l
+placed Ordering·gt x y l more = y ∷ more
+
 unfoldable pub put : {A : Type 0} → (A → A → Ordering) → A → List A → List A
 put c x [] = x ∷ []
-put c x (y ∷ l) = elim (c x y) [ Ordering·lt ↦ x ∷ y ∷ l | Ordering·eq ↦ y ∷ l | Ordering·gt ↦ y ∷ put c x l ]
+put c x (y ∷ l) = placed (c x y) x y l (put c x l)
 
 unfoldable pub sorted : {A : Type 0} → (A → A → Ordering) → List A → List A
 sorted c [] = []
