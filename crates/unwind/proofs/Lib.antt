@@ -1,2 +1,5 @@
 pub mod Lists
 pub mod Order
+pub mod Paths
+pub mod Trie
+pub mod Intern
