@@ -3,3 +3,6 @@ pub mod Order
 pub mod Paths
 pub mod Trie
 pub mod Intern
+pub mod Closure
+pub mod Instance
+pub mod After

@@ -13,15 +13,20 @@ use Rattle.unwind.specs.Blocks.{blockOf, blockAt}
 use Rattle.unwind.specs.Part.{part, outgoing, returning}
 use Rattle.unwind.specs.Trie.{Node, nodeAt, sameFunclet}
 
+-- the entry and the part of the funclet that a node entered; the root of a route has none
+unfoldable pub entryBlock : Graph → Option ℕ → ℕ
+entryBlock g none = 0
+entryBlock g (some f) = blockOf g f
+
+unfoldable pub partOf : Graph → List ℕ → Option ℕ → List ℕ
+partOf g fs none = []
+partOf g fs (some f) = part g fs f (blockOf g f)
+
 -- the graph before, the funclets of the routes, and the nodes in creation order
 module _ (g : Graph) (fs : List ℕ) (z : List Node) where
-  -- the original blocks of node i's funclet; the root of a route has none
+  -- the original blocks of node i's funclet
   unfoldable pub blocksOf : ℕ → List ℕ
-  blocksOf i = of (nodeAt z i .funclet)
-    where
-      of : Option ℕ → List ℕ
-      of none = []
-      of (some f) = part g fs f (blockOf g f)
+  blocksOf i = partOf g fs (nodeAt z i .funclet)
 
   -- an earlier node has the same funclet
   unfoldable pub later : ℕ → Bool
@@ -43,11 +48,7 @@ module _ (g : Graph) (fs : List ℕ) (z : List Node) where
   moved i t = cond (member t (blocksOf i)) (place i t) t
 
   unfoldable pub entryOf : ℕ → ℕ
-  entryOf i = enter (nodeAt z i .funclet)
-    where
-      enter : Option ℕ → ℕ
-      enter none = 0
-      enter (some f) = place i (blockOf g f)
+  entryOf i = place i (entryBlock g (nodeAt z i .funclet))
 
   unfoldable pub returnsOf : ℕ → List ℕ
   returnsOf i = map (place i) (keep (returning g) (blocksOf i))

@@ -35,6 +35,10 @@ unfoldable pub head : {A : Type 0} → List A → Option A
 head [] = none
 head (x ∷ l) = some x
 
+unfoldable pub isEmpty : {A : Type 0} → List A → Bool
+isEmpty [] = true
+isEmpty (x ∷ l) = false
+
 -- the element at a place
 unfoldable pub at : {A : Type 0} → List A → ℕ → Option A
 at [] i = none

@@ -1,5 +1,5 @@
 -- 'Its part is the blocks reached from that entry', and the blocks of it that return.
-use mathlib.Core.Bool.{Bool, true, false, not, _&&_, _||_}
+use mathlib.Core.Bool.{Bool, not, _&&_, _||_}
 use mathlib.Core.List.{List, [], _∷_, map}
 use Prim.Native.Nat.{ℕ, zero, suc}
 use lib.Dec.{eqb, ltb}
@@ -7,7 +7,7 @@ use lib.ListN.{length}
 use Rattle.image.specs.Deal.{UnwindStep, funclet, call, UnwindPath, UnwindRoute}
 use Rattle.graph.specs.declared.record.Edge.{Edge}
 use Rattle.graph.specs.Graph.{Graph}
-use Rattle.unwind.specs.Lists.{keep, joined, upto, member}
+use Rattle.unwind.specs.Lists.{keep, joined, upto, member, isEmpty}
 use Rattle.unwind.specs.Blocks.{built, firstOf, lastOf}
 
 -- flows and edge kinds, by their numbers
@@ -49,13 +49,13 @@ unfoldable pub onward : Graph → List ℕ → ℕ → List ℕ → List ℕ
 onward g fs f l =
     keep (λ t. not (barred g fs f t)) (map (λ e. e .target) (keep (λ e. ordinary e && member (e .source) l) (g .edges)))
 
--- 'the blocks reached from that entry, itself among them': the first round takes the entry, each later one a step
+-- 'the blocks reached from that entry, itself among them': a round takes the entry, the blocks of l and those a step further
+unfoldable pub round : Graph → List ℕ → ℕ → ℕ → List ℕ → List ℕ
+round g fs f e l = keep (λ b. eqb b e || member b l || member b (onward g fs f l)) (upto (length (g .blocks)))
+
 unfoldable pub rounds : Graph → List ℕ → ℕ → ℕ → ℕ → List ℕ
 rounds g fs f e zero = []
-rounds g fs f e (suc n) = again (rounds g fs f e n)
-  where
-    again : List ℕ → List ℕ
-    again l = keep (λ b. eqb b e || member b l || member b (onward g fs f l)) (upto (length (g .blocks)))
+rounds g fs f e (suc n) = round g fs f e (rounds g fs f e n)
 
 -- as many rounds as blocks reach all that can be reached
 unfoldable pub part : Graph → List ℕ → ℕ → ℕ → List ℕ
@@ -63,8 +63,4 @@ part g fs f e = rounds g fs f e (length (g .blocks))
 
 -- 'A returning block ends in Return, or in a Jump with no outgoing edge but those two kinds.'
 unfoldable pub returning : Graph → ℕ → Bool
-returning g b = eqb (lastOf g b .flow) Return || eqb (lastOf g b .flow) Jump && goesNowhere (keep ordinary (outgoing g b))
-  where
-    goesNowhere : List Edge → Bool
-    goesNowhere [] = true
-    goesNowhere (e ∷ l) = false
+returning g b = eqb (lastOf g b .flow) Return || eqb (lastOf g b .flow) Jump && isEmpty (keep ordinary (outgoing g b))

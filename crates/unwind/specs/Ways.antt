@@ -113,10 +113,10 @@ routeEdge g r s t =
       «target_address» = firstOf g t .address;
     }
 
+unfoldable pub edgeTo : Graph → List Leap → Way → HopEnd → List Edge
+edgeTo g seen w (block t) = cond (wanted (w .source) t seen) [] (routeEdge g (w .route) (w .source) t ∷ [])
+edgeTo g seen w leave = []
+
 unfoldable pub routeEdges : Graph → List Leap → List Way → List Edge
 routeEdges g seen [] = []
-routeEdges g seen (w ∷ ws) = add (w .end) (routeEdges g (leap w ∷ seen) ws)
-  where
-    add : HopEnd → List Edge → List Edge
-    add leave more = more
-    add (block t) more = cond (wanted (w .source) t seen) more (routeEdge g (w .route) (w .source) t ∷ more)
+routeEdges g seen (w ∷ ws) = edgeTo g seen w (w .end) ++ routeEdges g (leap w ∷ seen) ws
