@@ -6,3 +6,4 @@ pub mod Intern
 pub mod Closure
 pub mod Instance
 pub mod After
+pub mod Parts
