@@ -4,3 +4,5 @@ pub mod SectionLaws
 pub mod WordLaws
 pub mod RecordLaws
 pub mod StoredLaws
+pub mod Bit
+pub mod BlockLaws
