@@ -5,3 +5,5 @@ pub mod SectionLaws
 pub mod WordLaws
 pub mod RecordLaws
 pub mod StoredLaws
+pub mod Bit
+pub mod BlockLaws

@@ -4,6 +4,7 @@ pub mod Table
 pub mod Section
 pub mod Words
 pub mod Stored
+pub mod BlockSet
 pub mod Flow
 pub mod Transfer
 pub mod Route
