@@ -6,7 +6,7 @@ use crate::store::whole;
 ghost use mathlib.Core.Path.{_≡_};
 ghost use Prim.Native.Nat.{_+_, _≤_};
 ghost use lib.ListN.{length};
-ghost use Rattle.graph.specs.Records.{edge};
+ghost use Rattle.graph.specs.Graph.{edge};
 ghost use Rattle.graph.specs.Words.{edgeFrom, edgeInto, heldIn};
 ghost use Rattle.graph.specs.Stored.{withEdge, Stored};
 

@@ -7,7 +7,7 @@ ghost use mathlib.Core.Path.{_≡_};
 ghost use Prim.Native.Nat.{_+_, _≤_};
 ghost use lib.ListN.{length};
 ghost use lib.Seq.{sets};
-ghost use Rattle.graph.specs.Records.{region};
+ghost use Rattle.graph.specs.Graph.{region};
 ghost use Rattle.graph.specs.Words.{regionFrom, regionInto, heldIn};
 ghost use Rattle.graph.specs.Stored.{withRegion, Stored};
 

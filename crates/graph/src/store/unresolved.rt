@@ -6,7 +6,7 @@ use crate::store::whole;
 ghost use mathlib.Core.Path.{_≡_};
 ghost use Prim.Native.Nat.{_+_, _≤_};
 ghost use lib.ListN.{length};
-ghost use Rattle.graph.specs.Records.{unresolved};
+ghost use Rattle.graph.specs.Graph.{unresolvedTransfer};
 ghost use Rattle.graph.specs.Words.{unresolvedFrom, unresolvedInto, heldIn};
 ghost use Rattle.graph.specs.Stored.{withUnresolved, Stored};
 
@@ -25,7 +25,7 @@ pub fn unresolved_count(g: &Words) -> usize
 
 // Number i of them, and zeros past the last.
 pub fn unresolved_at(g: &Words, i: usize) -> UnresolvedTransfer
-    ensures { λ r. ⌜ r ≡ unresolved (heldIn (now (g .entry)) .graph) i ⌝ }
+    ensures { λ r. ⌜ r ≡ unresolvedTransfer (heldIn (now (g .entry)) .graph) i ⌝ }
 {
     if i < rows_in(g, COUNT, MOST) {
         return read(g, BASE + 4 * i);
