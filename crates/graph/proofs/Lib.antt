@@ -1,3 +1,4 @@
 -- The laws that belong to no single function.
 pub mod Computed
 pub mod Cases
+pub mod Rule21
