@@ -175,7 +175,8 @@ def main():
         family, data, answer = rows[row]
         print(f'row {row} ({family}) differs: {data.hex()}\n    the Rust: {answer}')
     if checked.returncode and not bad:
-        print(told[-4000:])
+        print(told[-4000:] + '\nthe rows were not computed')
+        sys.exit(1)
     built = sum(answer.startswith('built') for _, _, answer in rows)
     modes = [sum(data[1] == mode for _, data, _ in rows) for mode in range(3)]
     refusals = sorted({int(answer.split()[1]) for _, _, answer in rows if answer.startswith('refused')})

@@ -7,3 +7,4 @@ pub mod RecordLaws
 pub mod StoredLaws
 pub mod Bit
 pub mod BlockLaws
+pub mod Rule21

@@ -1,5 +1,5 @@
 -- The instruction at a position of the table: its transfers, slot by slot, or the edges that are given for it.
-use mathlib.Core.Bool.{Bool, cond, _||_}
+use mathlib.Core.Bool.{Bool, cond, not, _||_}
 use mathlib.Core.List.{List, [], map}
 use Prim.Native.Nat.{ℕ, zero, suc}
 use lib.Dec.{eqb, leb}
@@ -13,7 +13,7 @@ use Rattle.image.specs.declared.record.GivenSource.{GivenSource}
 use Rattle.image.specs.declared.record.GivenEdge.{GivenEdge}
 use Rattle.graph.specs.declared.record.TableEntry.{TableEntry}
 use Rattle.graph.specs.Fold.{flat, some}
-use Rattle.graph.specs.Flow.{Flow, Role, From, Slot, slotsOf, flowUnder, endsBlock}
+use Rattle.graph.specs.Flow.{Flow, Role, From, Slot, slotsOf, flowUnder}
 
 abbrev pub word : Bool → ℕ
 word b = cond b 1 0
@@ -62,15 +62,14 @@ slotTransfer i s =
 unfoldable pub casesAt : Image → ℕ → List Case
 casesAt m p = getD (casesOf m) p []
 
-unfoldable pub caseTransfer : Image → ℕ → ℕ → Transfer
-caseTransfer m p k =
-    let c = getD (casesAt m p) k (caseFrom [] 0) in
-    record { role = Role.switchCase; from = From.named; target = c .target; number = k; key = c .key }
+abbrev pub caseTransfer : Case → ℕ → Transfer
+caseTransfer c k = record { role = Role.switchCase; from = From.named; target = c .target; number = k; key = c .key }
 
 unfoldable pub transferAt : Image → ℕ → ℕ → Transfer
 transferAt m p zero = slotTransfer (instructionAt m p) (slotsOf (flowAt m p) .0)
 transferAt m p (suc k) =
-    cond (eqb (flowAt m p) Flow.switch) (caseTransfer m p k) (slotTransfer (instructionAt m p) (slotsOf (flowAt m p) .1))
+    cond (eqb (flowAt m p) Flow.switch) (caseTransfer (getD (casesAt m p) k (caseFrom [] 0)) k)
+    (slotTransfer (instructionAt m p) (slotsOf (flowAt m p) .1))
 
 unfoldable pub slotCount : Image → ℕ → ℕ
 slotCount m p = cond (eqb (flowAt m p) Flow.switch) (suc (length (casesAt m p))) 2
@@ -88,6 +87,6 @@ givenAt m p = flat (λ s. cond (eqb (sourceAt m s .address) (addressAt m p)) (ge
 abbrev pub given : Image → ℕ → ℕ → GivenEdge
 given m p k = getD (givenAt m p) k (edgeFrom [] 0)
 
--- it ends its block by its flow, or as a given source: 'A given source with no edges still ends its block.'
+-- It ends its block: by its flow under the policy, or 'A given source with no edges still ends its block.'
 unfoldable pub endsAt : Image → ℕ → Bool
-endsAt m p = isGiven m p || endsBlock (m .header .calls) (instructionAt m p .flow)
+endsAt m p = isGiven m p || not (eqb (flowAt m p) Flow.next)
