@@ -9,3 +9,5 @@ pub mod Bit
 pub mod BlockLaws
 pub mod Rule21
 pub mod TableLaws
+pub mod DealLaws
+pub mod CursorLaws
