@@ -1,9 +1,9 @@
 #!/usr/bin/env python3
 """The definitions of the graph crate, computed and held against the published Rust.
 
-    scripts/definitions.py [--oracle DIR] [--most BYTES] [--keep] FAMILY:SEED:COUNT ..
+    scripts/definitions.py [--oracle DIR] [--most BYTES] [FAMILY:SEED:COUNT ..]
 
-Images of the families come from the oracle, which answers them by the Rust (build alone). For each image the script
+Images of the families come from the oracle, which answers them by the published Rust (build alone). For each image the script
 writes one line of antt into a scratch crate outside the repository: what `buildOf` gives, as numbers, is what the Rust
 gave, and a built graph meets rule 21. `rt` computes the lines; those that do not hold are printed with their images.
 """
@@ -23,6 +23,7 @@ SECTIONS = [  # record of each section, with the struct format of its fields
 BOOLEANS = {'has_entry', 'has_end', 'keeps'}
 COMPUTED = {0, 1, 3, 9}  # the unresolved roles without a target
 PER_FILE = 40
+STANDARD = 'small:1:200 handlers:2:100 given:3:100 mistakes:4:200 routes:5:60 wide:6:60 funclets:7:40 typical:8:30 exhaustive:1:150'
 
 
 def literal(names, values):
@@ -130,12 +131,23 @@ def unfoldable():
     return ' '.join(names)
 
 
+def tally(rows):
+    """What the images have in them."""
+    count = lambda test: sum(bool(test(data)) for _, data, _ in rows)
+    number = lambda data, at: struct.unpack_from('<I', data, at)[0]
+    ends = lambda data: [struct.unpack_from('<QQ', data, 16 + 31 * i) for i in range(number(data, 12))]
+    uneven = lambda data: any(a[1] != b[0] for a, b in zip(ends(data), ends(data)[1:]))
+    refusals = sorted({int(answer.split()[1]) for _, _, answer in rows if answer.startswith('refused')})
+    print(f'modes {[count(lambda d: d[1] == mode) for mode in range(3)]}, flattened {count(lambda d: d[2])}, '
+          f'with an entry {count(lambda d: d[3])}, with a gap or overlap {count(uneven)}, '
+          f'built {sum(a.startswith("built") for _, _, a in rows)}, refusals {refusals}')
+
+
 def main():
     options = argparse.ArgumentParser(description=__doc__, formatter_class=argparse.RawDescriptionHelpFormatter)
     options.add_argument('--oracle', default=os.path.join(ROOT, 'oracle'))
-    options.add_argument('--most', type=int, default=700, help='leave out longer images')
-    options.add_argument('--keep', action='store_true', help='keep the scratch crate')
-    options.add_argument('families', nargs='*', default=[])
+    options.add_argument('--most', type=int, default=2000, help='leave out longer images')
+    options.add_argument('families', nargs='*', default=STANDARD.split())
     given = options.parse_args()
     program = lambda name: os.path.join(given.oracle, 'target/release', name)
     rows = []
@@ -152,8 +164,11 @@ def main():
     for part in ('crates', 'target/rlib', 'target/stamp'):
         if os.path.isdir(os.path.join(ROOT, part)):
             shutil.copytree(os.path.join(ROOT, part), os.path.join(folder, part))
-    write = lambda path, text: (os.makedirs(os.path.dirname(os.path.join(folder, path)), exist_ok=True),
-                                open(os.path.join(folder, path), 'w', encoding='utf-8').write(text))
+
+    def write(path, text):
+        os.makedirs(os.path.dirname(os.path.join(folder, path)), exist_ok=True)
+        open(os.path.join(folder, path), 'w', encoding='utf-8').write(text)
+
     write('crates.txt', open(os.path.join(ROOT, 'crates.txt')).read() + '\nrows: graph image\n')
     write('crates/rows/src/lib.rt', '// Rows to compute.\n')
     write('crates/rows/specs/Dump.antt', DUMP.replace('UNFOLD', unfoldable()))
@@ -175,17 +190,11 @@ def main():
         family, data, answer = rows[row]
         print(f'row {row} ({family}) differs: {data.hex()}\n    the Rust: {answer}')
     if checked.returncode and not bad:
-        print(told[-4000:] + '\nthe rows were not computed')
-        sys.exit(1)
-    built = sum(answer.startswith('built') for _, _, answer in rows)
-    modes = [sum(data[1] == mode for _, data, _ in rows) for mode in range(3)]
-    refusals = sorted({int(answer.split()[1]) for _, _, answer in rows if answer.startswith('refused')})
-    print(f'{len(rows)} images ({built} built; modes {modes}; refusals {refusals}), {len(bad)} differ, {time.time() - began:.0f} s')
-    if given.keep:
-        print(folder)
-    else:
-        shutil.rmtree(folder)
-    sys.exit(1 if bad or checked.returncode else 0)
+        sys.exit(told[-4000:] + f'\nthe rows were not computed: {folder}')
+    tally(rows)
+    print(f'{len(rows)} images, {len(bad)} differ, {time.time() - began:.0f} s')
+    shutil.rmtree(folder)
+    sys.exit(1 if bad else 0)
 
 
 main()
