@@ -11,7 +11,8 @@ use Rattle.graph.specs.Route.{funclets, resumesLate, entries, routeCheck
 use Rattle.graph.specs.Leaders.{entryMark, goesOn, sequenceMark, leadsTo, flowMark, exceptionalMark, rangeMark, handlerAt, handlerMark, routes, routeMark, endsFunclet, isLeader}
 use Rattle.graph.specs.Blocks.{isTerminator, firstOf, blockOf, blockAt, blocksOf, entryOf}
 use Rattle.graph.specs.Edges.{resolved, transferEdges, transferUnresolved, givenEdge, edgesAt, unresolvedAt, normalEdges, unresolvedOf, rangeFirst, rangeSize, unwindEdges, exceptionEdges, edgesOf, callAt, callsOf}
-use Rattle.graph.specs.Regions.{sameRange, isDraft, span, place, draftsBelow, drafts, contains, smaller, parentBelow, including, setBelow, regionAt, regionsOf, regionIn, handlerRecord, handlersOf}
+use Rattle.graph.specs.Regions.{sameRange, isDraft, span, place, draftsBelow, drafts, contains, smaller, parentBelow, setBelow, regionAt, regionsOf, regionIn, handlerRecord, handlersOf}
+use Rattle.graph.specs.BlockSet.{including}
 use Rattle.graph.specs.Build.{Outcome, orderCheck, instructionCheck, tableCheck, entryCheck, sourceCheck, givenMode, givenCheck, handlerCheck, continues, continuationCheck, buildCheck, graphFrom, buildOf}
 
 unfoldable pub computed : Image → Outcome

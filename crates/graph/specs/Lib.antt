@@ -1,6 +1,10 @@
 pub mod Graph
 pub mod Fold
 pub mod Table
+pub mod Section
+pub mod Words
+pub mod Stored
+pub mod BlockSet
 pub mod Flow
 pub mod Transfer
 pub mod Route

@@ -1,15 +1,15 @@
 -- Regions with their handlers. `add_regions`.
 use mathlib.Core.Bool.{Bool, true, cond, not, _&&_}
 use mathlib.Core.List.{List, [], _∷_}
-use Prim.Native.Nat.{ℕ, zero, suc, _+_, _-_, _/_, _%_, _^_}
-use lib.Bits.{bitOr}
+use Prim.Native.Nat.{ℕ, zero, suc, _+_, _-_}
 use lib.Dec.{eqb, ltb, leb}
-use lib.ListN.{length, getD, set, replicate}
+use lib.ListN.{length, getD, replicate}
 use Rattle.image.specs.Image.{Image, table}
 use Rattle.graph.specs.declared.record.Region.{Region}
 use Rattle.graph.specs.declared.record.HandlerRecord.{HandlerRecord}
 use Rattle.graph.specs.Fold.{some, count}
 use Rattle.graph.specs.Leaders.{handlerAt}
+use Rattle.graph.specs.BlockSet.{including}
 use Rattle.graph.specs.Blocks.{blockOf, blockAt}
 use Rattle.graph.specs.Edges.{rangeFirst, rangeSize}
 
@@ -52,10 +52,7 @@ parentBelow m r zero = []
 parentBelow m r (suc k) =
     let before = parentBelow m r k in cond (contains m (draft m k) (draft m r) && smaller m before k) (k ∷ []) before
 
--- a set of blocks as sixteen words: block b is bit b % 64 of word b / 64
-unfoldable pub including : List ℕ → ℕ → List ℕ
-including s b = set s (b / 64) (bitOr (getD s (b / 64) 0) (2 ^ (b % 64)))
-
+-- the blocks f 0, f 1, .. below n
 unfoldable pub setBelow : (ℕ → ℕ) → ℕ → List ℕ
 setBelow f zero = replicate 16 0
 setBelow f (suc n) = including (setBelow f n) (f n)

@@ -15,7 +15,8 @@ use Rattle.graph.specs.Build.{tableCheck}
 unfoldable pub withinLimits : Counts → Bool
 withinLimits c =
     leb (c .table) 512
-    && (leb 1 (c .blocks) && leb (c .blocks) 1024)
+    && leb 1 (c .blocks)
+    && leb (c .blocks) 1024
     && leb (c .edges) 4096
     && leb (c .regions) 32
     && leb (c .handlers) 32
