@@ -173,13 +173,15 @@ module _ (g : Graph) (rs : List UnwindRoute) (z : List Node) (new : List Edge) (
           let at-j : place g fs z j c ≡ place g fs z i b = ap (place g fs z j) (sym from₀) ∙ sym (ap (λ (y : Edge). y .source) e) ∙ s in
           let same : j ≡ i = clone-owner g rs z j i c b l k m at-j in
           let k′ : c ∈ blocksOf g fs z i = subst (λ (x : ℕ). c ∈ blocksOf g fs z x) same k in
-          let c-is : c ≡ b = place-apart g rs z i c b k′ m (ap (λ (x : ℕ). place g fs z x c) (sym same) ∙ at-j) in
-          (d₀, record {
-            stood = there₀;
-            from = from₀ ∙ c-is;
-            kind = ap (λ (y : Edge). y .kind) e;
-            to = ap (λ (y : Edge). y .target) e ∙ ap (λ (x : ℕ). moved g fs z x (d₀ .target)) same;
-          })
+          let c-is : c ≡ b = place-apart g rs z i c b k′ m (ap (λ (x : ℕ). place g fs z x c) (sym same) ∙ at-j) in (
+            d₀,
+            record {
+              stood = there₀;
+              from = from₀ ∙ c-is;
+              kind = ap (λ (y : Edge). y .kind) e;
+              to = ap (λ (y : Edge). y .target) e ∙ ap (λ (x : ℕ). moved g fs z x (d₀ .target)) same;
+            },
+          )
 
   pub record Stands (i b : ℕ) (d d₀ : Edge) : Type 0 where
     pub there : d ∈ after .edges
@@ -197,10 +199,12 @@ module _ (g : Graph) (rs : List UnwindRoute) (z : List Node) (new : List Edge) (
       go (inl l) =
           let c : b ∈ copied g fs z i = subst (λ (x : List ℕ). b ∈ x) (sym (copied-later g rs z i l)) m in
           let o : d₀ ∈ outgoing g b = mem-keep (λ (d : Edge). eqb (d .source) b) k (eq-eqb _ b s) in
-          let e : cloneEdge g fs z i d₀ ∈ copies i = mem-joined (λ (b : ℕ). map (cloneEdge g fs z i) (outgoing g b)) c (mem-map (cloneEdge g fs z i) o) in
-          (cloneEdge g fs z i d₀, record {
-            there = Memᴰ·append-right (g .edges) (Memᴰ·append-left new (mem-flat copies (length z) i h e));
-            from = ap (place g fs z i) s;
-            kind = refl;
-            to = refl;
-          })
+          let e : cloneEdge g fs z i d₀ ∈ copies i = mem-joined (λ (b : ℕ). map (cloneEdge g fs z i) (outgoing g b)) c (mem-map (cloneEdge g fs z i) o) in (
+            cloneEdge g fs z i d₀,
+            record {
+              there = Memᴰ·append-right (g .edges) (Memᴰ·append-left new (mem-flat copies (length z) i h e));
+              from = ap (place g fs z i) s;
+              kind = refl;
+              to = refl;
+            },
+          )

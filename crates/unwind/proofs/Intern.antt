@@ -251,9 +251,9 @@ module _ (rs : List UnwindRoute) where
       known behind
   intern-law (suc n) r f ps t short known behind fits =
       let c =
-          each-law (intern n r) ps (groups ps) t
-          (λ k m u fit-u. intern-law n r (some (k .what)) (rest k ps) u (λ q i. le-of-suc-le-suc (shorter (suc n) ps k short q i)) (known-rest k known) (behind-rest ps k known m) fit-u)
-          fits in
+      each-law (intern n r) ps (groups ps) t
+      (λ k m u fit-u. intern-law n r (some (k .what)) (rest k ps) u (λ q i. le-of-suc-le-suc (shorter (suc n) ps k short q i)) (known-rest k known) (behind-rest ps k known m) fit-u)
+      fits in
       let x = create-law (internEach (intern n r) ps (groups ps) t .trie) r f ps (internEach (intern n r) ps (groups ps) t .edges) (c .fits) (c .leads) known behind in
       record {
         grows = ⊑-trans (c .grows) (x .grows);
@@ -287,10 +287,10 @@ module _ (rs : List UnwindRoute) where
   routes-law r (u ∷ us) t within fits =
       let here : u ∈ rs = within u (List·Memᴰ·head refl) in
       let known : Known (u .paths) =
-          record {
-            funclets = λ p f m i. record { route = u; path = p; listed = here; written = m; named = i };
-            handlers = λ p h m e. record { route = u; path = p; listed = here; written = m; named = e };
-          } in
+      record {
+        funclets = λ p f m i. record { route = u; path = p; listed = here; written = m; named = i };
+        handlers = λ p h m e. record { route = u; path = p; listed = here; written = m; named = e };
+      } in
       let behind : Behind none (u .paths) = record { named = λ a e. absurd (Option·none-ne-some a e); some-path = λ a e. absurd (Option·none-ne-some a e) } in
       let x = intern-law (longest (u .paths)) r none (u .paths) t (longest-short (u .paths)) known behind fits in
       let y = routes-law (suc r) us (intern (longest (u .paths)) r none (u .paths) t .trie) (λ v m. within v (List·Memᴰ·tail m)) (x .fits) in
