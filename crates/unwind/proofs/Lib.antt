@@ -7,3 +7,4 @@ pub mod Closure
 pub mod Instance
 pub mod After
 pub mod Parts
+pub mod Walks
