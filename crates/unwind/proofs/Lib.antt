@@ -8,3 +8,6 @@ pub mod Instance
 pub mod After
 pub mod Parts
 pub mod Walks
+pub mod Hops
+pub mod Accepted
+pub mod Demand

@@ -21,13 +21,13 @@ use Rattle.unwind.specs.Instance.{cloneBlocks, cloneEdges}
 use Rattle.unwind.specs.Ways.{Hop, ways, hopsOf, routeEdges}
 
 -- '14 MissingRouteEntry', '17 RouteAddressNotBlockStart'
+unfoldable pub leadFound : ℕ → Leading → Check
+leadFound a (leads b) = clear
+leadFound a inside = refused (refusal 17 a 0)
+leadFound a absent = refused (refusal 14 a 0)
+
 unfoldable pub leadCheck : Graph → ℕ → Check
-leadCheck g a = found (leading g a)
-  where
-    found : Leading → Check
-    found (leads b) = clear
-    found inside = refused (refusal 17 a 0)
-    found absent = refused (refusal 14 a 0)
+leadCheck g a = leadFound a (leading g a)
 
 -- '15 ResumeAfterFunclet (route)'; '§Resume after any funclet step gives 15, also with calls between.'
 unfoldable pub resumesLate : UnwindPath → Bool

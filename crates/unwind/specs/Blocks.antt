@@ -37,22 +37,22 @@ pub data Leading : Type 0 where
   inside : Leading
   absent : Leading
 
+unfoldable pub leadingBy : Option ℕ → Bool → Leading
+leadingBy (some b) s = leads b
+leadingBy none true = inside
+leadingBy none false = absent
+
 unfoldable pub leading : Graph → ℕ → Leading
-leading g a = answer (head (keep (λ b. eqb (firstOf g b .address) a) (upto (built g)))) (isStart (g .table) a)
-  where
-    answer : Option ℕ → Bool → Leading
-    answer (some b) s = leads b
-    answer none true = inside
-    answer none false = absent
+leading g a = leadingBy (head (keep (λ b. eqb (firstOf g b .address) a) (upto (built g)))) (isStart (g .table) a)
 
 -- the block itself, where there is one
+unfoldable pub blockIn : Leading → ℕ
+blockIn (leads b) = b
+blockIn inside = 0
+blockIn absent = 0
+
 unfoldable pub blockOf : Graph → ℕ → ℕ
-blockOf g a = number (leading g a)
-  where
-    number : Leading → ℕ
-    number (leads b) = b
-    number inside = 0
-    number absent = 0
+blockOf g a = blockIn (leading g a)
 
 -- 'at or above the route's start and below its end'
 unfoldable pub within : UnwindRoute → ℕ → Bool
