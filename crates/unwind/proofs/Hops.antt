@@ -3,6 +3,7 @@
 --     way-turn, turn-way           the ways of a node out of a block
 --     route-way, way-route         those of the routes, from their guarded blocks
 --     node-way, way-node           those of the nodes, from their returns
+--     ways-split, route-in, node-in       all ways
 use mathlib.Core.Path.{_≡_, refl, sym, _∙_, ap, subst}
 use mathlib.Core.Logic.{_⊎_, inl, inr}
 use mathlib.Core.Bool.{Bool, true, false, cond}
@@ -237,3 +238,17 @@ module _ (g g′ : Graph) (rs : List UnwindRoute) (hs : List Hop) where
       let x = flat-mem (nodeWays g rs) (length z) m in
       let y = joined-mem (λ (b : ℕ). waysFrom g rs (nodeAt z (x .0) .route) b (nodeAt z (x .0))) (returns (x .0)) (x .2) in
       record { node = x .0; inside = x .1; block = y .0; return = y .1; among = y .2 }
+
+  -- ---- all ways
+
+  pub ways-split : (w : Way) → w ∈ ways g rs → (w ∈ routeWays g rs 0 rs (tries rs .roots)) ⊎ (w ∈ flat (nodeWays g rs) (length z))
+  unfolding ways
+  ways-split w m = List·Memᴰ·append-cases (routeWays g rs 0 rs (tries rs .roots)) m
+
+  pub route-in : (w : Way) → w ∈ routeWays g rs 0 rs (tries rs .roots) → w ∈ ways g rs
+  unfolding ways
+  route-in w m = Memᴰ·append-left (flat (nodeWays g rs) (length z)) m
+
+  pub node-in : (w : Way) → w ∈ flat (nodeWays g rs) (length z) → w ∈ ways g rs
+  unfolding ways
+  node-in w m = Memᴰ·append-right (routeWays g rs 0 rs (tries rs .roots)) m
