@@ -1,3 +1,17 @@
 pub mod Graph
 pub mod Fold
 pub mod Table
+pub mod Section
+pub mod Words
+pub mod Stored
+pub mod BlockSet
+pub mod Flow
+pub mod Transfer
+pub mod Route
+pub mod Leaders
+pub mod Blocks
+pub mod Edges
+pub mod Regions
+pub mod Build
+pub mod WellFormed
+pub mod Reached

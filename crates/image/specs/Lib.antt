@@ -1,5 +1,9 @@
 pub mod Little
 pub mod Record
 pub mod Refusal
+pub mod Form
+pub mod Verdict
 pub mod Image
+pub mod Read
+pub mod Scanned
 pub mod Deal

@@ -1,0 +1,128 @@
+-- A number's binary digits, lowest first, and what the operations on words do to them.
+--     bit x k                 digit k of x
+--     bit-shift               what a shift and a remainder read
+--     bit-or, bit-xor         a digit of an or, and of an exclusive or
+--     bit-power-same, -other  the digits of a power of two
+--     ones-bits               `count_ones` counts the digits
+--     trailing-bit            `trailing_zeros` finds the lowest digit that is set
+--     bit-below               the digits of a number below a power of two
+-- Assumes nothing.
+use mathlib.Core.Path.{_≡_, refl, sym, ap, _∙_}
+use mathlib.Core.Bool.{Bool}
+use Prim.Native.Nat.{ℕ, zero, suc, _+_, _*_, _/_, _%_, _^_, _≤_, _<_, max, suc-le-suc}
+use native.Mathlib.Nat.{one-mul, pow-suc, not-suc-le-zero}
+use native.Mathlib.Numerals.{one-add}
+use native.Mathlib.Omega.{arith}
+use borrow.Author.Tests.{eq-eqb, ne-eqb}
+use lib.Dec.{eqb, lit<}
+use lib.Pow.{shr-shr, shl-exact}
+use lib.Bits.{bitOr, bitXor, differ, or-step, xor-step}
+use lib.Count.{ones, ones-step, trailingZeros, under}
+use Rattle.graph.specs.Fold.{count}
+use Rattle.graph.proofs.FoldLaws.{count-add, count-same}
+
+unfoldable pub bit : ℕ → ℕ → ℕ
+bit x zero = x % 2
+bit x (suc k) = bit (x / 2) k
+
+pub bit-lt : (x k : ℕ) → bit x k < 2
+unfolding bit
+bit-lt x zero = omega arith
+bit-lt x (suc k) = bit-lt (x / 2) k
+
+pub bit-shift : (x k : ℕ) → x / 2 ^ k % 2 ≡ bit x k
+unfolding bit
+bit-shift x zero = omega arith
+bit-shift x (suc k) = ap (λ (n : ℕ). n % 2) (ap (λ (n : ℕ). x / 2 ^ n) (sym (one-add k)) ∙ sym (shr-shr x 1 k)) ∙ bit-shift (x / 2) k
+
+-- `1 << k` in 64 bits
+pub one-shifted : (k : ℕ) → k < 64 → 1 * 2 ^ k % 2 ^ 64 ≡ 2 ^ k
+one-shifted k h = shl-exact 1 k 64 (lit< tt) (omega arith) ∙ one-mul (2 ^ k)
+
+pub bit-or : (a b k : ℕ) → bit (bitOr a b) k ≡ max (bit a k) (bit b k)
+unfolding bit
+bit-or a b zero = omega (arith, or-step a b)
+bit-or a b (suc k) =
+    let half : bitOr a b / 2 ≡ bitOr (a / 2) (b / 2) = omega (arith, or-step a b) in
+    ap (λ (n : ℕ). bit n k) half ∙ bit-or (a / 2) (b / 2) k
+
+differ-lt : (x y : ℕ) → x < 2 → y < 2 → differ x y < 2
+differ-lt zero y hx hy = hy
+differ-lt (suc x) zero hx hy = hx
+differ-lt (suc x) (suc y) hx hy = differ-lt x y (omega arith) (omega arith)
+
+pub bit-xor : (a b k : ℕ) → bit (bitXor a b) k ≡ differ (bit a k) (bit b k)
+unfolding bit
+bit-xor a b zero = omega (arith, xor-step a b, differ-lt (a % 2) (b % 2) (omega arith) (omega arith))
+bit-xor a b (suc k) =
+    let half : bitXor a b / 2 ≡ bitXor (a / 2) (b / 2) =
+    omega (arith, xor-step a b, differ-lt (a % 2) (b % 2) (omega arith) (omega arith)) in
+    ap (λ (n : ℕ). bit n k) half ∙ bit-xor (a / 2) (b / 2) k
+
+pub bit-zero : (k : ℕ) → bit 0 k ≡ 0
+unfolding bit
+bit-zero zero = refl
+bit-zero (suc k) = bit-zero k
+
+half-power : (j : ℕ) → 2 ^ suc j / 2 ≡ 2 ^ j
+half-power j = omega (arith, pow-suc 2 j)
+
+pub bit-power-same : (j : ℕ) → bit (2 ^ j) j ≡ 1
+unfolding bit
+bit-power-same zero = refl
+bit-power-same (suc j) = ap (λ (n : ℕ). bit n j) (half-power j) ∙ bit-power-same j
+
+pub bit-power-other : (j k : ℕ) → (k ≡ j → ⊥) → bit (2 ^ j) k ≡ 0
+unfolding bit
+bit-power-other zero zero ne = absurd (ne refl)
+bit-power-other zero (suc k) ne = bit-zero k
+bit-power-other (suc j) zero ne = omega (arith, pow-suc 2 j)
+bit-power-other (suc j) (suc k) ne = ap (λ (n : ℕ). bit n k) (half-power j) ∙ bit-power-other j k (λ e. ne (ap suc e))
+
+pub bit-below : (n x k : ℕ) → x < 2 ^ n → n ≤ k → bit x k ≡ 0
+unfolding bit
+bit-below zero x k h le = let z : x ≡ 0 = omega arith in rw z (bit-zero k)
+bit-below (suc n) x zero h le = absurd (not-suc-le-zero le)
+bit-below (suc n) x (suc k) h le = bit-below n (x / 2) k (omega (arith, pow-suc 2 n)) (omega arith)
+
+-- ---- counts
+
+digits : ℕ → ℕ → Bool
+digits x k = eqb (bit x k) 1
+
+first : (x : ℕ) → count (digits x) 1 ≡ x % 2
+unfolding count digits bit
+first x = cases (x % 2) refl
+  where
+    cases : (d : ℕ) → x % 2 ≡ d → count (digits x) 1 ≡ x % 2
+    cases zero e = rw (e)
+    cases (suc zero) e = rw (e)
+    cases (suc (suc d)) e = absurd (omega arith)
+
+pub ones-bits : (n x : ℕ) → x < 2 ^ n → ones x ≡ count (λ (k : ℕ). eqb (bit x k) 1) n
+unfolding count digits bit ones
+ones-bits zero x h = let z : x ≡ 0 = omega arith in rw z
+ones-bits (suc n) x h =
+    let rest = count-same (λ (k : ℕ). digits x (1 + k)) (digits (x / 2)) n (λ k lt. ap (digits x) (one-add k)) in
+    let all = ap (count (digits x)) (sym (one-add n)) ∙ count-add (digits x) 1 n in
+    omega (arith, ones-step x, ones-bits n (x / 2) (omega (arith, pow-suc 2 n)), first x)
+
+-- ---- the lowest digit that is set
+
+pub record Lowest (n x t : ℕ) : Type 0 where
+  pub within : t < n
+  pub here : bit x t ≡ 1
+  pub none-below : (k : ℕ) → k < t → bit x k ≡ 0
+
+pub trailing-bit : (n x : ℕ) → x < 2 ^ n → (x ≡ 0 → ⊥) → Lowest n x (trailingZeros n x)
+unfolding trailingZeros bit
+trailing-bit zero x h ne = absurd (ne (omega arith))
+trailing-bit (suc n) x h ne = go (x % 2) refl (λ e. trailing-bit n (x / 2) (omega (arith, pow-suc 2 n)) (λ z. ne (omega arith)))
+  where
+    go : (d : ℕ) → x % 2 ≡ d → (d ≡ 0 → Lowest n (x / 2) (trailingZeros n (x / 2))) → Lowest (suc n) x (under d (trailingZeros n (x / 2)))
+    go zero e rest = record { within = suc-le-suc (rest refl .within); here = rest refl .here; none-below = λ k h. below k h }
+      where
+        below : (k : ℕ) → k < suc (trailingZeros n (x / 2)) → bit x k ≡ 0
+        below zero h = e
+        below (suc k) h = rest refl .none-below k (omega arith)
+    go (suc d) e rest = record { within = omega arith; here = omega arith; none-below = λ k h. absurd (not-suc-le-zero h) }

@@ -1,0 +1,289 @@
+-- What the functions on a set's words do to the set.
+--     member-past, member-below            there are 1,024 blocks
+--     member-none                          the empty set has none
+--     member-including, -excluding         a block more or less; length-including, length-excluding
+--     size-including, size-excluding       how many blocks there are then; size-le
+--     including-past, excluding-is         what a store writes
+--     Ored, size-more, lowest-is, none-more         a word more of a loop
+--     zero-below, shift-below, word-below, below-is     a set's blocks are below n
+-- Assumes nothing.
+use mathlib.Core.Path.{_≡_, refl, sym, ap, ap₂, _∙_}
+use mathlib.Core.Bool.{Bool, true, false, cond, not, _&&_, _||_}
+use mathlib.Core.List.{List}
+use Prim.Native.Nat.{ℕ, zero, suc, _+_, _-_, _*_, _/_, _%_, _^_, _≤_, _<_, max}
+use native.Mathlib.Nat.{not-suc-le-zero, div-eq-of-lt, div-lt-iff-lt-mul}
+use native.Mathlib.Decide.{ℕ-discrete, decLt}
+use native.Mathlib.Omega.{arith}
+use borrow.Author.Count.{below-more}
+use borrow.Author.Tests.{eq-eqb, ne-eqb, eqb-true, lt-ltb, le-ltb}
+use lib.Bits.{bitOr, bitXor, differ}
+use lib.Count.{ones, trailingZeros}
+use lib.Dec.{T, eqb, ltb, ltb→lt}
+use lib.Pow.{pow-pos, pow-mono}
+use lib.ListN.{length, getD, set, length-set, getD-replicate, List·getD-eq-default}
+use lib.Seq.{getD-set-same, getD-set-other, set-out}
+use Rattle.graph.specs.Fold.{count}
+use Rattle.graph.specs.BlockSet.{member, none, including, excluding, Union, sizeOf, LowestOf}
+use Rattle.graph.specs.WellFormed.{within}
+use Rattle.graph.specs.declared.blockset.Lowest.the-variants.{At}
+use Rattle.graph.proofs.FoldLaws.{all-at, count-same, count-add, count-one, count-le}
+use Rattle.graph.proofs.Bit.{bit, bit-shift, bit-below, bit-lt, bit-zero, bit-or, bit-xor, bit-power-same, bit-power-other, ones-bits, trailing-bit}
+
+-- digit b of the set
+abbrev digit : List ℕ → ℕ → ℕ
+digit w b = bit (getD w (b / 64) 0) (b % 64)
+
+pub member-bit : (w : List ℕ) (b : ℕ) → member w b ≡ eqb (digit w b) 1
+unfolding member
+member-bit w b = rw bit-shift
+
+-- digit k of word i
+digit-at : (w : List ℕ) (i k : ℕ) → k < 64 → digit w (64 * i + k) ≡ bit (getD w i 0) k
+digit-at w i k h = ap₂ (λ (v d : ℕ). bit (getD w v 0) d) (omega arith) (omega arith)
+
+pub member-at : (w : List ℕ) (i k : ℕ) → k < 64 → member w (64 * i + k) ≡ eqb (bit (getD w i 0) k) 1
+member-at w i k h = member-bit w (64 * i + k) ∙ ap (λ (n : ℕ). eqb n 1) (digit-at w i k h)
+
+zero-word : (w : List ℕ) (b : ℕ) → getD w (b / 64) 0 ≡ 0 → member w b ≡ false
+zero-word w b z = member-bit w b ∙ ap (λ (v : ℕ). eqb (bit v (b % 64)) 1) z ∙ ap (λ (n : ℕ). eqb n 1) (bit-zero (b % 64))
+
+pub member-past : (w : List ℕ) (b : ℕ) → length w ≡ 16 → 1024 ≤ b → member w b ≡ false
+member-past w b long h = zero-word w b (List·getD-eq-default w 0 (omega arith))
+
+pub member-below : (w : List ℕ) (b : ℕ) → length w ≡ 16 → member w b ≡ true → b < 1024
+member-below w b long m =
+    elim (decLt b 1024) [ yes lt ↦ lt | no ge ↦ absurd (never (member w b) m (member-past w b long (omega arith))) ]
+  where
+    never : (t : Bool) → t ≡ true → t ≡ false → ⊥
+    never t p q = let z : _≡_ {A = ℕ} 0 1 = cc in omega arith
+
+pub member-none : (b : ℕ) → member none b ≡ false
+member-none b =
+    zero-word none b
+    (elim (decLt (b / 64) 16) [
+      | yes lt ↦ getD-replicate {A = ℕ} 16 (b / 64) 0 0 lt
+      | no ge ↦ List·getD-eq-default none 0 {n = b / 64} (omega arith)
+    ])
+
+-- ---- a block more or less
+
+differ-zero : (x : ℕ) → differ x 0 ≡ x
+differ-zero zero = refl
+differ-zero (suc x) = refl
+
+module _ (w : List ℕ) (long : length w ≡ 16) (b : ℕ) (h : b < 1024) where
+  -- word b / 64 is written anew, with no digit but b's another
+  module _ (v : ℕ) (same : (k : ℕ) → (k ≡ b % 64 → ⊥) → bit v k ≡ bit (getD w (b / 64) 0) k) where
+    put-here : digit (set w (b / 64) v) b ≡ bit v (b % 64)
+    put-here = rw (getD-set-same w (b / 64) v 0 (omega arith))
+
+    put-other : (c : ℕ) → (b ≡ c → ⊥) → digit (set w (b / 64) v) c ≡ digit w c
+    put-other c ne =
+        elim (ℕ-discrete (c / 64) (b / 64)) [
+          | yes e ↦ rw (e, getD-set-same w (b / 64) v 0 (omega arith)) (same (c % 64) (omega arith))
+          | no d ↦ rw (getD-set-other w (b / 64) (c / 64) v 0 d)
+        ]
+
+    member-put : (c : ℕ) → (b ≡ c → ⊥) → member (set w (b / 64) v) c ≡ member w c
+    member-put c ne = member-bit (set w (b / 64) v) c ∙ ap (λ (n : ℕ). eqb n 1) (put-other c ne) ∙ sym (member-bit w c)
+
+  abbrev word : ℕ
+  word = getD w (b / 64) 0
+
+  abbrev one : ℕ
+  one = 2 ^ (b % 64)
+
+  or-same : (k : ℕ) → (k ≡ b % 64 → ⊥) → bit (bitOr word one) k ≡ bit word k
+  or-same k ne = omega (arith, bit-or word one k, bit-power-other (b % 64) k ne)
+
+  xor-same : (k : ℕ) → (k ≡ b % 64 → ⊥) → bit (bitXor word one) k ≡ bit word k
+  xor-same k ne = bit-xor word one k ∙ rw (bit-power-other (b % 64) k ne) (differ-zero (bit word k))
+
+  including-same : member (including w b) b ≡ true
+  unfolding including
+  including-same =
+      member-bit _ b
+      ∙ eq-eqb _ 1
+      (put-here (bitOr word one) or-same ∙ omega (arith, bit-or word one (b % 64), bit-lt word (b % 64), bit-power-same (b % 64)))
+
+  including-other : (c : ℕ) → (b ≡ c → ⊥) → member (including w b) c ≡ member w c
+  unfolding including
+  including-other = member-put (bitOr word one) or-same
+
+  pub member-including : (c : ℕ) → member (including w b) c ≡ (eqb b c || member w c)
+  member-including c =
+      elim (ℕ-discrete b c) [
+        | yes e ↦ rw (← e, eq-eqb b b refl) including-same
+        | no ne ↦ rw (ne-eqb b c ne) (including-other c ne)
+      ]
+
+  pub size-including : member w b ≡ false → sizeOf (including w b) ≡ suc (sizeOf w)
+  size-including out = count-one (member w) (member (including w b)) 1024 b h out including-same (λ c lt ne. including-other c (λ e. ne (sym e)))
+
+  module _ (there : member w b ≡ true) where
+    pub excluding-is : excluding w b ≡ set w (b / 64) (bitXor word one)
+    unfolding excluding
+    excluding-is = rw there
+
+    excluding-same : member (excluding w b) b ≡ false
+    excluding-same =
+        let o : digit w b ≡ 1 = eqb-true _ _ (sym (member-bit w b) ∙ there) in
+        let gone : digit (set w (b / 64) (bitXor word one)) b ≡ 0 =
+        put-here (bitXor word one) xor-same ∙ bit-xor word one (b % 64) ∙ rw (o, bit-power-same (b % 64)) in
+        rw excluding-is (member-bit _ b ∙ ap (λ (n : ℕ). eqb n 1) gone)
+
+    excluding-other : (c : ℕ) → (b ≡ c → ⊥) → member (excluding w b) c ≡ member w c
+    excluding-other c ne = rw excluding-is (member-put (bitXor word one) xor-same c ne)
+
+    pub size-excluding : sizeOf w ≡ suc (sizeOf (excluding w b))
+    size-excluding = count-one (member (excluding w b)) (member w) 1024 b h excluding-same there (λ c lt ne. sym (excluding-other c (λ e. ne (sym e))))
+
+pub including-past : (w : List ℕ) (b : ℕ) → length w ≡ 16 → 1024 ≤ b → including w b ≡ w
+unfolding including
+including-past w b long h = set-out w (b / 64) _ (omega arith)
+
+pub excluding-none : (w : List ℕ) (b : ℕ) → member w b ≡ false → excluding w b ≡ w
+unfolding excluding
+excluding-none w b out = rw out
+
+pub member-excluding : (w : List ℕ) → length w ≡ 16 → (b c : ℕ) → member (excluding w b) c ≡ (not (eqb b c) && member w c)
+member-excluding w long b c = cases (member w b) refl
+  where
+    cases : (t : Bool) → member w b ≡ t → member (excluding w b) c ≡ (not (eqb b c) && member w c)
+    cases true m =
+        let h = member-below w b long m in
+        elim (ℕ-discrete b c) [
+          | yes e ↦ rw (← e, eq-eqb b b refl) (excluding-same w long b h m)
+          | no ne ↦ rw (ne-eqb b c ne) (excluding-other w long b h m c ne)
+        ]
+    cases false m =
+        rw (excluding-none w b m)
+        (elim (ℕ-discrete b c) [
+          | yes e ↦ rw (← e, eq-eqb b b refl) m
+          | no ne ↦ rw (ne-eqb b c ne)
+        ])
+
+pub length-including : (w : List ℕ) (b : ℕ) → length (including w b) ≡ length w
+unfolding including
+length-including w b = length-set w (b / 64) _
+
+pub length-excluding : (w : List ℕ) (b : ℕ) → length (excluding w b) ≡ length w
+unfolding excluding
+length-excluding w b = cases (member w b)
+  where
+    cases : (t : Bool) → length (cond t (set w (b / 64) (bitXor (getD w (b / 64) 0) (2 ^ (b % 64)))) w) ≡ length w
+    cases true = length-set w (b / 64) _
+    cases false = refl
+
+pub size-le : (w : List ℕ) → sizeOf w ≤ 1024
+size-le w = count-le (member w) 1024
+
+-- ---- a word more
+
+-- a block is below word i, or is a digit of that word or a later one
+split : (P : ℕ → Type 0) (i c : ℕ) → (c < 64 * i → P c) → ((k : ℕ) → 64 * i + k ≡ c → P (64 * i + k)) → P c
+split P i c below here =
+    elim (decLt c (64 * i)) [
+      | yes lt ↦ below lt
+      | no ge ↦ let e : 64 * i + (c - 64 * i) ≡ c = omega arith in rw (← e) (here (c - 64 * i) e)
+    ]
+
+or-digits : (x y : ℕ) → x < 2 → y < 2 → eqb (max x y) 1 ≡ (eqb x 1 || eqb y 1)
+or-digits zero zero hx hy = refl
+or-digits zero (suc zero) hx hy = refl
+or-digits (suc zero) zero hx hy = refl
+or-digits (suc zero) (suc zero) hx hy = refl
+or-digits zero (suc (suc y)) hx hy = absurd (omega arith)
+or-digits (suc zero) (suc (suc y)) hx hy = absurd (omega arith)
+or-digits (suc (suc x)) y hx hy = absurd (omega arith)
+
+union-is : (u v w : List ℕ) → length u ≡ 16 → length v ≡ 16 → length w ≡ 16 → ((k : ℕ) → k < 16 → getD w k 0 ≡ bitOr (getD u k 0) (getD v k 0)) → Union u v w
+union-is u v w lu lv lw all b =
+    elim (decLt b 1024) [
+      | yes h ↦
+          let x = bit (getD u (b / 64) 0) (b % 64) in
+          let y = bit (getD v (b / 64) 0) (b % 64) in
+          let digits : digit w b ≡ max x y = rw (all (b / 64) (omega arith)) (bit-or (getD u (b / 64) 0) (getD v (b / 64) 0) (b % 64)) in
+          member-bit w b ∙ rw (digits, member-bit u b, member-bit v b) (or-digits x y (bit-lt _ _) (bit-lt _ _))
+      | no ge ↦ rw (member-past u b lu (omega arith), member-past v b lv (omega arith)) (member-past w b lw (omega arith))
+    ]
+
+module _ (w : List ℕ) (i : ℕ) where
+  pub none-more : getD w i 0 ≡ 0 → ((c : ℕ) → c < 64 * i → member w c ≡ false) → (c : ℕ) → c < 64 * (i + 1) → member w c ≡ false
+  none-more z below c h =
+      split (λ (d : ℕ). member w d ≡ false) i c (below c)
+      (λ k e. member-at w i k (omega arith) ∙ ap (λ (v : ℕ). eqb (bit v k) 1) z ∙ ap (λ (n : ℕ). eqb n 1) (bit-zero k))
+
+  module _ (fits : getD w i 0 < 2 ^ 64) where
+    pub size-more : count (member w) (64 * (i + 1)) ≡ count (member w) (64 * i) + ones (getD w i 0)
+    size-more =
+        let next : 64 * (i + 1) ≡ 64 * i + 64 = omega arith in
+        let here = count-same (λ (k : ℕ). member w (64 * i + k)) (λ (k : ℕ). eqb (bit (getD w i 0) k) 1) 64 (λ k h. member-at w i k h) in
+        rw next (count-add (member w) (64 * i) 64 ∙ ap (λ (n : ℕ). count (member w) (64 * i) + n) (here ∙ sym (ones-bits 64 (getD w i 0) fits)))
+
+    pub lowest-is : i < 16 → (getD w i 0 ≡ 0 → ⊥) → ((c : ℕ) → c < 64 * i → member w c ≡ false) → LowestOf w (At (64 * i + trailingZeros 64 (getD w i 0)))
+    lowest-is h ne below =
+        let low = trailing-bit 64 (getD w i 0) fits ne in (
+          omega arith,
+          member-at w i _ (low .within) ∙ eq-eqb _ 1 (low .here),
+          λ c lt.
+              split (λ (d : ℕ). member w d ≡ false) i c (below c)
+              (λ k e. member-at w i k (omega arith) ∙ ap (λ (n : ℕ). eqb n 1) (low .none-below k (omega arith))),
+        )
+
+-- nothing in sixteen words is nothing at all
+pub none-at-all : (w : List ℕ) → length w ≡ 16 → ((c : ℕ) → c < 1024 → member w c ≡ false) → (c : ℕ) → member w c ≡ false
+none-at-all w long below c = elim (decLt c 1024) [ yes lt ↦ below c lt | no ge ↦ member-past w c long (omega arith) ]
+
+-- w is u with the words below i joined to v's
+pub record Ored (u v w : List ℕ) (i : ℕ) : Type 0 where
+  pub long : (length u ≡ 16) × (length v ≡ 16) × (length w ≡ 16)
+  pub done : (k : ℕ) → k < i → getD w k 0 ≡ bitOr (getD u k 0) (getD v k 0)
+  pub left : (k : ℕ) → i ≤ k → getD w k 0 ≡ getD u k 0
+
+pub ored-none : (u v : List ℕ) → length u ≡ 16 → length v ≡ 16 → Ored u v u 0
+ored-none u v lu lv = record { long = (lu, lv, lu); done = λ k h. absurd (not-suc-le-zero h); left = λ k h. refl }
+
+module _ (u v w : List ℕ) (i : ℕ) (o : Ored u v w i) where
+  pub ored-more : i < 16 → Ored u v (set w i (bitOr (getD w i 0) (getD v i 0))) (i + 1)
+  ored-more h =
+      record {
+        long = (o .long .0, o .long .1, length-set w i _ ∙ o .long .2);
+        done =
+            below-more (λ (k : ℕ). getD (set w i (bitOr (getD w i 0) (getD v i 0))) k 0 ≡ bitOr (getD u k 0) (getD v k 0)) i
+            (λ k lt. getD-set-other w i k _ 0 (omega arith) ∙ o .done k lt)
+            (getD-set-same w i _ 0 (let l = o .long .2 in omega arith) ∙ ap (λ (x : ℕ). bitOr x (getD v i 0)) (o .left i (omega arith)));
+        left = λ k le. getD-set-other w i k _ 0 (omega arith) ∙ o .left k (omega arith);
+      }
+
+  pub ored-all : 16 ≤ i → Union u v w
+  ored-all h = union-is u v w (o .long .0) (o .long .1) (o .long .2) (λ k lt. o .done k (omega arith))
+
+-- ---- sets below a block
+
+pub zero-below : (x : ℕ) → eqb x 0 ≡ ltb x 1
+zero-below zero = refl
+zero-below (suc x) = ne-eqb (suc x) 0 (omega arith) ∙ sym (le-ltb (suc x) 1 (omega arith))
+
+-- a shift that leaves nothing
+pub shift-below : (x k : ℕ) → eqb (x / 2 ^ k) 0 ≡ ltb x (2 ^ k)
+shift-below x k =
+    elim (decLt x (2 ^ k)) [
+      | yes lt ↦ eq-eqb (x / 2 ^ k) 0 (div-eq-of-lt lt) ∙ sym (lt-ltb x (2 ^ k) lt)
+      | no ge ↦ ne-eqb (x / 2 ^ k) 0 (λ z. ge (omega (arith, div-lt-iff-lt-mul {k = 2 ^ k} {x = x} {y = 1} (pow-pos k) .0 (omega arith)))) ∙ sym (le-ltb x (2 ^ k) (omega arith))
+    ]
+
+pub word-below : (x k : ℕ) → x < 2 ^ 64 → 64 ≤ k → true ≡ ltb x (2 ^ k)
+word-below x k h le = sym (lt-ltb x (2 ^ k) (omega (arith, pow-mono le)))
+
+pub below-is : (n : ℕ) (w : List ℕ) → within n w ≡ true → (b : ℕ) → length w ≡ 16 → member w b ≡ true → b < n
+unfolding within
+below-is n w all b long m =
+    let h = member-below w b long m in
+    let t : T (within n w) = rw all tt in
+    let word = ltb→lt (getD w (b / 64) 0) (2 ^ (n - 64 * (b / 64))) (all-at _ 16 (b / 64) t (omega arith)) in
+    let one : digit w b ≡ 1 = eqb-true _ _ (sym (member-bit w b) ∙ m) in
+    elim (decLt b n) [
+      | yes lt ↦ lt
+      | no ge ↦ absurd (let z = bit-below (n - 64 * (b / 64)) (getD w (b / 64) 0) (b % 64) word (omega arith) in omega arith)
+    ]

@@ -1,0 +1,121 @@
+-- Lists and tests by counting.
+--     length-table, getD-table      f 0, f 1, .. below n: how many, and which stands at i
+--     table-same                   the list hangs on f below n alone
+--     all-at, all-more, all-fails  what holds of each number holds of one; one number more; one of which it does not hold
+--     count-same                   the count hangs on f below n alone
+--     count-front, count-add       the first number apart, and the first m
+--     count-one                    f holds of one number more
+--     count-le                     there are n at most
+-- Assumes nothing.
+use mathlib.Core.Path.{_≡_, refl, sym, ap, _∙_}
+use mathlib.Core.Bool.{Bool, true, false, _&&_, and-false}
+use mathlib.Core.Logic.{_⊎_, inl, inr, ⊎-elim}
+use mathlib.Core.List.{List, [], _∷_, _++_}
+use Prim.Native.Nat.{ℕ, zero, suc, _+_, _≤_, _<_}
+use native.Mathlib.Nat.{add-zero, add-suc, eq-or-lt-of-le, le-of-suc-le-suc, not-suc-le-zero}
+use native.Mathlib.Numerals.{add-one}
+use native.Mathlib.Omega.{arith}
+use lib.Dec.{T}
+use lib.ListN.{length, getD, length-append, List·getD-append}
+use lib.Seq.{getD-at}
+use Rattle.graph.specs.Fold.{all, count}
+use Rattle.image.specs.Image.{table}
+
+module _ {A : Type 0} where
+  pub length-table : (f : ℕ → A) (n : ℕ) → length (table f n) ≡ n
+  unfolding table
+  length-table f zero = refl
+  length-table f (suc n) = simp (length-append, length-table f n) (omega arith)
+
+  pub table-same : (f g : ℕ → A) (n : ℕ) → ((i : ℕ) → i < n → f i ≡ g i) → table f n ≡ table g n
+  unfolding table
+  table-same f g zero same = refl
+  table-same f g (suc n) same = rw (table-same f g n (λ i h. same i (omega arith)), same n (omega arith))
+
+  pub getD-table : (f : ℕ → A) (n i : ℕ) (d : A) → i < n → getD (table f n) i d ≡ f i
+  unfolding table
+  getD-table f zero i d h = absurd (not-suc-le-zero h)
+  getD-table f (suc n) i d h =
+      ⊎-elim
+      (λ e. rw e (getD-at (table f n) (f n) [] d n (length-table f n)))
+      (λ lt. List·getD-append (table f n) (f n ∷ []) d i (rw length-table lt) ∙ getD-table f n i d lt)
+      (eq-or-lt-of-le (le-of-suc-le-suc h))
+
+pub both : (a b : Bool) → T (a && b) → T a × T b
+both true b h = (tt, h)
+
+pub all-at : (f : ℕ → Bool) (n i : ℕ) → T (all f n) → i < n → T (f i)
+unfolding all
+all-at f zero i h lt = absurd (not-suc-le-zero lt)
+all-at f (suc n) i h lt =
+    let parts = both (all f n) (f n) h in
+    ⊎-elim
+    (λ e. rw e (parts .1))
+    (λ less. all-at f n i (parts .0) less)
+    (eq-or-lt-of-le (le-of-suc-le-suc lt))
+
+pub all-more : (f : ℕ → Bool) (n : ℕ) → all f n ≡ true → f n ≡ true → all f (n + 1) ≡ true
+unfolding all
+all-more f n before now = rw (add-one, before) now
+
+pub all-fails : (f : ℕ → Bool) (n i : ℕ) → i < n → f i ≡ false → all f n ≡ false
+unfolding all
+all-fails f zero i h out = absurd (not-suc-le-zero h)
+all-fails f (suc n) i h out =
+    ⊎-elim
+    (λ e. rw (rw e at out) (and-false (all f n)))
+    (λ lt. rw (all-fails f n i lt out))
+    (eq-or-lt-of-le (le-of-suc-le-suc h))
+
+-- ---- counts
+
+-- f n, or not
+pub decided : (b : Bool) → (b ≡ true) ⊎ (b ≡ false)
+decided true = inl refl
+decided false = inr refl
+
+module _ (f : ℕ → Bool) (n : ℕ) where
+  count-yes : f n ≡ true → count f (suc n) ≡ suc (count f n)
+  unfolding count
+  count-yes e = rw e (omega arith)
+
+  count-no : f n ≡ false → count f (suc n) ≡ count f n
+  unfolding count
+  count-no e = rw e (omega arith)
+
+pub count-same : (f g : ℕ → Bool) (n : ℕ) → ((k : ℕ) → k < n → f k ≡ g k) → count f n ≡ count g n
+unfolding count
+count-same f g zero same = refl
+count-same f g (suc n) same = rw (same n (omega arith), count-same f g n (λ k h. same k (omega arith)))
+
+pub count-add : (f : ℕ → Bool) (m n : ℕ) → count f (m + n) ≡ count f m + count (λ (k : ℕ). f (m + k)) n
+unfolding count
+count-add f m zero = rw add-zero (omega arith)
+count-add f m (suc n) =
+    rw add-suc
+    (⊎-elim
+    (λ e. omega (arith, count-yes f (m + n) e, count-yes (λ (k : ℕ). f (m + k)) n e, count-add f m n))
+    (λ e. omega (arith, count-no f (m + n) e, count-no (λ (k : ℕ). f (m + k)) n e, count-add f m n))
+    (decided (f (m + n))))
+
+pub count-le : (f : ℕ → Bool) (n : ℕ) → count f n ≤ n
+unfolding count
+count-le f zero = omega arith
+count-le f (suc n) =
+    ⊎-elim
+    (λ e. omega (arith, count-yes f n e, count-le f n))
+    (λ e. omega (arith, count-no f n e, count-le f n))
+    (decided (f n))
+
+-- g holds where f does, and of b besides
+pub count-one : (f g : ℕ → Bool) (n b : ℕ) → b < n → f b ≡ false → g b ≡ true → ((k : ℕ) → k < n → (k ≡ b → ⊥) → g k ≡ f k) → count g n ≡ suc (count f n)
+count-one f g zero b h out in-g same = absurd (not-suc-le-zero h)
+count-one f g (suc n) b h out in-g same =
+    ⊎-elim
+    (λ e. omega (arith, count-yes g n (rw e at in-g), count-no f n (rw e at out), count-same g f n (λ k lt. same k (omega arith) (omega arith))))
+    (λ lt. let rest = count-one f g n b lt out in-g (λ k l ne. same k (omega arith) ne) in
+    ⊎-elim
+    (λ e. omega (arith, rest, count-yes f n e, count-yes g n (same n (omega arith) (omega arith) ∙ e)))
+    (λ e. omega (arith, rest, count-no f n e, count-no g n (same n (omega arith) (omega arith) ∙ e)))
+    (decided (f n)))
+    (eq-or-lt-of-le (le-of-suc-le-suc h))

@@ -1,0 +1,10 @@
+pub mod Computed
+pub mod Cases
+pub mod FoldLaws
+pub mod SectionLaws
+pub mod WordLaws
+pub mod RecordLaws
+pub mod StoredLaws
+pub mod Bit
+pub mod BlockLaws
+pub mod Rule21

@@ -1,0 +1,50 @@
+-- Routes: what they name, and which are refused. `route.rs`.
+use mathlib.Core.Bool.{Bool, true, false, not, _&&_}
+use mathlib.Core.List.{List, [], _∷_, _++_}
+use Prim.Native.Nat.{ℕ}
+use lib.ListN.{length, getD}
+use Rattle.image.specs.Deal.{UnwindStep, funclet, call, UnwindEnd, handler, propagate, resume, UnwindPath, UnwindRoute}
+use Rattle.image.specs.Refusal.{Check, refusal, _then_, unless}
+use Rattle.graph.specs.declared.record.TableEntry.{TableEntry}
+use Rattle.graph.specs.Fold.{flat, some, checkEach}
+use Rattle.graph.specs.Table.{isStart, rangeCheck}
+
+abbrev pub routeAt : List UnwindRoute → ℕ → UnwindRoute
+routeAt rs r = getD rs r (record { start = 0; end = 0; paths = [] })
+
+abbrev pub pathAt : UnwindRoute → ℕ → UnwindPath
+pathAt r k = getD (r .paths) k (record { steps = []; end = propagate })
+
+-- the funclets that a path enters, in order
+abbrev pub funcletOf : UnwindStep → List ℕ
+funcletOf (funclet a) = a ∷ []
+funcletOf (call t) = []
+
+unfoldable pub funclets : UnwindPath → List ℕ
+funclets p = flat (λ j. funcletOf (getD (p .steps) j (call 0))) (length (p .steps))
+
+-- 'Resume after any funclet step gives 15, also with calls between.'
+abbrev pub resumesAfter : List ℕ → UnwindEnd → Bool
+resumesAfter l (handler a) = false
+resumesAfter l propagate = false
+resumesAfter [] resume = false
+resumesAfter (f ∷ l) resume = true
+
+unfoldable pub resumesLate : UnwindRoute → Bool
+resumesLate r = some (λ k. resumesAfter (funclets (pathAt r k)) (pathAt r k .end)) (length (r .paths))
+
+-- its entries: path by path, the funclets and then the handler
+abbrev pub handlerOf : UnwindEnd → List ℕ
+handlerOf (handler a) = a ∷ []
+handlerOf propagate = []
+handlerOf resume = []
+
+unfoldable pub entries : UnwindRoute → List ℕ
+entries r = flat (λ k. funclets (pathAt r k) ++ handlerOf (pathAt r k .end)) (length (r .paths))
+
+-- 'Per route: 10 to 12, 15 ResumeAfterFunclet (route), 14 MissingRouteEntry.'
+unfoldable pub routeCheck : List TableEntry → List UnwindRoute → ℕ → Check
+routeCheck t rs r =
+    rangeCheck t (routeAt rs r .start) (routeAt rs r .end)
+    then unless (not (resumesLate (routeAt rs r))) (refusal 15 r 0)
+    then checkEach (λ a. unless (isStart t a) (refusal 14 a 0)) (entries (routeAt rs r))

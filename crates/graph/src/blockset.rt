@@ -1,0 +1,179 @@
+// Sets of blocks, of which there are 1,024: block b is bit b % 64 of word b / 64. No other module looks into a set's words.
+ghost use mathlib.Core.Path.{_≡_};
+ghost use Prim.Native.Nat.{_-_, _*_, _^_, _≤_, _<_};
+ghost use lib.Count.{ones, trailingZeros};
+ghost use lib.Dec.{ltb};
+ghost use lib.ListN.{length};
+ghost use Rattle.graph.specs.BlockSet.{member, none, including, excluding, Union, sizeOf, LowestOf};
+ghost use Rattle.graph.specs.WellFormed.{within};
+
+pub struct BlockSet {
+    pub words: [u64; 16],
+}
+
+pub enum Lowest {
+    At(usize),
+    Nothing,
+}
+
+impl BlockSet {
+    pub fn empty() -> Self
+        ensures { λ r. ⌜ r .words ≡ none ⌝ }
+    {
+        BlockSet { words: [0; 16] }
+    }
+
+    pub fn has(self, b: usize) -> bool
+        ensures { λ r. ⌜ r ≡ member (self .words) b ⌝ }
+    {
+        has_in(&self.words, b)
+    }
+
+    pub fn with(mut self, b: usize) -> Self
+        ensures { λ r. ⌜ r .words ≡ including (self .words) b ⌝ }
+    {
+        put_in(&mut self.words, b);
+        self
+    }
+
+    pub fn without(mut self, b: usize) -> Self
+        ensures { λ r. ⌜ r .words ≡ excluding (self .words) b ⌝ }
+    {
+        take_from(&mut self.words, b);
+        self
+    }
+
+    pub fn union(mut self, other: BlockSet) -> Self
+        ensures { λ r. ⌜ Union (self .words) (other .words) (r .words) ⌝ }
+    {
+        let words = other.words;
+        add_all(&mut self.words, &words);
+        self
+    }
+
+    pub fn size(self) -> usize
+        ensures { λ r. ⌜ r ≡ sizeOf (self .words) ⌝ }
+    {
+        size_of(&self.words)
+    }
+
+    pub fn lowest(self) -> Lowest
+        ensures { λ r. ⌜ LowestOf (self .words) r ⌝ }
+    {
+        lowest_in(&self.words)
+    }
+}
+
+// What the type says and a list does not: there are sixteen words. A caller learns it by the call.
+fn sixteen(w: &[u64; 16])
+    ensures { λ _. ⌜ length (now (w .entry)) ≡ 16 ⌝ }
+{
+    let _all: &[u64] = w;
+}
+
+pub fn has_in(w: &[u64; 16], b: usize) -> bool
+    ensures { λ r. ⌜ r ≡ member (now (w .entry)) b ⌝ }
+{
+    sixteen(w);
+    if b < 1024 {
+        let k = b / 64;
+        return (w[k] >> (b % 64)) % 2 == 1;
+    }
+    false
+}
+
+pub fn put_in(w: &mut [u64; 16], b: usize)
+    ensures { λ _. ⌜ now (w .exit) ≡ including (now (w .entry)) b ⌝ }
+{
+    sixteen(w);
+    if b < 1024 {
+        let k = b / 64;
+        w[k] = w[k] | (1 << (b % 64));
+    }
+}
+
+pub fn take_from(w: &mut [u64; 16], b: usize)
+    ensures { λ _. ⌜ now (w .exit) ≡ excluding (now (w .entry)) b ⌝ }
+{
+    sixteen(w);
+    if has_in(w, b) {
+        let k = b / 64;
+        w[k] = w[k] ^ (1 << (b % 64));
+    }
+}
+
+// The blocks of v, put into w.
+pub fn add_all(w: &mut [u64; 16], v: &[u64; 16])
+    ensures { λ _. ⌜ Union (now (w .entry)) (now (v .entry)) (now (w .exit)) ⌝ }
+{
+    sixteen(w);
+    sixteen(v);
+    for i in 0..16 {
+        w[i] = w[i] | v[i];
+    }
+}
+
+// How many blocks there are, by counting ones.
+pub fn size_of(w: &[u64; 16]) -> usize
+    ensures { λ r. ⌜ r ≡ sizeOf (now (w .entry)) ⌝ }
+{
+    let mut n = 0;
+    for i in 0..16 {
+        n += ones_of(w[i]);
+    }
+    n
+}
+
+// The lowest block, by trailing zeros.
+pub fn lowest_in(w: &[u64; 16]) -> Lowest
+    ensures { λ r. ⌜ LowestOf (now (w .entry)) r ⌝ }
+{
+    sixteen(w);
+    for i in 0..16 {
+        let word = w[i];
+        if word != 0 {
+            return Lowest::At(64 * i + zeros_of(word));
+        }
+    }
+    Lowest::Nothing
+}
+
+fn ones_of(word: u64) -> usize
+    ensures { λ r. ⌜ (r ≡ ones word) × (r ≤ 64) × (word < 2 ^ 64) ⌝ }
+{
+    u64::count_ones(word) as usize
+}
+
+fn zeros_of(word: u64) -> usize
+    ensures { λ r. ⌜ (r ≡ trailingZeros 64 word) × (r ≤ 64) × (word < 2 ^ 64) ⌝ }
+{
+    u64::trailing_zeros(word) as usize
+}
+
+// Whether word i has no bit from block n on.
+fn word_below(word: u64, i: usize, n: usize) -> bool
+    requires { ⌜ i < 16 ⌝ }
+    ensures { λ r. ⌜ r ≡ ltb word (2 ^ (n - 64 * i)) ⌝ }
+{
+    let before = 64 * i;
+    if n <= before {
+        return word == 0;
+    }
+    let k = n - before;
+    if k < 64 {
+        return word >> k == 0;
+    }
+    true
+}
+
+// Whether every block is below n.
+pub fn all_below(w: &[u64; 16], n: usize) -> bool
+    ensures { λ r. ⌜ r ≡ within n (now (w .entry)) ⌝ }
+{
+    for i in 0..16 {
+        if !word_below(w[i], i, n) {
+            return false;
+        }
+    }
+    true
+}

@@ -1,0 +1,4 @@
+pub mod Past
+pub mod Checks
+pub mod Tables
+pub mod Sections
