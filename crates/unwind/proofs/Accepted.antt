@@ -19,13 +19,14 @@ use Rattle.image.specs.Deal.{UnwindEnd, handler, propagate, resume, UnwindRoute
 use Rattle.graph.specs.Graph.{Graph}
 use Rattle.graph.specs.Fold.{checks}
 use Rattle.graph.specs.Table.{isStart}
-use Rattle.unwind.specs.Lists.{keep, upto, head, at}
+use Rattle.graph.specs.WellFormed.{isBuilt}
+use Rattle.unwind.specs.Lists.{keep, upto, head}
 use Rattle.unwind.specs.Order.{Tagged, tagged}
-use Rattle.unwind.specs.Blocks.{built, firstOf, Leading, leads, inside, absent, leadingBy, leading, blockIn, blockOf, within, keepsEdge, guarded}
+use Rattle.unwind.specs.Blocks.{builtBlocks, firstOf, Leading, leads, inside, absent, leadingBy, leading, blockIn, blockOf, within, keepsEdge, guarded}
 use Rattle.unwind.specs.Trie.{Node}
 use Rattle.unwind.specs.Add.{leadFound, leadCheck, funcletCheck, endCheck, nodeCheck}
-use Rattle.unwind.specs.Walk.{_∈_, Begins, Covers, Guarded}
-use Rattle.unwind.proofs.Lists.{and-both, and-true, mem-keep, keep-mem, mem-upto, upto-mem, mem-at, at-lt, at-getD}
+use Rattle.unwind.specs.Walk.{_∈_, Built, Begins, Covers, Guarded}
+use Rattle.unwind.proofs.Lists.{at, and-both, and-true, mem-keep, keep-mem, mem-upto, upto-mem, mem-at, at-lt, at-getD}
 
 -- ---- checks
 
@@ -44,6 +45,14 @@ check-at f (suc n) i e h = go (decLt i n) (λ (k : i < n). check-at f n i (then-
 
 -- ---- leading blocks
 
+built-mem : (g : Graph) (b : ℕ) → b ∈ builtBlocks g → Built g b
+unfolding builtBlocks
+built-mem g b m = let k = keep-mem (isBuilt g) (upto (length (g .blocks))) m in record { exists = upto-mem (length (g .blocks)) (k .0); original = k .1 }
+
+mem-built : (g : Graph) (b : ℕ) → Built g b → b ∈ builtBlocks g
+unfolding builtBlocks
+mem-built g b x = mem-keep (isBuilt g) (mem-upto (length (g .blocks)) b (x .exists)) (x .original)
+
 head-mem : (l : List ℕ) (b : ℕ) → head l ≡ some b → b ∈ l
 unfolding head
 head-mem [] b e = absurd (let z : _≡_ {A = ℕ} 0 1 = cc in omega arith)
@@ -57,12 +66,12 @@ lead-begins g a e = go (head found) refl (isStart (g .table) a) e
     starts b = eqb (firstOf g b .address) a
 
     found : List ℕ
-    found = keep starts (upto (built g))
+    found = keep starts (builtBlocks g)
 
     go : (o : Option ℕ) → head found ≡ o → (s : Bool) → leadFound a (leadingBy o s) ≡ clear → Begins g a (blockIn (leadingBy o s))
     go (some b) q s k =
-        let m = keep-mem starts (upto (built g)) (head-mem found b q) in
-        record { original = upto-mem (built g) (m .0); address = eqb-true _ a (m .1) }
+        let m = keep-mem starts (builtBlocks g) (head-mem found b q) in
+        record { built = built-mem g b (m .0); address = eqb-true _ a (m .1) }
     go none q true k = absurd (let z : _≡_ {A = ℕ} 0 1 = cc in omega arith)
     go none q false k = absurd (let z : _≡_ {A = ℕ} 0 1 = cc in omega arith)
 
@@ -92,16 +101,16 @@ module _ (g : Graph) (u : UnwindRoute) where
   abbrev guards : ℕ → Bool
   guards b = within u (firstOf g b .address) && keepsEdge g b
 
-  pub mem-guarded : (b : ℕ) → b < built g → firstOf g b .keeps ≡ 1 → Covers g u b → b ∈ guarded g u
+  pub mem-guarded : (b : ℕ) → Built g b → firstOf g b .keeps ≡ 1 → Covers g u b → b ∈ guarded g u
   unfolding guarded within keepsEdge
   mem-guarded b h k c =
-      mem-keep guards (mem-upto (built g) b h)
+      mem-keep guards (mem-built g b h)
       (and-true (and-true (le-leb (u .start) (firstOf g b .address) (c .from)) (lt-ltb (firstOf g b .address) (u .end) (c .before))) (eq-eqb (firstOf g b .keeps) 1 k))
 
-  pub guarded-mem : (b : ℕ) → b ∈ guarded g u → (b < built g) × (firstOf g b .keeps ≡ 1) × Covers g u b
+  pub guarded-mem : (b : ℕ) → b ∈ guarded g u → Built g b × (firstOf g b .keeps ≡ 1) × Covers g u b
   unfolding guarded within keepsEdge
   guarded-mem b m =
-      let x = keep-mem guards (upto (built g)) m in
+      let x = keep-mem guards (builtBlocks g) m in
       let y = and-both (within u (firstOf g b .address)) (keepsEdge g b) (x .1) in
       let w = and-both (leb (u .start) (firstOf g b .address)) (ltb (firstOf g b .address) (u .end)) (y .0) in
-      (upto-mem (built g) (x .0), eqb-true _ 1 (y .1), record { from = leb-true _ _ (w .0); before = ltb-true _ _ (w .1) })
+      (built-mem g b (x .0), eqb-true _ 1 (y .1), record { from = leb-true _ _ (w .0); before = ltb-true _ _ (w .1) })

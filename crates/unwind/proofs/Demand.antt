@@ -2,32 +2,36 @@
 --     demand3                      the hops spell the listed paths and nothing else
 use mathlib.Core.Path.{_≡_, refl, sym, _∙_, ap, subst}
 use mathlib.Core.Logic.{_⊎_, inl, inr}
-use mathlib.Core.Bool.{Bool, true, false}
+use mathlib.Core.Bool.{Bool, true, false, cond}
 use mathlib.Core.List.{List, [], _++_, List·Memᴰ·append-cases, Memᴰ·append-left, Memᴰ·append-right}
 use mathlib.Core.Option.{Option, none, some}
 use Prim.Native.Nat.{ℕ, _<_}
 use native.Mathlib.Omega.{arith}
 use lib.ListN.{length}
-use Rattle.image.specs.Refusal.{Check, clear, refused, _then_}
-use Rattle.image.specs.Deal.{UnwindEnd, handler, UnwindRoute}
+use Rattle.image.specs.Refusal.{Check, clear, refusal, _then_}
+use Rattle.image.specs.Image.{RouteImage}
+use Rattle.image.specs.Read.{Reading, read, refusing, readRoutes}
+use Rattle.image.specs.Deal.{UnwindEnd, handler, UnwindRoute, routesOf}
 use Rattle.graph.specs.declared.record.TableEntry.{TableEntry}
 use Rattle.graph.specs.declared.record.Edge.{Edge}
-use Rattle.graph.specs.Graph.{Graph}
+use Rattle.graph.specs.Graph.{Graph, Held}
+use Rattle.graph.specs.Flow.{Kind}
+use Rattle.graph.specs.WellFormed.{wellFormed}
 use Rattle.graph.specs.Fold.{flat, checks}
-use Rattle.unwind.specs.Lists.{at}
 use Rattle.unwind.specs.Order.{Tagged}
-use Rattle.unwind.specs.Blocks.{built, firstOf, blockOf, guarded}
-use Rattle.unwind.specs.Part.{ExceptionUnwind, funclets}
+use Rattle.unwind.specs.Blocks.{firstOf, blockOf, guarded}
+use Rattle.unwind.specs.Part.{funclets}
 use Rattle.unwind.specs.Trie.{Node, nodeAt, tries}
 use Rattle.unwind.specs.Instance.{partOf, blocksOf, later, place, entryOf, returnsOf, cloneBlocks, cloneEdges}
 use Rattle.unwind.specs.Ways.{HopEnd, Hop, Way, ways, nodeWays, routeWays, hopsOf, routeEdges}
-use Rattle.unwind.specs.Add.{extended, Addition, addition, nodeCheck, routeCheck, sizeCheck, Outcome, added, outcome, addRoutesTo}
-use Rattle.unwind.specs.Walk.{_∈_, Funclet, Handler, Begins, Reach, start, Returning, Covers, Guarded, Takes}
-use Rattle.unwind.specs.Demand.{Sound, Conditions, Demand3}
-use Rattle.unwind.proofs.Lists.{none-in, at-lt, lt-at, at-getD}
+use Rattle.unwind.specs.Add.{extended, Addition, addition, nodeCheck, routeCheck, sizeCheck, Outcome, added, refused, outcome, addRoutesTo, addRead, addRoutes}
+use Rattle.unwind.specs.Walk.{_∈_, Funclet, Handler, Built, Begins, Reach, start, Returning, Covers, Guarded, Takes}
+use Rattle.unwind.specs.Demand.{Conditions, Demand3, Demanded}
+use Rattle.unwind.proofs.Lists.{at, none-in, at-lt, lt-at, at-getD}
+use Rattle.unwind.proofs.Sound.{Sound, sound as well-formed}
 use Rattle.unwind.proofs.Intern.{Fits, Fit, tries-law}
 use Rattle.unwind.proofs.Instance.{first-or-later, blocks-lt, place-first, later-above, clone-owner, first-once, mem-returns, returns-mem}
-use Rattle.unwind.proofs.After.{built-le, built-after, new-unwinds}
+use Rattle.unwind.proofs.After.{new-unwinds}
 use Rattle.unwind.proofs.Parts
 use Rattle.unwind.proofs.Walks.{Turn, Fires, at-root, at-return, Root, Turned, Laws, exactly, ends}
 use Rattle.unwind.proofs.Hops
@@ -44,7 +48,7 @@ module _ (g : Graph) (rs : List UnwindRoute) (sound : Sound g) (conditions : Con
   abbrev new : List Edge
   new = routeEdges (extended g (cloneBlocks g fs z) []) [] (ways g rs)
 
-  unwinds : (d : Edge) → d ∈ new → d .kind ≡ ExceptionUnwind
+  unwinds : (d : Edge) → d ∈ new → d .kind ≡ Kind.exceptionUnwind
   unwinds d m = new-unwinds (extended g (cloneBlocks g fs z) []) [] (ways g rs) d m
 
   abbrev g′ : Graph
@@ -105,10 +109,10 @@ module _ (g : Graph) (rs : List UnwindRoute) (sound : Sound g) (conditions : Con
 
   guarded-down : (b : ℕ) → Guarded g′ rs b → Guarded g rs b
   guarded-down b x =
-      let h : b < built g = rw (built-after g (cloneBlocks g fs z) (cloneEdges g fs z ++ new) sound) at (x .original) in
-      let s : firstOf g′ b ≡ firstOf g b = Parts.old-first g rs z new unwinds sound b (omega (arith, built-le g)) in
+      let h : Built g b = Parts.down g rs z new unwinds sound b (x .built) in
+      let s : firstOf g′ b ≡ firstOf g b = Parts.old-first g rs z new unwinds sound b (h .exists) in
       record {
-        original = h;
+        built = h;
         keeps = ap (λ (t : TableEntry). t .keeps) (sym s) ∙ x .keeps;
         route = x .route;
         listed = x .listed;
@@ -147,7 +151,7 @@ module _ (g : Graph) (rs : List UnwindRoute) (sound : Sound g) (conditions : Con
   guarded-out : (i : ℕ) (n : Node) (b y : ℕ) → at z i ≡ some n → b ∈ blocks i → y ≡ put i b → Guarded g′ rs y → ⊥
   guarded-out i n b y en mb e x =
       let w = guarded-down y x in
-      let r = old-reach i n b y en mb e (omega (arith, w .original, built-le g)) in
+      let r = old-reach i n b y en mb e (w .built .exists) in
       conditions .outside (r .0) (blockOf g (r .0)) y (r .1 .named) (r .1 .begins) (r .2) w
 
   -- the entry of a node is one of its blocks
@@ -200,7 +204,7 @@ module _ (g : Graph) (rs : List UnwindRoute) (sound : Sound g) (conditions : Con
       go l (at-root u _ _ guarded _) = conditions .unguarded h b (l .named) (subst (Begins g h) p (l .begins)) (guarded-down b guarded)
       go l (at-return r) =
           let a = returns-mem g rs z i b r in
-          let x = old-reach i n (a .0) b en (a .1) (a .3) (omega (arith, p, l .begins .original, built-le g)) in
+          let x = old-reach i n (a .0) b en (a .1) (a .3) (omega (arith, p, l .begins .built .exists)) in
           conditions .unreached h b (x .0) (blockOf g (x .0)) (l .named) (subst (Begins g h) p (l .begins)) (x .1 .named) (x .1 .begins) (x .2)
 
   lands : (i : ℕ) (n : Node) (d : Tagged UnwindEnd) (h : ℕ) → at z i ≡ some n → d ∈ n .ends → d .what ≡ handler h → (firstOf g′ (blockOf g h) .address ≡ h) × (Funclet rs h → ⊥)
@@ -223,11 +227,11 @@ module _ (g : Graph) (rs : List UnwindRoute) (sound : Sound g) (conditions : Con
   guarded-up : (u : UnwindRoute) (b : ℕ) → u ∈ rs → b ∈ guarded g u → Guarded g′ rs b × Covers g′ u b
   guarded-up u b listed m =
       let x = guarded-mem g u b m in
-      let h : b < built g = x .0 in
-      let s : firstOf g′ b ≡ firstOf g b = Parts.old-first g rs z new unwinds sound b (omega (arith, built-le g)) in
+      let h : Built g b = x .0 in
+      let s : firstOf g′ b ≡ firstOf g b = Parts.old-first g rs z new unwinds sound b (h .exists) in
       let covers : Covers g′ u b = record { from = rw s (x .2 .from); before = rw s (x .2 .before) } in
       (record {
-        original = rw (built-after g (cloneBlocks g fs z) (cloneEdges g fs z ++ new) sound) h;
+        built = Parts.up g rs z new unwinds sound b h;
         keeps = ap (λ (t : TableEntry). t .keeps) s ∙ x .1;
         route = u;
         listed = listed;
@@ -238,8 +242,8 @@ module _ (g : Graph) (rs : List UnwindRoute) (sound : Sound g) (conditions : Con
   in-guarded : (u : UnwindRoute) (b : ℕ) → Covers g′ u b → Guarded g′ rs b → b ∈ guarded g u
   in-guarded u b covers x =
       let w = guarded-down b x in
-      let s : firstOf g′ b ≡ firstOf g b = Parts.old-first g rs z new unwinds sound b (omega (arith, w .original, built-le g)) in
-      mem-guarded g u b (w .original) (w .keeps) (record { from = rw s at (covers .from); before = rw s at (covers .before) })
+      let s : firstOf g′ b ≡ firstOf g b = Parts.old-first g rs z new unwinds sound b (w .built .exists) in
+      mem-guarded g u b (w .built) (w .keeps) (record { from = rw s at (covers .from); before = rw s at (covers .before) })
 
   abbrev Turn′ : ℕ → Node → List ℕ → HopEnd → Type 0
   Turn′ = Turn g′ rs hs z entry returns (blockOf g)
@@ -340,7 +344,7 @@ module _ (g : Graph) (rs : List UnwindRoute) (sound : Sound g) (conditions : Con
 outcome-added : (c : Check) (x a : Addition) → outcome c x ≡ added a → (c ≡ clear) × (x ≡ a)
 unfolding outcome
 outcome-added clear x a e = (refl, cc)
-outcome-added (refused r) x a e = absurd (let q : _≡_ {A = ℕ} 0 1 = cc in omega arith)
+outcome-added (Check.refused r) x a e = absurd (let q : _≡_ {A = ℕ} 0 1 = cc in omega arith)
 
 -- the addition's own nodes are checked where it is accepted
 accepted : (g : Graph) (rs : List UnwindRoute) (a : Addition) → addRoutesTo g rs ≡ added a
@@ -349,8 +353,8 @@ unfolding addRoutesTo
 accepted g rs a e =
     let nodes : Check = checks (λ i. nodeCheck g (nodeAt (tries rs .nodes) i)) (length (tries rs .nodes)) in
     let x = outcome-added (checks (routeCheck g rs) (length rs) then nodes then sizeCheck (addition g rs)) (addition g rs) a e in
-    let y = then-clear (checks (routeCheck g rs) (length rs)) (nodes then sizeCheck (addition g rs)) (x .0) in
-    (then-clear nodes (sizeCheck (addition g rs)) (y .1) .0, x .1)
+    let y = then-clear (checks (routeCheck g rs) (length rs) then nodes) (sizeCheck (addition g rs)) (x .0) in
+    (then-clear (checks (routeCheck g rs) (length rs)) nodes (y .0) .1, x .1)
 
 spells : (g : Graph) (rs : List UnwindRoute) → Sound g → Conditions g rs
     → checks (λ i. nodeCheck g (nodeAt (tries rs .nodes) i)) (length (tries rs .nodes)) ≡ clear → Demand3 rs (addition g rs)
@@ -362,7 +366,23 @@ spells g rs sound conditions ok =
       ends = λ b y guarded m. ends _ _ _ _ _ _ _ l b y m;
     }
 
-pub demand3 : (g : Graph) (rs : List UnwindRoute) (a : Addition) → Sound g → Conditions g rs → addRoutesTo g rs ≡ added a → Demand3 rs a
-demand3 g rs a sound conditions e =
+pub demand3-to : (g : Graph) (rs : List UnwindRoute) (a : Addition) → Sound g → Conditions g rs → addRoutesTo g rs ≡ added a → Demand3 rs a
+demand3-to g rs a sound conditions e =
     let x = accepted g rs a e in
     subst (Demand3 rs) (x .1) (spells g rs sound conditions (x .0))
+
+-- 21 lets the graph pass, and the routes that were read are added
+passed : (h : Held) (l : List ℕ) (m : RouteImage) (a : Addition) → readRoutes l ≡ read m → addRoutes h l ≡ added a
+    → (wellFormed h ≡ true) × (addRoutesTo (h .graph) (routesOf m) ≡ added a)
+unfolding addRoutes addRead
+passed h l m a r e = go (wellFormed h) refl (readRoutes l) r e
+  where
+    go : (b : Bool) → wellFormed h ≡ b → (x : Reading RouteImage) → x ≡ read m → cond b (addRead (h .graph) x) (refused (refusal 21 0 0)) ≡ added a
+        → (wellFormed h ≡ true) × (addRoutesTo (h .graph) (routesOf m) ≡ added a)
+    go true w x p q = (w, sym (ap (addRead (h .graph)) p) ∙ q)
+    go false w x p q = absurd (let z : _≡_ {A = ℕ} 0 1 = cc in omega arith)
+
+pub demand3 : Demanded
+demand3 h l m a r e conditions =
+    let x = passed h l m a r e in
+    demand3-to (h .graph) (routesOf m) a (well-formed h (x .0)) conditions (x .1)

@@ -3,6 +3,7 @@ pub mod Order
 pub mod Paths
 pub mod Trie
 pub mod Intern
+pub mod Sound
 pub mod Closure
 pub mod Instance
 pub mod After

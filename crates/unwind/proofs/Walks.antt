@@ -13,12 +13,12 @@ use Prim.Native.Nat.{ℕ, _<_}
 use native.Mathlib.Omega.{arith}
 use Rattle.image.specs.Deal.{UnwindStep, funclet, call, UnwindEnd, handler, propagate, resume, UnwindPath, UnwindRoute}
 use Rattle.graph.specs.Graph.{Graph}
-use Rattle.unwind.specs.Lists.{at}
 use Rattle.unwind.specs.Order.{Tagged}
 use Rattle.unwind.specs.Blocks.{firstOf}
 use Rattle.unwind.specs.Trie.{Node}
 use Rattle.unwind.specs.Ways.{HopEnd, block, leave, Hop}
 use Rattle.unwind.specs.Walk.{_∈_, Funclet, Reach, Returning, Covers, Guarded, Lists, Takes, Ends, resumes, leaves, handles, Enters, Walk, over, through, May, once, again}
+use Rattle.unwind.proofs.Lists.{at}
 use Rattle.unwind.proofs.Paths.{steps-of}
 use Rattle.unwind.proofs.Trie.{⊑-refl, Spelled, stops, goes, Says}
 use Rattle.unwind.proofs.Intern.{Fits}
