@@ -1,26 +1,14 @@
 -- Demand 3: 'The hops returned by add_unwind_routes spell the listed paths and nothing else.'
 use mathlib.Core.Path.{_≡_}
 use mathlib.Core.Logic.{_↔_}
-use mathlib.Core.List.{List, [], _∷_}
-use Prim.Native.Nat.{ℕ, zero, _-_, _<_}
-use lib.ListN.{length}
-use Rattle.image.specs.Deal.{UnwindPath, UnwindRoute}
-use Rattle.graph.specs.declared.record.Block.{Block}
-use Rattle.graph.specs.declared.record.Edge.{Edge}
-use Rattle.graph.specs.Graph.{Graph}
-use Rattle.unwind.specs.Walk.{_∈_, Funclet, Handler, Begins, Reach, Returning, Guarded, Lists, Walk, May}
-use Rattle.unwind.specs.Add.{Addition}
-
--- how much of n instructions the runs of these blocks leave
-unfoldable pub unfilled : ℕ → List Block → ℕ
-unfilled n [] = n
-unfilled n (b ∷ bs) = unfilled (n - b .count) bs
-
--- What the theorem needs of rule 21: 'edge ends .. exist', 'built blocks cover the table'.
-pub record Sound (g : Graph) : Type 0 where
-  pub sources : (d : Edge) → d ∈ g .edges → d .source < length (g .blocks)
-  pub targets : (d : Edge) → d ∈ g .edges → d .target < length (g .blocks)
-  pub covered : unfilled (length (g .table)) (g .blocks) ≡ 0
+use mathlib.Core.List.{List}
+use Prim.Native.Nat.{ℕ}
+use Rattle.image.specs.Image.{RouteImage}
+use Rattle.image.specs.Read.{read, readRoutes}
+use Rattle.image.specs.Deal.{UnwindPath, UnwindRoute, routesOf}
+use Rattle.graph.specs.Graph.{Graph, Held}
+use Rattle.unwind.specs.Walk.{Funclet, Handler, Begins, Reach, Returning, Guarded, Lists, Walk, May}
+use Rattle.unwind.specs.Add.{Addition, added, addRoutes}
 
 -- The conditions, over the graph before the addition.
 pub record Conditions (g : Graph) (rs : List UnwindRoute) : Type 0 where
@@ -42,3 +30,9 @@ pub record Demand3 (rs : List UnwindRoute) (a : Addition) : Type 0 where
   -- 'from each returning block that a walk may take it can go on to an end'
   pub ends : (b y : ℕ) → Guarded (a .graph) rs b → May (a .graph) rs (a .hops) b y
       → (p : UnwindPath) × Walk (a .graph) rs (a .hops) y (p .steps) (p .end)
+
+-- Of every graph that 21 lets pass and every routes for whose addition no refusal is named.
+abbrev pub Demanded : Type 0
+Demanded =
+    (h : Held) (l : List ℕ) (m : RouteImage) (a : Addition) → readRoutes l ≡ read m → addRoutes h l ≡ added a
+    → Conditions (h .graph) (routesOf m) → Demand3 (routesOf m) a
