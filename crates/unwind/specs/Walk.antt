@@ -71,6 +71,12 @@ module _ (g : Graph) where
       step : {b c : ℕ} → Reach f e b → (d : Edge) → d ∈ g .edges → d .source ≡ b → d .target ≡ c
           → (d .kind ≡ Kind.exceptionUnwind → ⊥) → (d .kind ≡ Kind.call → ⊥) → (Other f c → ⊥) → Reach f e c
 
+    -- block b lies in the part of funclet f
+    pub record Part (f b : ℕ) : Type 0 where
+      pub entry : ℕ
+      pub begins : Begins f entry
+      pub reach : Reach f entry b
+
     -- a protected block that was built and keeps its exception edge
     pub record Guarded (b : ℕ) : Type 0 where
       pub built : Built b
