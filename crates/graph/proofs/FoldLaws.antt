@@ -2,13 +2,14 @@
 --     length-table, getD-table      f 0, f 1, .. below n: how many, and which stands at i
 --     table-same                   the list hangs on f below n alone
 --     all-at, all-more, all-fails  what holds of each number holds of one; one number more; one of which it does not hold
+--     some-same, some-more, some-at    it hangs on f below n alone; one number more; f holds of one number
 --     count-same                   the count hangs on f below n alone
 --     count-front, count-add       the first number apart, and the first m
 --     count-one                    f holds of one number more
 --     count-le                     there are n at most
 -- Assumes nothing.
 use mathlib.Core.Path.{_≡_, refl, sym, ap, _∙_}
-use mathlib.Core.Bool.{Bool, true, false, _&&_, and-false}
+use mathlib.Core.Bool.{Bool, true, false, _&&_, and-false, or-true}
 use mathlib.Core.Logic.{_⊎_, inl, inr, ⊎-elim}
 use mathlib.Core.List.{List, [], _∷_, _++_}
 use Prim.Native.Nat.{ℕ, zero, suc, _+_, _≤_, _<_}
@@ -18,7 +19,7 @@ use native.Mathlib.Omega.{arith}
 use lib.Dec.{T}
 use lib.ListN.{length, getD, length-append, List·getD-append}
 use lib.Seq.{getD-at}
-use Rattle.graph.specs.Fold.{all, count}
+use Rattle.graph.specs.Fold.{some, all, count}
 use Rattle.image.specs.Image.{table}
 
 module _ {A : Type 0} where
@@ -66,6 +67,27 @@ all-fails f (suc n) i h out =
     (λ e. rw (rw e at out) (and-false (all f n)))
     (λ lt. rw (all-fails f n i lt out))
     (eq-or-lt-of-le (le-of-suc-le-suc h))
+
+-- ---- some
+
+pub some-same : (f g : ℕ → Bool) (n : ℕ) → ((i : ℕ) → i < n → f i ≡ g i) → some f n ≡ some g n
+unfolding some
+some-same f g zero same = refl
+some-same f g (suc n) same = rw (some-same f g n (λ i h. same i (omega arith)), same n (omega arith))
+
+module _ (f : ℕ → Bool) where
+  pub some-more : (n : ℕ) → some f n ≡ false → f n ≡ false → some f (n + 1) ≡ false
+  unfolding some
+  some-more n none out = rw (add-one, none) out
+
+  pub some-at : (n i : ℕ) → i < n → f i ≡ true → some f n ≡ true
+  unfolding some
+  some-at zero i h e = absurd (not-suc-le-zero h)
+  some-at (suc n) i h e =
+      ⊎-elim
+      (λ same. rw (rw same at e) (or-true (some f n)))
+      (λ lt. rw (some-at n i lt e))
+      (eq-or-lt-of-le (le-of-suc-le-suc h))
 
 -- ---- counts
 

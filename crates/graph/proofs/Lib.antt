@@ -9,3 +9,6 @@ pub mod Bit
 pub mod BlockLaws
 pub mod Rule21
 pub mod TableLaws
+pub mod CheckLaws
+pub mod RangeLaws
+pub mod RouteLaws
