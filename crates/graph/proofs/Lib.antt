@@ -9,5 +9,7 @@ pub mod Bit
 pub mod BlockLaws
 pub mod Rule21
 pub mod TableLaws
-pub mod DealLaws
+pub mod CheckLaws
+pub mod RangeLaws
+pub mod RouteLaws
 pub mod CursorLaws
