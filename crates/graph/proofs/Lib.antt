@@ -11,3 +11,6 @@ pub mod Rule21
 pub mod TableLaws
 pub mod DealLaws
 pub mod CursorLaws
+pub mod CheckLaws
+pub mod RangeLaws
+pub mod RouteLaws

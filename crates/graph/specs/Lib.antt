@@ -16,5 +16,6 @@ pub mod Blocks
 pub mod Edges
 pub mod Regions
 pub mod Build
+pub mod Ranges
 pub mod WellFormed
 pub mod Reached

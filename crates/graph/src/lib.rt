@@ -3,5 +3,8 @@ pub mod blockset;
 mod cursor;
 pub mod error;
 mod lookup;
+mod ranges;
 pub mod record;
+mod resume;
+mod route;
 pub mod store;
