@@ -5,3 +5,4 @@ pub mod error;
 mod lookup;
 pub mod record;
 pub mod store;
+mod transfer;
