@@ -14,3 +14,4 @@ pub mod CursorLaws
 pub mod CheckLaws
 pub mod RangeLaws
 pub mod RouteLaws
+pub mod TransferLaws

@@ -8,3 +8,4 @@ pub mod record;
 mod resume;
 mod route;
 pub mod store;
+mod transfer;
