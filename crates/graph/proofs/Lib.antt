@@ -6,3 +6,4 @@ pub mod RecordLaws
 pub mod StoredLaws
 pub mod Bit
 pub mod BlockLaws
+pub mod SearchLaws

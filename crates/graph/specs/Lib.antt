@@ -17,3 +17,4 @@ pub mod Refuse
 pub mod Build
 pub mod WellFormed
 pub mod Reached
+pub mod Search
