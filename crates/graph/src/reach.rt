@@ -1,15 +1,15 @@
 // The search for the reached blocks: a worklist over two sets, along edges that are linked by their source once.
+use crate::blockset::BlockSet;
+use crate::blockset::Lowest;
 use crate::blockset::has_in;
 use crate::blockset::lowest_in;
 use crate::blockset::put_in;
 use crate::blockset::take_from;
-use crate::blockset::BlockSet;
-use crate::blockset::Lowest;
+use crate::store::Words;
 use crate::store::blocks::block_count;
 use crate::store::edges::edge_at;
 use crate::store::edges::edge_count;
 use crate::store::entry;
-use crate::store::Words;
 ghost use mathlib.Core.Path.{_≡_};
 ghost use Prim.Native.Nat.{ℕ, _<_};
 ghost use lib.ListN.{length, getD, replicate};
@@ -76,7 +76,14 @@ fn walk(g: &Words, head: &[u16], next: &[u16]) -> BlockSet
 }
 
 // Follows the edges from b.
-fn follow(g: &Words, head: &[u16], next: &[u16], b: usize, seen: &mut [u64; 16], pending: &mut [u64; 16])
+fn follow(
+    g: &Words,
+    head: &[u16],
+    next: &[u16],
+    b: usize,
+    seen: &mut [u64; 16],
+    pending: &mut [u64; 16],
+)
     requires { ⌜ Ends (heldIn (now g) .graph) × Roomy (heldIn (now g) .graph) (now head) (now next) × Linked (heldIn (now g) .graph) (now head) (now next) 0 × (b < length (heldIn (now g) .graph .blocks)) ⌝ }
     ensures { λ _. ⌜ Follows (heldIn (now (g .entry)) .graph) b (length (heldIn (now (g .entry)) .graph .edges)) (now (seen .entry)) (now (pending .entry)) (now (seen .exit)) (now (pending .exit)) ⌝ }
 {
