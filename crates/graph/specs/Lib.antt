@@ -20,3 +20,4 @@ pub mod Build
 pub mod Ranges
 pub mod WellFormed
 pub mod Reached
+pub mod Search

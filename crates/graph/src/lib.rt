@@ -4,6 +4,7 @@ mod cursor;
 pub mod error;
 mod lookup;
 mod ranges;
+pub mod reach;
 pub mod record;
 mod resume;
 mod route;
