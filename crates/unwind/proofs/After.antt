@@ -6,9 +6,9 @@
 use mathlib.Core.Path.{_≡_, refl, sym, _∙_, ap, subst}
 use mathlib.Core.Logic.{_⊎_, inl, inr}
 use mathlib.Core.Bool.{Bool, true, false, cond, _||_}
-use mathlib.Core.List.{List, [], _∷_, _++_, map, List·Memᴰ, List·Memᴰ·head, List·Memᴰ·tail, List·Memᴰ·append-cases, List·Memᴰ·eq-of-singleton, Memᴰ·append-left, Memᴰ·append-right, Memᴰ·cast}
-use mathlib.Core.Option.{Option, none, some}
-use Prim.Native.Nat.{ℕ, zero, suc, _+_, _-_, _≤_, _<_}
+use mathlib.Core.List.{List, [], _∷_, _++_, map, List·Memᴰ·append-cases, List·Memᴰ·eq-of-singleton, Memᴰ·append-left, Memᴰ·append-right}
+use mathlib.Core.Option.{some}
+use Prim.Native.Nat.{ℕ, zero, suc, _+_, _≤_, _<_}
 use native.Mathlib.Omega.{arith}
 use native.Mathlib.Decide.{decLt}
 use borrow.Author.Tests.{eq-eqb, eqb-true, ltb-true}
@@ -81,8 +81,13 @@ module _ (g : Graph) (bs : List Block) (es : List Edge) where
       out : (length (g .blocks) ≤ b) → (eqb b 0 ≡ true) ⊎ (ltb (filled (extended g bs es) b) (length (g .table)) ≡ true) → ⊥
       out h (inl e) = omega (arith, eqb-true b 0 e, s .some-block)
       out h (inr e) =
-          omega (arith, ltb-true (filled (extended g bs es) b) (length (g .table)) e, s .covered,
-          filled-le (extended g bs es) (length (g .blocks)) b h, filled-after (length (g .blocks)) (omega arith))
+          omega (
+            arith,
+            ltb-true (filled (extended g bs es) b) (length (g .table)) e,
+            s .covered,
+            filled-le (extended g bs es) (length (g .blocks)) b h,
+            filled-after (length (g .blocks)) (omega arith),
+          )
 
       go : Dec (b < length (g .blocks)) → Built g b
       go (yes h) = record { exists = h; original = sym (same-built b h) ∙ x .original }
@@ -197,13 +202,15 @@ module _ (g : Graph) (rs : List UnwindRoute) (z : List Node) (new : List Edge) (
           let at-j : place g fs z j c ≡ place g fs z i b = ap (place g fs z j) (sym from₀) ∙ sym (ap (λ (y : Edge). y .source) e) ∙ s in
           let same : j ≡ i = clone-owner g rs z j i c b l k m at-j in
           let k′ : c ∈ blocksOf g fs z i = subst (λ (x : ℕ). c ∈ blocksOf g fs z x) same k in
-          let c-is : c ≡ b = place-apart g rs z i c b k′ m (ap (λ (x : ℕ). place g fs z x c) (sym same) ∙ at-j) in
-          (d₀, record {
-            stood = there₀;
-            from = from₀ ∙ c-is;
-            kind = ap (λ (y : Edge). y .kind) e;
-            to = ap (λ (y : Edge). y .target) e ∙ ap (λ (x : ℕ). moved g fs z x (d₀ .target)) same;
-          })
+          let c-is : c ≡ b = place-apart g rs z i c b k′ m (ap (λ (x : ℕ). place g fs z x c) (sym same) ∙ at-j) in (
+            d₀,
+            record {
+              stood = there₀;
+              from = from₀ ∙ c-is;
+              kind = ap (λ (y : Edge). y .kind) e;
+              to = ap (λ (y : Edge). y .target) e ∙ ap (λ (x : ℕ). moved g fs z x (d₀ .target)) same;
+            },
+          )
 
   pub record Stands (i b : ℕ) (d d₀ : Edge) : Type 0 where
     pub there : d ∈ after .edges
@@ -221,10 +228,12 @@ module _ (g : Graph) (rs : List UnwindRoute) (z : List Node) (new : List Edge) (
       go (inl l) =
           let c : b ∈ copied g fs z i = subst (λ (x : List ℕ). b ∈ x) (sym (copied-later g rs z i l)) m in
           let o : d₀ ∈ outgoing g b = mem-keep (λ (d : Edge). eqb (d .source) b) k (eq-eqb _ b s) in
-          let e : cloneEdge g fs z i d₀ ∈ copies i = mem-joined (λ (b : ℕ). map (cloneEdge g fs z i) (outgoing g b)) c (mem-map (cloneEdge g fs z i) o) in
-          (cloneEdge g fs z i d₀, record {
-            there = Memᴰ·append-right (g .edges) (Memᴰ·append-left new (mem-flat copies (length z) i h e));
-            from = ap (place g fs z i) s;
-            kind = refl;
-            to = refl;
-          })
+          let e : cloneEdge g fs z i d₀ ∈ copies i = mem-joined (λ (b : ℕ). map (cloneEdge g fs z i) (outgoing g b)) c (mem-map (cloneEdge g fs z i) o) in (
+            cloneEdge g fs z i d₀,
+            record {
+              there = Memᴰ·append-right (g .edges) (Memᴰ·append-left new (mem-flat copies (length z) i h e));
+              from = ap (place g fs z i) s;
+              kind = refl;
+              to = refl;
+            },
+          )

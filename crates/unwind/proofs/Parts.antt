@@ -7,10 +7,10 @@
 --     returns-forth, returns-back  where a walk that entered the instance goes on
 use mathlib.Core.Path.{_≡_, refl, sym, _∙_, ap, subst}
 use mathlib.Core.Logic.{_⊎_, inl, inr}
-use mathlib.Core.Bool.{Bool, true, false}
+use mathlib.Core.Bool.{true, false}
 use mathlib.Core.List.{List, _++_}
-use mathlib.Core.Option.{Option, none, some}
-use Prim.Native.Nat.{ℕ, _≤_, _<_}
+use mathlib.Core.Option.{some}
+use Prim.Native.Nat.{ℕ, _<_}
 use native.Mathlib.Decide.{ℕ-discrete}
 use native.Mathlib.Omega.{arith}
 use lib.ListN.{length}
@@ -20,13 +20,13 @@ use Rattle.graph.specs.declared.record.Edge.{Edge}
 use Rattle.graph.specs.Graph.{Graph}
 use Rattle.graph.specs.Flow.{Kind}
 use Rattle.unwind.specs.Blocks.{firstOf, lastOf, blockOf}
-use Rattle.unwind.specs.Part.{funclets, part}
+use Rattle.unwind.specs.Part.{funclets}
 use Rattle.unwind.specs.Trie.{Node, nodeAt}
 use Rattle.unwind.specs.Instance.{entryBlock, blocksOf, later, place, moved, entryOf, returnsOf, cloneBlocks, cloneEdges}
 use Rattle.unwind.specs.Walk.{_∈_, Built, Begins, Other, Reach, start, step, Returning, by-return, by-jump}
 use Rattle.unwind.proofs.Sound.{Sound}
 use Rattle.unwind.proofs.Closure.{part-reach, reach-part}
-use Rattle.unwind.proofs.Instance.{first-or-later, blocks-lt, blocks-part, place-first, later-above, moved-in, moved-either, mem-returns, returns-mem}
+use Rattle.unwind.proofs.Instance.{first-or-later, blocks-part, place-first, later-above, moved-in, moved-either, mem-returns, returns-mem}
 use Rattle.unwind.proofs.After.{built-up, built-down, old-block, same-first, same-last, after, image-block, out-forth, out-back}
 
 module _ (g : Graph) (rs : List UnwindRoute) (z : List Node) (new : List Edge) (unwinds : (d : Edge) → d ∈ new → d .kind ≡ Kind.exceptionUnwind) (sound : Sound g) where
@@ -90,8 +90,8 @@ module _ (g : Graph) (rs : List UnwindRoute) (z : List Node) (new : List Edge) (
         let kind : d .kind ≡ d₀ .kind = out .1 .kind in
         let to-t : y ≡ moved g fs z i t = sym to ∙ out .1 .to in
         let stays : (moved g fs z i t ≡ t) → t ∈ blocks =
-            λ e. part-in (step (in-part b (below .1)) d₀ (out .1 .stood) (out .1 .from) refl (λ p. u (kind ∙ p)) (λ p. k (kind ∙ p))
-            (λ q. o (subst (Other g′ rs f) (sym (to-t ∙ e)) (other-up f t q)))) in
+        λ e. part-in (step (in-part b (below .1)) d₀ (out .1 .stood) (out .1 .from) refl (λ p. u (kind ∙ p)) (λ p. k (kind ∙ p))
+        (λ q. o (subst (Other g′ rs f) (sym (to-t ∙ e)) (other-up f t q)))) in
         let in-t : t ∈ blocks = elim (moved-either g rs z i t) [ inl m ↦ m | inr e ↦ stays e ] in
         (t, in-t, to-t ∙ moved-in g rs z i t in-t)
 
@@ -123,9 +123,9 @@ module _ (g : Graph) (rs : List UnwindRoute) (z : List Node) (new : List Edge) (
     returning-down b m (by-jump p kinds) =
         by-jump (ap (λ (t : TableEntry). t .flow) (sym (image-last b m)) ∙ p)
         (λ d₀ there from.
-            let out = out-back g rs z new unwinds sound i b h m d₀ there from in
-            let kind : out .0 .kind ≡ d₀ .kind = out .1 .kind in
-            elim (kinds (out .0) (out .1 .there) (out .1 .from)) [ inl e ↦ inl (sym kind ∙ e) | inr e ↦ inr (sym kind ∙ e) ])
+        let out = out-back g rs z new unwinds sound i b h m d₀ there from in
+        let kind : out .0 .kind ≡ d₀ .kind = out .1 .kind in
+        elim (kinds (out .0) (out .1 .there) (out .1 .from)) [ inl e ↦ inl (sym kind ∙ e) | inr e ↦ inr (sym kind ∙ e) ])
 
     returning-up : (b : ℕ) → b ∈ blocks → Returning g b → Returning g′ (put b)
     returning-up b m (by-return p) = by-return (ap (λ (t : TableEntry). t .flow) (image-last b m) ∙ p)
@@ -161,6 +161,7 @@ module _ (g : Graph) (rs : List UnwindRoute) (z : List Node) (new : List Edge) (
 
     pub returns-back : (y : ℕ) → y ∈ returnsOf g fs z i → Reach g′ rs f (entryOf g fs z i) y × Returning g′ y
     returns-back y m =
-        let x = returns-mem g rs z i y m in
-        (subst (λ (e : ℕ). Reach g′ rs f e y) (sym entry-is) (subst (Reach g′ rs f (put entry)) (sym (x .3)) (part-back (in-part (x .0) (x .1)))),
-        subst (Returning g′) (sym (x .3)) (returning-up (x .0) (x .1) (x .2)))
+        let x = returns-mem g rs z i y m in (
+          subst (λ (e : ℕ). Reach g′ rs f e y) (sym entry-is) (subst (Reach g′ rs f (put entry)) (sym (x .3)) (part-back (in-part (x .0) (x .1)))),
+          subst (Returning g′) (sym (x .3)) (returning-up (x .0) (x .1) (x .2)),
+        )
