@@ -6,7 +6,7 @@ use Rattle.image.specs.Deal.{deal, casesOf, givenOf, stepOf, endOf, pathsOf, ro
 use Rattle.graph.specs.Fold.{flat, some, checks, count, among, checkEach}
 use Rattle.graph.specs.Table.{entryAt, isStart, below, codeEnd, rangeCheck}
 use Rattle.graph.specs.Flow.{slots, slotsOf, kindOf, fallsThrough, unresolvedRole, isCall, flowUnder}
-use Rattle.graph.specs.Transfer.{tableOf, instructionAt, flowAt, slotTransfer, casesAt, transferAt, slotCount, sourceAt, isGiven, givenAt, endsAt}
+use Rattle.graph.specs.Transfer.{tableEntry, entriesOf, instructionAt, flowAt, slotTransfer, casesAt, transferAt, slotCount, sourceAt, isGiven, givenAt, endsAt}
 use Rattle.graph.specs.Route.{funclets, resumesLate, entries, routeCheck}
 use Rattle.graph.specs.Leaders.{entryMark, goesOn, sequenceMark, leadsTo, flowMark, exceptionalMark, rangeMark, handlerAt, handlerMark, routes, routeMark, endsFunclet, isLeader}
 use Rattle.graph.specs.Blocks.{isTerminator, firstOf, blockOf, blockAt, blocksOf, entryOf}
@@ -18,7 +18,7 @@ use Rattle.graph.specs.Build.{Outcome, orderCheck, instructionCheck, tab
 unfoldable pub computed : Image → Outcome
 unfolding zipWith
     table deal casesOf givenOf stepOf endOf pathsOf routesOf flat some checks count among checkEach entryAt isStart
-    below codeEnd rangeCheck slots slotsOf kindOf fallsThrough unresolvedRole isCall flowUnder tableOf
+    below codeEnd rangeCheck slots slotsOf kindOf fallsThrough unresolvedRole isCall flowUnder tableEntry entriesOf
     instructionAt flowAt slotTransfer casesAt transferAt slotCount sourceAt isGiven givenAt endsAt
     funclets resumesLate entries routeCheck entryMark goesOn sequenceMark leadsTo flowMark exceptionalMark rangeMark
     handlerAt handlerMark routes routeMark endsFunclet isLeader isTerminator firstOf blockOf blockAt blocksOf entryOf

@@ -8,3 +8,4 @@ pub mod StoredLaws
 pub mod Bit
 pub mod BlockLaws
 pub mod Rule21
+pub mod TableLaws

@@ -5,10 +5,13 @@ pub mod Section
 pub mod Words
 pub mod Stored
 pub mod BlockSet
+pub mod Error
+pub mod Lookup
 pub mod Flow
 pub mod Transfer
 pub mod Route
 pub mod Leaders
+pub mod Cursor
 pub mod Blocks
 pub mod Edges
 pub mod Regions

@@ -19,9 +19,14 @@ abbrev pub word : Bool → ℕ
 word b = cond b 1 0
 
 -- the instruction table, as the graph keeps it
-unfoldable pub tableOf : Image → List TableEntry
-tableOf m =
-    map (λ i. record { address = i .address; end = i .end; «has_end» = word (i .«has_end»); keeps = word (i .keeps); flow = i .flow }) (m .instructions)
+unfoldable pub tableEntry : Instruction → TableEntry
+tableEntry i = record { address = i .address; end = i .end; «has_end» = word (i .«has_end»); keeps = word (i .keeps); flow = i .flow }
+
+unfoldable pub entriesOf : List Instruction → List TableEntry
+entriesOf is = map tableEntry is
+
+abbrev pub tableOf : Image → List TableEntry
+tableOf m = entriesOf (m .instructions)
 
 abbrev pub size : Image → ℕ
 size m = length (m .instructions)

@@ -7,3 +7,4 @@ pub mod Image
 pub mod Read
 pub mod Scanned
 pub mod Deal
+pub mod Accepted
