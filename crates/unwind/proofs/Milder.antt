@@ -1,14 +1,13 @@
 -- What the walk theorem asks of the parts is less than demand 3's conditions: only entries and returning blocks count.
 --     Milder, mild                 the milder conditions, and that they follow
 --     reach-entry                  a part has the entry of no other funclet
-use mathlib.Core.Path.{_≡_, refl, sym, _∙_, ap, subst}
+use mathlib.Core.Path.{_≡_, sym, _∙_}
 use mathlib.Core.List.{List}
 use Prim.Native.Nat.{ℕ}
 use native.Mathlib.Decide.{ℕ-discrete}
 use Rattle.image.specs.Deal.{UnwindRoute}
 use Rattle.graph.specs.Graph.{Graph}
-use Rattle.unwind.specs.Blocks.{firstOf}
-use Rattle.unwind.specs.Walk.{Funclet, Handler, Begins, Other, Reach, start, step, Part, Returning, Guarded}
+use Rattle.unwind.specs.Walk.{Funclet, Handler, Begins, Reach, start, step, Part, Returning, Guarded}
 use Rattle.unwind.specs.Demand.{Conditions}
 
 pub record Milder (g : Graph) (rs : List UnwindRoute) : Type 0 where
