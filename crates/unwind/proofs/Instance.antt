@@ -1,10 +1,12 @@
 -- Instances: original and clone are one notion, the image of a part under `place`.
---     blocks-lt                    the blocks of a part stood before
+--     blocks-lt, blocks-part       the blocks of a node: those of a part, which stood before
+--     copied-later, mem-copied     the blocks that a node copies
 --     place-first, place-later     where an original and a clone has a block
 --     place-apart                  within a node, different blocks have different places
 --     clone-owner                  a clone's block is no other node's
 --     first-once                   of the nodes of one funclet, one uses the original blocks
---     moved-in, moved-first        moved targets
+--     later-above                  a clone's blocks come behind those that stood
+--     moved-in, moved-first, moved-either     moved targets
 --     mem-returns, returns-mem     the returning blocks of an instance
 use mathlib.Core.Path.{_≡_, refl, sym, _∙_, ap}
 use mathlib.Core.Logic.{_⊎_, inl, inr}

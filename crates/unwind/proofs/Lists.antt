@@ -6,9 +6,9 @@
 --     mem-flat, flat-mem           y ∈ flat f n: y ∈ f i for some i < n
 --     mem-upto, upto-mem           i ∈ upto n: i < n
 --     mem-among, among-mem         the test for numbers
---     at, at-append, at-last, at-lt, at-getD, at-mem, mem-at, at-map, lt-at     the element at a place
+--     at, at-append, at-behind, at-last, at-lt, lt-at, at-getD, at-mem, mem-at, at-map     the element at a place
 --     at-rank                      x stands at its rank
---     at-flat, flat-le             the places of the pieces of a flat list
+--     flat-suc, flat-le, at-flat   the places of the pieces of a flat list
 use mathlib.Core.Path.{_≡_, refl, sym, _∙_, ap, subst}
 use mathlib.Core.Logic.{_⊎_, inl, inr}
 use mathlib.Core.Bool.{Bool, true, false, cond, not, _&&_, _||_, false≢true}

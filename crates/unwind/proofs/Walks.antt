@@ -4,7 +4,7 @@
 --     Laws                         what an engine of unwinding must give
 --     spell-walk                   what a node spells, some walk from a block that fires it spells
 --     walk-spell                   what a walk spells, the node that its block fires spells
---     walks                        demand 3
+--     exactly, ends                demand 3
 use mathlib.Core.Path.{_≡_, refl, sym, _∙_, ap, subst}
 use mathlib.Core.Logic.{_↔_}
 use mathlib.Core.List.{List, map}
