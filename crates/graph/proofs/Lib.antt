@@ -9,6 +9,10 @@ pub mod Bit
 pub mod BlockLaws
 pub mod Rule21
 pub mod TableLaws
+pub mod DealLaws
+pub mod CursorLaws
 pub mod CheckLaws
 pub mod RangeLaws
 pub mod RouteLaws
+pub mod TransferLaws
+pub mod SearchLaws
