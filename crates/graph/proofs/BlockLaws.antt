@@ -24,7 +24,7 @@ use lib.ListN.{length, getD, set, length-set, getD-replicate, List·getD-eq-defa
 use lib.Seq.{getD-set-same, getD-set-other, set-out}
 use Rattle.graph.specs.Fold.{count}
 use Rattle.graph.specs.BlockSet.{member, none, including, excluding, Union, sizeOf, LowestOf}
-use Rattle.graph.specs.WellFormed.{setBelow}
+use Rattle.graph.specs.WellFormed.{within}
 use Rattle.graph.specs.declared.blockset.Lowest.the-variants.{At}
 use Rattle.graph.proofs.FoldLaws.{all-at, count-same, count-add, count-one, count-le}
 use Rattle.graph.proofs.Bit.{bit, bit-shift, bit-below, bit-lt, bit-zero, bit-or, bit-xor, bit-power-same, bit-power-other, ones-bits, trailing-bit}
@@ -276,11 +276,11 @@ shift-below x k =
 pub word-below : (x k : ℕ) → x < 2 ^ 64 → 64 ≤ k → true ≡ ltb x (2 ^ k)
 word-below x k h le = sym (lt-ltb x (2 ^ k) (omega (arith, pow-mono le)))
 
-pub below-is : (n : ℕ) (w : List ℕ) → setBelow n w ≡ true → (b : ℕ) → length w ≡ 16 → member w b ≡ true → b < n
-unfolding setBelow
+pub below-is : (n : ℕ) (w : List ℕ) → within n w ≡ true → (b : ℕ) → length w ≡ 16 → member w b ≡ true → b < n
+unfolding within
 below-is n w all b long m =
     let h = member-below w b long m in
-    let t : T (setBelow n w) = rw all tt in
+    let t : T (within n w) = rw all tt in
     let word = ltb→lt (getD w (b / 64) 0) (2 ^ (n - 64 * (b / 64))) (all-at _ 16 (b / 64) t (omega arith)) in
     let one : digit w b ≡ 1 = eqb-true _ _ (sym (member-bit w b) ∙ m) in
     elim (decLt b n) [

@@ -1,4 +1,5 @@
--- The laws that belong to no single function.
+pub mod Computed
+pub mod Cases
 pub mod FoldLaws
 pub mod SectionLaws
 pub mod WordLaws
@@ -7,3 +8,5 @@ pub mod StoredLaws
 pub mod Bit
 pub mod BlockLaws
 pub mod SearchLaws
+pub mod Rule21
+pub mod TableLaws

@@ -16,9 +16,8 @@ use borrow.Author.Tests.{eq-eqb, ne-eqb, ltb-true}
 use lib.Dec.{T, eqb, ltb, ltb→lt}
 use lib.ListN.{length, getD, set, drop, length-set, drop-of-length-le, replicate, getD-replicate}
 use lib.Seq.{drop-cons, getD-set-same, getD-set-other}
-use Rattle.graph.specs.Graph.{Graph}
+use Rattle.graph.specs.Graph.{Graph, edge}
 use Rattle.graph.specs.Fold.{all}
-use Rattle.graph.specs.Records.{edge}
 use Rattle.graph.specs.Words.{edgeOf}
 use Rattle.graph.specs.BlockSet.{member, none, including, excluding, sizeOf}
 use Rattle.graph.specs.WellFormed.{isBlock, edgeEndsExist}

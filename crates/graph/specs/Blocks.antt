@@ -10,16 +10,15 @@ use Rattle.graph.specs.Table.{below}
 use Rattle.graph.specs.Transfer.{tableOf, size}
 use Rattle.graph.specs.Leaders.{isLeader}
 
--- the instruction at p ends its block: no other follows, or the next one leads
-unfoldable pub isLast : Image → ℕ → Bool
-isLast m p = eqb (suc p) (size m) || isLeader m (suc p)
+-- the instruction at p is the last of its block: none follows, or the next one leads
+unfoldable pub isTerminator : Image → ℕ → Bool
+isTerminator m p = eqb (suc p) (size m) || isLeader m (suc p)
 
--- the position of the first instruction of p's block
+-- where the block of p begins, and its number: how many leaders there are up to p after the first instruction
 unfoldable pub firstOf : Image → ℕ → ℕ
 firstOf m zero = 0
 firstOf m (suc p) = cond (isLeader m (suc p)) (suc p) (firstOf m p)
 
--- the number of p's block: how many leaders there are up to p, after the first instruction
 unfoldable pub blockOf : Image → ℕ → ℕ
 blockOf m p = count (λ q. isLeader m (suc q)) p
 
@@ -31,8 +30,8 @@ blockAt m a = blockOf m (below (tableOf m) a)
 unfoldable pub blocksOf : Image → List Block
 blocksOf m =
     cond (eqb (size m) 0) (record { first = 0; count = 0 } ∷ [])
-    (flat (λ p. cond (isLast m p) (record { first = firstOf m p; count = suc p - firstOf m p } ∷ []) []) (size m))
+    (flat (λ p. cond (isTerminator m p) (record { first = firstOf m p; count = suc p - firstOf m p } ∷ []) []) (size m))
 
--- with no entry in the image it is block 0
+-- the entry, without one in the image block 0
 unfoldable pub entryOf : Image → ℕ
 entryOf m = cond (m .header .«has_entry») (blockAt m (m .header .entry)) 0

@@ -1,5 +1,5 @@
 -- Flows, kinds and roles by their numbers, and the table of transfers: `transfer.rs`.
-use mathlib.Core.Bool.{Bool, cond, not, _&&_, _||_}
+use mathlib.Core.Bool.{Bool, cond, _&&_, _||_}
 use mathlib.Core.List.{List, [], _∷_}
 use Prim.Native.Nat.{ℕ}
 use lib.Dec.{eqb}
@@ -88,7 +88,3 @@ isCall flow = eqb flow Flow.call || eqb flow Flow.indirectCall
 -- 'calls (0 Edges, 1 Flatten)'; 'Under Flatten a call counts as Next'
 unfoldable pub flowUnder : ℕ → ℕ → ℕ
 flowUnder calls flow = cond (eqb calls 1 && isCall flow) Flow.next flow
-
--- `ends_block` under a call policy
-unfoldable pub endsBlock : ℕ → ℕ → Bool
-endsBlock calls flow = not (eqb (flowUnder calls flow) Flow.next)

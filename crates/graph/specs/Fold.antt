@@ -1,7 +1,8 @@
--- Lists and tests by counting: the last index stands outermost, as a loop that counts up meets it.
+-- Lists and tests by counting: the last index stands outermost, as a loop that counts up meets it. Then a few of lists.
 use mathlib.Core.Bool.{Bool, true, false, _&&_, _||_}
-use mathlib.Core.List.{List, [], _++_}
+use mathlib.Core.List.{List, [], _∷_, _++_}
 use Prim.Native.Nat.{ℕ, zero, suc, _+_}
+use lib.Dec.{eqb}
 use Rattle.image.specs.Refusal.{Check, clear, _then_}
 
 -- f 0, f 1, .. below n, one behind the other
@@ -36,3 +37,13 @@ count f (suc n) = one (f n) + count f n
 unfoldable pub sum : (ℕ → ℕ) → ℕ → ℕ
 sum f zero = zero
 sum f (suc n) = sum f n + f n
+
+-- a stands in a list
+unfoldable pub among : List ℕ → ℕ → Bool
+among [] a = false
+among (b ∷ l) a = eqb b a || among l a
+
+-- the first refusal among those of a list's members
+unfoldable pub checkEach : (ℕ → Check) → List ℕ → Check
+checkEach f [] = clear
+checkEach f (a ∷ l) = f a then checkEach f l

@@ -1,5 +1,5 @@
 -- Regions with their handlers. `add_regions`.
-use mathlib.Core.Bool.{Bool, cond, not, _&&_}
+use mathlib.Core.Bool.{Bool, true, cond, not, _&&_}
 use mathlib.Core.List.{List, [], _∷_}
 use Prim.Native.Nat.{ℕ, zero, suc, _+_, _-_}
 use lib.Dec.{eqb, ltb, leb}
@@ -13,26 +13,24 @@ use Rattle.graph.specs.BlockSet.{including}
 use Rattle.graph.specs.Blocks.{blockOf, blockAt}
 use Rattle.graph.specs.Edges.{rangeFirst, rangeSize}
 
--- 'Equal ranges form one region': handlers g and h share theirs
+-- 'Equal ranges form one region': its draft is the first handler that has the range
 unfoldable pub sameRange : Image → ℕ → ℕ → Bool
 sameRange m g h = eqb (handlerAt m g .start) (handlerAt m h .start) && eqb (handlerAt m g .end) (handlerAt m h .end)
 
--- the first handler of its range stands for the region
-unfoldable pub isFirstUse : Image → ℕ → Bool
-isFirstUse m h = not (some (λ g. sameRange m g h) h)
+unfoldable pub isDraft : Image → ℕ → Bool
+isDraft m h = not (some (λ g. sameRange m g h) h)
 
+-- 'Regions stand by falling span, equal spans by first use': a draft goes behind those of no lesser span
 unfoldable pub span : Image → ℕ → ℕ
 span m h = handlerAt m h .end - handlerAt m h .start
 
--- 'Regions stand by falling span, equal spans by first use': the first handlers of the regions, each put behind all of no
--- lesser span
 unfoldable pub place : Image → ℕ → List ℕ → List ℕ
 place m h [] = h ∷ []
 place m h (g ∷ gs) = cond (leb (span m h) (span m g)) (g ∷ place m h gs) (h ∷ g ∷ gs)
 
 unfoldable pub draftsBelow : Image → ℕ → List ℕ
 draftsBelow m zero = []
-draftsBelow m (suc h) = let before = draftsBelow m h in cond (isFirstUse m h) (place m h before) before
+draftsBelow m (suc h) = let before = draftsBelow m h in cond (isDraft m h) (place m h before) before
 
 unfoldable pub drafts : Image → List ℕ
 drafts m = draftsBelow m (length (m .handlers))
@@ -40,51 +38,35 @@ drafts m = draftsBelow m (length (m .handlers))
 abbrev pub draft : Image → ℕ → ℕ
 draft m r = getD (drafts m) r 0
 
--- 'The parent is the smallest strictly containing region; of equal spans, the earlier.'
-pub data Parent : Type 0 where
-  none : Parent
-  under : ℕ → Parent
-
+-- 'The parent is the smallest strictly containing region; of equal spans, the earlier.' A list of one region, or of none.
 unfoldable pub contains : Image → ℕ → ℕ → Bool
 contains m g h =
     not (sameRange m g h) && leb (handlerAt m g .start) (handlerAt m h .start) && leb (handlerAt m h .end) (handlerAt m g .end)
 
--- the better parent of region r, of what was found before and region k
-unfoldable pub closer : Image → ℕ → Parent → ℕ → Parent
-closer m r none k = cond (contains m (draft m k) (draft m r)) (under k) none
-closer m r (under j) k =
-    cond (contains m (draft m k) (draft m r) && ltb (span m (draft m k)) (span m (draft m j))) (under k) (under j)
+unfoldable pub smaller : Image → List ℕ → ℕ → Bool
+smaller m [] k = true
+smaller m (j ∷ js) k = ltb (span m (draft m k)) (span m (draft m j))
 
-unfoldable pub parentBelow : Image → ℕ → ℕ → Parent
-parentBelow m r zero = none
-parentBelow m r (suc k) = closer m r (parentBelow m r k) k
-
-abbrev pub hasParent : Parent → ℕ
-hasParent none = 0
-hasParent (under k) = 1
-
-abbrev pub parentOf : Parent → ℕ
-parentOf none = 0
-parentOf (under k) = k
+unfoldable pub parentBelow : Image → ℕ → ℕ → List ℕ
+parentBelow m r zero = []
+parentBelow m r (suc k) =
+    let before = parentBelow m r k in cond (contains m (draft m k) (draft m r) && smaller m before k) (k ∷ []) before
 
 -- the blocks f 0, f 1, .. below n
 unfoldable pub setBelow : (ℕ → ℕ) → ℕ → List ℕ
 setBelow f zero = replicate 16 0
 setBelow f (suc n) = including (setBelow f n) (f n)
 
--- the blocks of the range of handler h
-unfoldable pub protectedOf : Image → ℕ → List ℕ
-protectedOf m h = setBelow (λ i. blockOf m (rangeFirst m h + i)) (rangeSize m h)
-
 unfoldable pub regionAt : Image → ℕ → Region
 regionAt m r =
+    let parent = parentBelow m r (length (drafts m)) in
     record {
-      «has_parent» = hasParent (parentBelow m r (length (drafts m)));
-      parent = parentOf (parentBelow m r (length (drafts m)));
+      «has_parent» = length parent;
+      parent = getD parent 0 0;
       start = handlerAt m (draft m r) .start;
       end = handlerAt m (draft m r) .end;
-      handlers = count (λ h. sameRange m (draft m r) h) (length (m .handlers));
-      protected = protectedOf m (draft m r);
+      handlers = count (sameRange m (draft m r)) (length (m .handlers));
+      protected = setBelow (λ i. blockOf m (rangeFirst m (draft m r) + i)) (rangeSize m (draft m r));
     }
 
 unfoldable pub regionsOf : Image → List Region

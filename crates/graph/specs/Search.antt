@@ -6,8 +6,7 @@ use mathlib.Core.List.{List, [], _∷_}
 use Prim.Native.Nat.{ℕ, suc, _+_, _-_, _*_, _≤_, _<_}
 use lib.Dec.{eqb}
 use lib.ListN.{length, getD, drop}
-use Rattle.graph.specs.Graph.{Graph}
-use Rattle.graph.specs.Records.{edge}
+use Rattle.graph.specs.Graph.{Graph, edge}
 use Rattle.graph.specs.BlockSet.{member, including, sizeOf}
 use Rattle.graph.specs.WellFormed.{isBlock, edgeEndsExist}
 use Rattle.graph.specs.Reached.{Reached}

@@ -5,11 +5,10 @@ use Prim.Native.Nat.{ℕ, suc, _-_, _*_, _^_}
 use lib.Dec.{eqb, ltb, leb}
 use lib.ListN.{length, getD}
 use Rattle.image.specs.Refusal.{Check, clear, refused}
-use Rattle.graph.specs.Graph.{Graph, Counts, Held}
+use Rattle.graph.specs.Graph.{Graph, Counts, Held, block, edge, region, handler, unresolvedTransfer, callSite}
 use Rattle.graph.specs.Fold.{some, all, sum}
-use Rattle.graph.specs.Records.{block, edge, region, handler, unresolved, call}
 use Rattle.graph.specs.Table.{entryAt}
-use Rattle.graph.specs.Refuse.{tableCheck}
+use Rattle.graph.specs.Build.{tableCheck}
 
 -- 'an instruction table of at most 512'; '1 to 1,024 blocks and at most 4,096 edges; at most 32 regions, 32 handlers, 1,024
 -- unresolved records and 512 calls'
@@ -29,41 +28,38 @@ abbrev pub passes : Check → Bool
 passes clear = true
 passes (refused r) = false
 
-unfoldable pub tableStands : Graph → Bool
-tableStands g = passes (tableCheck (g .table))
-
--- 'entry, edge ends and the blocks and parents of regions exist': the blocks are the protected ones and the handlers'
--- entries
+-- 'entry, edge ends and the blocks and parents of regions exist': of the blocks of regions the protected ones and the
+-- handlers' entries, and not a filter's
 unfoldable pub isBlock : Graph → ℕ → Bool
 isBlock g b = ltb b (length (g .blocks))
 
 unfoldable pub edgeEndsExist : Graph → Bool
 edgeEndsExist g = all (λ e. isBlock g (edge g e .source) && isBlock g (edge g e .target)) (length (g .edges))
 
--- none of sixteen words has a bit for block n or a later one
-unfoldable pub setBelow : ℕ → List ℕ → Bool
-setBelow n s = all (λ w. ltb (getD s w 0) (2 ^ (n - 64 * w))) 16
+-- no word of a set has a bit for block n or one after it
+unfoldable pub within : ℕ → List ℕ → Bool
+within n s = all (λ w. ltb (getD s w 0) (2 ^ (n - 64 * w))) 16
 
 unfoldable pub regionBlocksExist : Graph → Bool
 regionBlocksExist g =
-    all (λ r. setBelow (length (g .blocks)) (region g r .protected)) (length (g .regions))
+    all (λ r. within (length (g .blocks)) (region g r .protected)) (length (g .regions))
     && all (λ h. isBlock g (handler g h .entry)) (length (g .handlers))
 
 unfoldable pub parentsExist : Graph → Bool
 parentsExist g = all (λ r. eqb (region g r .«has_parent») 0 || ltb (region g r .parent) (length (g .regions))) (length (g .regions))
 
--- 'each handler reference names a region's handler'
-unfoldable pub referencesName : Graph → Bool
-referencesName g =
-    all (λ h. ltb (handler g h .region) (length (g .regions)) && ltb (handler g h .place) (region g (handler g h .region) .handlers)) (length (g .handlers))
+-- 'each handler reference names a region's handler, and each such handler has exactly one': no two name the same, and there
+-- are as many as handlers
+unfoldable pub namesHandler : Graph → ℕ → Bool
+namesHandler g h = ltb (handler g h .region) (length (g .regions)) && ltb (handler g h .place) (region g (handler g h .region) .handlers)
 
--- 'and each such handler has exactly one': no two name the same, and there are as many as handlers
 unfoldable pub sameReference : Graph → ℕ → ℕ → Bool
 sameReference g i h = eqb (handler g i .region) (handler g h .region) && eqb (handler g i .place) (handler g h .place)
 
 unfoldable pub referencesMatch : Graph → Bool
 referencesMatch g =
-    all (λ h. not (some (λ i. sameReference g i h) h)) (length (g .handlers))
+    all (namesHandler g) (length (g .handlers))
+    && all (λ h. not (some (λ i. sameReference g i h) h)) (length (g .handlers))
     && eqb (sum (λ r. region g r .handlers) (length (g .regions))) (length (g .handlers))
 
 -- 'flows, kinds and roles are in their sets', and flags are 0 or 1
@@ -73,10 +69,10 @@ inSets g =
     && all (λ e. leb (edge g e .kind) 7 && leb (edge g e .role) 11) (length (g .edges))
     && all (λ r. leb (region g r .«has_parent») 1) (length (g .regions))
     && all (λ h. leb (handler g h .kind) 4) (length (g .handlers))
-    && all (λ u. leb (unresolved g u .role) 9) (length (g .unresolved))
-    && all (λ c. leb (call g c .«has_target») 1) (length (g .calls))
+    && all (λ u. leb (unresolvedTransfer g u .role) 9) (length (g .unresolved))
+    && all (λ c. leb (callSite g c .«has_target») 1) (length (g .calls))
 
--- 'built blocks cover the table in order': they are the first blocks, up to the one whose run ends the table
+-- 'built blocks cover the table in order': each begins where the runs before it end, until the table is full
 unfoldable pub filled : Graph → ℕ → ℕ
 filled g b = sum (λ a. block g a .count) b
 
@@ -89,11 +85,11 @@ coversTable g =
     && leb (length (g .table)) (filled g (length (g .blocks)))
 
 -- 'copies follow and repeat a built run'
-unfoldable pub sameRun : Graph → ℕ → ℕ → Bool
-sameRun g a b = eqb (block g a .first) (block g b .first) && eqb (block g a .count) (block g b .count)
+unfoldable pub repeats : Graph → ℕ → ℕ → Bool
+repeats g b a = isBuilt g a && eqb (block g a .first) (block g b .first) && eqb (block g a .count) (block g b .count)
 
 unfoldable pub copiesRepeat : Graph → Bool
-copiesRepeat g = all (λ b. isBuilt g b || some (λ a. isBuilt g a && sameRun g a b) (length (g .blocks))) (length (g .blocks))
+copiesRepeat g = all (λ b. isBuilt g b || some (repeats g b) (length (g .blocks))) (length (g .blocks))
 
 -- 'only an empty table's block is empty'
 unfoldable pub noneEmpty : Graph → Bool
@@ -102,15 +98,15 @@ noneEmpty g =
 
 unfoldable pub wellFormed : Held → Bool
 wellFormed h =
+    let g = h .graph in
     withinLimits (h .counts)
-    && tableStands (h .graph)
-    && isBlock (h .graph) (h .graph .entry)
-    && edgeEndsExist (h .graph)
-    && regionBlocksExist (h .graph)
-    && parentsExist (h .graph)
-    && referencesName (h .graph)
-    && referencesMatch (h .graph)
-    && inSets (h .graph)
-    && coversTable (h .graph)
-    && copiesRepeat (h .graph)
-    && noneEmpty (h .graph)
+    && passes (tableCheck (g .table))
+    && isBlock g (g .entry)
+    && edgeEndsExist g
+    && regionBlocksExist g
+    && parentsExist g
+    && referencesMatch g
+    && inSets g
+    && coversTable g
+    && copiesRepeat g
+    && noneEmpty g

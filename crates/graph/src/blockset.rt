@@ -5,7 +5,7 @@ ghost use lib.Count.{ones, trailingZeros};
 ghost use lib.Dec.{ltb};
 ghost use lib.ListN.{length};
 ghost use Rattle.graph.specs.BlockSet.{member, none, including, excluding, Union, sizeOf, LowestOf};
-ghost use Rattle.graph.specs.WellFormed.{setBelow};
+ghost use Rattle.graph.specs.WellFormed.{within};
 
 pub struct BlockSet {
     pub words: [u64; 16],
@@ -168,7 +168,7 @@ fn word_below(word: u64, i: usize, n: usize) -> bool
 
 // Whether every block is below n.
 pub fn all_below(w: &[u64; 16], n: usize) -> bool
-    ensures { λ r. ⌜ r ≡ setBelow n (now (w .entry)) ⌝ }
+    ensures { λ r. ⌜ r ≡ within n (now (w .entry)) ⌝ }
 {
     for i in 0..16 {
         if !word_below(w[i], i, n) {

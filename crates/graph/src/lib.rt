@@ -1,5 +1,8 @@
 // The control flow graph of a sequence: its store, the three builds, its own rule (21) and what is reached.
 pub mod blockset;
+mod cursor;
+pub mod error;
+mod lookup;
 pub mod reach;
 pub mod record;
 pub mod store;

@@ -1,7 +1,7 @@
 -- Children dealt to their parents in order: an instruction's cases, a given source's edges, a route's paths, a path's steps.
 use mathlib.Core.Bool.{cond}
 use mathlib.Core.List.{List, [], _∷_, map, zipWith}
-use Prim.Native.Nat.{ℕ}
+use Prim.Native.Nat.{ℕ, zero, suc, _+_}
 use lib.Dec.{eqb}
 use lib.ListN.{take, drop}
 use Rattle.image.specs.Image.{Image, RouteImage}
@@ -10,6 +10,11 @@ use Rattle.image.specs.declared.record.GivenEdge.{GivenEdge}
 use Rattle.image.specs.declared.record.Route.{Route}
 use Rattle.image.specs.declared.record.Path.{Path}
 use Rattle.image.specs.declared.record.Step.{Step}
+
+-- f 0 + f 1 + .. below n
+unfoldable pub total : (ℕ → ℕ) → ℕ → ℕ
+total f zero = zero
+total f (suc n) = total f n + f n
 
 -- the children of each parent, by their counts
 unfoldable pub deal : {A : Type 0} → List ℕ → List A → List (List A)

@@ -1,9 +1,6 @@
 -- What an image holds: its records, section by section.
-use mathlib.Core.Bool.{cond}
 use mathlib.Core.List.{List, [], _∷_, _++_}
 use Prim.Native.Nat.{ℕ, zero, suc, _+_, _*_}
-use lib.Dec.{leb}
-use lib.ListN.{length}
 use Rattle.image.specs.Record.{headerFrom, instructionFrom, caseFrom, sourceFrom, edgeFrom, handlerFrom, routeFrom, pathFrom, stepFrom}
 use Rattle.image.specs.declared.record.Header.{Header}
 use Rattle.image.specs.declared.record.Instruction.{Instruction}
@@ -41,13 +38,9 @@ table f (suc n) = table f n ++ (f n ∷ [])
 abbrev pub placeIn : Section → ℕ → ℕ
 placeIn s i = s .at + s .width * i
 
--- the record at a place, and the record of zeros where the bytes end before it does
-unfoldable pub whole : {A : Type 0} → (List ℕ → ℕ → A) → ℕ → List ℕ → ℕ → A
-whole from w l at = cond (leb (at + w) (length l)) (from l at) (from [] 0)
-
 -- the records of a section
 unfoldable pub recordsIn : {A : Type 0} → (List ℕ → ℕ → A) → List ℕ → Section → List A
-recordsIn from l s = table (λ i. whole from (s .width) l (placeIn s i)) (s .count)
+recordsIn from l s = table (λ i. from l (placeIn s i)) (s .count)
 
 abbrev pub routesIn : List ℕ → RouteLayout → RouteImage
 routesIn l y =
@@ -59,12 +52,13 @@ routesIn l y =
 
 abbrev pub imageIn : List ℕ → Layout → Image
 imageIn l y =
+    let c = y .code in
     record {
       header = y .header;
-      instructions = recordsIn instructionFrom l (y .instructions);
-      cases = recordsIn caseFrom l (y .cases);
-      sources = recordsIn sourceFrom l (y .sources);
-      edges = recordsIn edgeFrom l (y .edges);
-      handlers = recordsIn handlerFrom l (y .handlers);
+      instructions = recordsIn instructionFrom l (c .instructions);
+      cases = recordsIn caseFrom l (c .cases);
+      sources = recordsIn sourceFrom l (c .sources);
+      edges = recordsIn edgeFrom l (c .edges);
+      handlers = recordsIn handlerFrom l (c .handlers);
       routes = routesIn l (y .routes);
     }

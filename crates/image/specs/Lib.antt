@@ -1,5 +1,10 @@
 pub mod Little
 pub mod Record
 pub mod Refusal
+pub mod Form
+pub mod Verdict
 pub mod Image
+pub mod Read
+pub mod Scanned
 pub mod Deal
+pub mod Accepted

@@ -1,6 +1,6 @@
 -- 'Each refusal is the number with two values; unused ones are 0.'
 use mathlib.Core.Bool.{Bool, cond}
-use Prim.Native.Nat.{ℕ}
+use Prim.Native.Nat.{ℕ, zero, suc}
 
 pub record Refusal : Type 0 where
   pub number : ℕ
@@ -15,7 +15,7 @@ pub data Check : Type 0 where
   clear : Check
   refused : Refusal → Check
 
-infixr 20 _then_
+infixl 20 _then_
 abbrev pub _then_ : Check → Check → Check
 clear then c = c
 refused r then c = refused r
@@ -23,3 +23,8 @@ refused r then c = refused r
 -- refused unless the test holds
 abbrev pub unless : Bool → Refusal → Check
 unless good r = cond good clear (refused r)
+
+-- the first refusal among those of 0, 1, .. below n
+unfoldable pub checks : (ℕ → Check) → ℕ → Check
+checks f zero = clear
+checks f (suc n) = checks f n then f n

@@ -1,8 +1,8 @@
-// Numbers in bytes, the lowest first.
+// Numbers in bytes, the lowest first. Past the end of the bytes each byte is 0.
 ghost use mathlib.Core.Path.{_≡_};
 ghost use Prim.Native.Nat.{_+_, _≤_, _<_};
-ghost use lib.ListN.{length, getD};
-ghost use Rattle.image.specs.Little.{le4, le8};
+ghost use lib.ListN.{length};
+ghost use Rattle.image.specs.Little.{le1, le4, le8};
 
 fn wide(x: u8) -> u64
     ensures { λ r. ⌜ (r ≡ x) × (r < 256) ⌝ }
@@ -11,25 +11,52 @@ fn wide(x: u8) -> u64
 }
 
 pub fn byte_at(s: &[u8], at: usize) -> u64
-    requires { ⌜ at < length (now s) ⌝ }
-    ensures { λ r. ⌜ (r ≡ getD (now (s .entry)) at 0) × (r < 256) ⌝ }
+    ensures { λ r. ⌜ (r ≡ le1 (now (s .entry)) at) × (r < 256) ⌝ }
 {
-    wide(s[at])
+    if at < s.len() { wide(s[at]) } else { 0 }
 }
 
 pub fn u32_at(s: &[u8], at: usize) -> u64
+    ensures { λ r. ⌜ (r ≡ le4 (now (s .entry)) at) × (r < 4294967296) ⌝ }
+{
+    if s.len() <= at {
+        return 0;
+    }
+    if 4 <= s.len() - at {
+        quad(s, at)
+    } else {
+        quad_cut(s, at)
+    }
+}
+
+pub fn u64_at(s: &[u8], at: usize) -> u64
+    ensures { λ r. ⌜ r ≡ le8 (now (s .entry)) at ⌝ }
+{
+    if s.len() <= at {
+        return 0;
+    }
+    if 8 <= s.len() - at {
+        quad(s, at) + 0x100000000 * quad(s, at + 4)
+    } else {
+        quad_cut(s, at) + 0x100000000 * quad_cut(s, at + 4)
+    }
+}
+
+// Four bytes that are there: one load.
+fn quad(s: &[u8], at: usize) -> u64
     requires { ⌜ at + 4 ≤ length (now s) ⌝ }
+    ensures { λ r. ⌜ (r ≡ le4 (now (s .entry)) at) × (r < 4294967296) ⌝ }
+{
+    wide(s[at]) + 0x100 * wide(s[at + 1]) + 0x10000 * wide(s[at + 2]) + 0x1000000 * wide(s[at + 3])
+}
+
+// Four bytes of which some may be past the end.
+fn quad_cut(s: &[u8], at: usize) -> u64
+    requires { ⌜ at < 9223372036854775816 ⌝ }
     ensures { λ r. ⌜ (r ≡ le4 (now (s .entry)) at) × (r < 4294967296) ⌝ }
 {
     byte_at(s, at)
         + 0x100 * byte_at(s, at + 1)
         + 0x10000 * byte_at(s, at + 2)
         + 0x1000000 * byte_at(s, at + 3)
-}
-
-pub fn u64_at(s: &[u8], at: usize) -> u64
-    requires { ⌜ at + 8 ≤ length (now s) ⌝ }
-    ensures { λ r. ⌜ r ≡ le8 (now (s .entry)) at ⌝ }
-{
-    u32_at(s, at) + 0x100000000 * u32_at(s, at + 4)
 }

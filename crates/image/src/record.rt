@@ -1,5 +1,10 @@
 // The records of an image, field by field as document 01 lists them in 'The sequence image'.
 
+use crate::little::byte_at;
+use crate::little::u64_at;
+ghost use mathlib.Core.Path.{_≡_};
+ghost use Rattle.image.specs.Record.{headerFrom};
+
 // The first twelve bytes: how the sequence is built, and where it is entered.
 pub struct Header {
     pub mode: u64,
@@ -57,4 +62,16 @@ pub struct Path {
 pub struct Step {
     pub code: u64,
     pub value: u64,
+}
+
+pub fn header_from(s: &[u8]) -> Header
+    ensures { λ r. ⌜ r ≡ headerFrom (now (s .entry)) ⌝ }
+{
+    let has_entry = byte_at(s, 3) == 1;
+    Header {
+        mode: byte_at(s, 1),
+        calls: byte_at(s, 2),
+        has_entry,
+        entry: u64_at(s, 4),
+    }
 }

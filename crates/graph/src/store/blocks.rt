@@ -7,7 +7,7 @@ use crate::store::rows_in;
 ghost use mathlib.Core.Path.{_≡_};
 ghost use Prim.Native.Nat.{_≤_};
 ghost use lib.ListN.{length};
-ghost use Rattle.graph.specs.Records.{block};
+ghost use Rattle.graph.specs.Graph.{block};
 ghost use Rattle.graph.specs.Words.{blockOf, heldIn};
 ghost use Rattle.graph.specs.Stored.{withBlock, Stored};
 

@@ -7,7 +7,7 @@ use crate::store::rows_in;
 ghost use mathlib.Core.Path.{_≡_};
 ghost use Prim.Native.Nat.{_≤_};
 ghost use lib.ListN.{length};
-ghost use Rattle.graph.specs.Records.{call};
+ghost use Rattle.graph.specs.Graph.{callSite};
 ghost use Rattle.graph.specs.Words.{callOf, heldIn};
 ghost use Rattle.graph.specs.Stored.{withCall, Stored};
 
@@ -26,7 +26,7 @@ pub fn call_count(g: &Words) -> usize
 
 // Number i of them, and zeros past the last.
 pub fn call_at(g: &Words, i: usize) -> CallSite
-    ensures { λ r. ⌜ r ≡ call (heldIn (now (g .entry)) .graph) i ⌝ }
+    ensures { λ r. ⌜ r ≡ callSite (heldIn (now (g .entry)) .graph) i ⌝ }
 {
     if i < rows_in(g, COUNT, MOST) {
         return read(row(g, BASE + 3 * i, 3));

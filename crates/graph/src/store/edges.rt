@@ -7,7 +7,7 @@ use crate::store::rows_in;
 ghost use mathlib.Core.Path.{_≡_};
 ghost use Prim.Native.Nat.{_≤_};
 ghost use lib.ListN.{length};
-ghost use Rattle.graph.specs.Records.{edge};
+ghost use Rattle.graph.specs.Graph.{edge};
 ghost use Rattle.graph.specs.Words.{edgeOf, heldIn};
 ghost use Rattle.graph.specs.Stored.{withEdge, Stored};
 

@@ -8,7 +8,7 @@ use borrow.Author.Tests.{not-true, not-false}
 use lib.Dec.{ltb}
 use lib.ListN.{getD}
 use Rattle.graph.specs.Fold.{all}
-use Rattle.graph.specs.WellFormed.{setBelow}
+use Rattle.graph.specs.WellFormed.{within}
 use Rattle.graph.proofs.FoldLaws.{all-more, all-fails}
 use Rattle.graph.proofs.blockset.all_below.Statement.{statement}
 use Rattle.graph.proofs.blockset.all_below.Tie as tie
@@ -24,7 +24,7 @@ unfolding all
 loop-holds c = (search needs, refl)
 
 returns : tie.Need-returns Inv-loop μ-loop
-unfolding setBelow
+unfolding within
 returns c =
     let a = c .before .before .before .before .before .args in
     sym (all-fails (λ (k : ℕ). ltb (getD (a .w .now) k 0) (2 ^ (a .n - 64 * k))) 16 (c .before .before .before .before .loop .i) (search needs) (sym (c .before .word-below .ensures) ∙ not-true _ (c .if1 .taken)))
@@ -36,7 +36,7 @@ loop-again c =
     (search needs, all-more (λ (k : ℕ). ltb (getD (a .w .now) k 0) (2 ^ (a .n - 64 * k))) (top .i) (top .inv .1) (sym (c .before .word-below .ensures) ∙ not-false _ (c .if1 .left)))
 
 returns-2 : tie.Need-returns-2 Inv-loop μ-loop
-unfolding setBelow
+unfolding within
 returns-2 c =
     let end = c .before .loop in
     let whole : end .i ≡ 16 = omega arith in

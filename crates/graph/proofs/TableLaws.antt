@@ -1,0 +1,95 @@
+-- The table: starts and positions.
+--     length-entries, entry-is        the entries of a list of instructions
+--     size-is, address-is             the same of the records in the bytes, and of what is read there
+--     start-at, start-none            where an instruction starts, and where none does
+--     below-at, below-most            the position of a start in a table that rises, and a bound
+--     Between, go-right, go-left      a search by halving: where the address can only stand
+-- Assumes nothing.
+use mathlib.Core.Bool.{Bool, true, false, _||_, or-true}
+use mathlib.Core.Path.{_≡_, refl, sym, ap, _∙_}
+use mathlib.Core.List.{List, [], _∷_, map}
+use Prim.Native.Nat.{ℕ, zero, suc, _+_, _<_, _≤_}
+use native.Mathlib.Decide.{decLt, ℕ-discrete}
+use native.Mathlib.Omega.{arith}
+use borrow.Author.Tests.{eq-eqb, ne-eqb, lt-ltb, le-ltb}
+use lib.Dec.{eqb, ltb}
+use lib.ListN.{length, getD, length-map, List·getD-map}
+use Rattle.image.specs.Record.{instructionFrom}
+use Rattle.image.specs.Image.{recordsIn}
+use Rattle.image.specs.declared.section.Section.{Section}
+use Rattle.image.proofs.Tables.{length-records}
+use Rattle.image.specs.declared.record.Instruction.{Instruction}
+use Rattle.graph.specs.declared.record.TableEntry.{TableEntry}
+use Rattle.graph.specs.Table.{entryAt, isStart, below}
+use Rattle.graph.specs.Transfer.{tableEntry, entriesOf}
+use Rattle.graph.specs.Lookup.{Rising}
+
+pub length-entries : (is : List Instruction) → length (entriesOf is) ≡ length is
+unfolding entriesOf
+length-entries is = length-map is tableEntry
+
+pub entry-is : (is : List Instruction) (p : ℕ) → entryAt (entriesOf is) p ≡ tableEntry (getD is p (instructionFrom [] 0))
+unfolding entryAt entriesOf tableEntry
+entry-is is p = List·getD-map tableEntry is p (instructionFrom [] 0)
+
+pub size-is : (l : List ℕ) (y : Section) → length (entriesOf (recordsIn instructionFrom l y)) ≡ y .count
+size-is l y = length-entries (recordsIn instructionFrom l y) ∙ length-records instructionFrom l y
+
+pub address-is : (is : List Instruction) (p : ℕ) (i : Instruction) → i ≡ getD is p (instructionFrom [] 0) → entryAt (entriesOf is) p .address ≡ i .address
+unfolding tableEntry
+address-is is p i e = ap (λ (x : TableEntry). x .address) (entry-is is p) ∙ ap (λ (x : Instruction). x .address) (sym e)
+
+pub start-at : (t : List TableEntry) (a k : ℕ) → k < length t → entryAt t k .address ≡ a → isStart t a ≡ true
+unfolding isStart entryAt
+start-at [] a k h e = absurd (omega arith)
+start-at (x ∷ t) a zero h e = rw (eq-eqb (x .address) a e)
+start-at (x ∷ t) a (suc k) h e = rw (start-at t a k (omega arith) e) (or-true (eqb (x .address) a))
+
+pub start-none : (t : List TableEntry) (a : ℕ) → ((k : ℕ) → k < length t → entryAt t k .address ≡ a → ⊥) → isStart t a ≡ false
+unfolding isStart entryAt
+start-none [] a h = refl
+start-none (x ∷ t) a h = rw (ne-eqb (x .address) a (h zero (omega arith))) (start-none t a (λ k lt e. h (suc k) (omega arith) e))
+
+below-none : (t : List TableEntry) (a : ℕ) → ((k : ℕ) → k < length t → a ≤ entryAt t k .address) → below t a ≡ 0
+unfolding below entryAt
+below-none [] a h = refl
+below-none (x ∷ t) a h = rw (le-ltb (x .address) a (h zero (omega arith))) (below-none t a (λ k lt. h (suc k) (omega arith)))
+
+pub below-at : (t : List TableEntry) → Rising t → (k : ℕ) → k < length t → below t (entryAt t k .address) ≡ k
+unfolding below entryAt
+below-at [] rising k h = absurd (omega arith)
+below-at (x ∷ t) rising zero h =
+    rw (le-ltb (x .address) (x .address) (omega arith))
+    (below-none t (x .address) (λ k lt. let r = rising zero (suc k) (omega arith) (omega arith) in omega arith))
+below-at (x ∷ t) rising (suc k) h =
+    rw (lt-ltb (x .address) (entryAt t k .address) (rising zero (suc k) (omega arith) h))
+    (ap suc (below-at t (λ i j lt hj. rising (suc i) (suc j) (omega arith) (omega arith)) k (omega arith)))
+
+pub below-most : (t : List TableEntry) (a : ℕ) → below t a ≤ length t
+unfolding below
+below-most [] a = omega arith
+below-most (x ∷ t) a = go (ltb (x .address) a) (below-most t a)
+  where
+    go : (b : Bool) → below t a ≤ length t → mathlib.Core.Bool.cond b (suc (below t a)) (below t a) ≤ suc (length t)
+    go true h = omega arith
+    go false h = omega arith
+
+-- wherever a stands in t, it stands from lo on and before hi
+abbrev pub Between : List TableEntry → ℕ → ℕ → ℕ → Type 0
+Between t a lo hi = (k : ℕ) → k < length t → entryAt t k .address ≡ a → (lo ≤ k) × (k < hi)
+
+module _ (t : List TableEntry) (rising : Rising t) where
+  -- of two places the lower address comes first
+  before : (i j : ℕ) → i < length t → entryAt t i .address < entryAt t j .address → i < j
+  before i j h lt =
+      elim (decLt i j) [
+        | yes a ↦ a
+        | no b ↦ elim (ℕ-discrete i j) [ yes e ↦ omega (arith, ap (λ (k : ℕ). entryAt t k .address) e) | no n ↦ omega (arith, rising j i (omega arith) h) ]
+      ]
+
+  module _ (a lo hi mid : ℕ) (left : Between t a lo hi) (h : mid < length t) where
+    pub go-right : entryAt t mid .address < a → Between t a (mid + 1) hi
+    go-right lt k hk e = (omega (arith, before mid k h (omega arith)), left k hk e .1)
+
+    pub go-left : a < entryAt t mid .address → Between t a lo mid
+    go-left lt k hk e = (left k hk e .0, before k mid hk (omega arith))

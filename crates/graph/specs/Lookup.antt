@@ -1,0 +1,17 @@
+-- What address look-up answers in a table whose addresses rise.
+use mathlib.Core.Bool.{true, false}
+use mathlib.Core.Path.{_≡_}
+use mathlib.Core.List.{List}
+use Prim.Native.Nat.{ℕ, _<_}
+use lib.ListN.{length}
+use Rattle.graph.specs.declared.record.TableEntry.{TableEntry}
+use Rattle.graph.specs.declared.lookup.Found.{Found}
+use Rattle.graph.specs.declared.lookup.Found.the-variants.{At, Nothing}
+use Rattle.graph.specs.Table.{entryAt, isStart, below}
+
+abbrev pub Rising : List TableEntry → Type 0
+Rising t = (i j : ℕ) → i < j → j < length t → entryAt t i .address < entryAt t j .address
+
+abbrev pub Finds : List TableEntry → ℕ → Found → Type 0
+Finds t a (At k) = (isStart t a ≡ true) × (below t a ≡ k) × (k < length t)
+Finds t a Nothing = isStart t a ≡ false

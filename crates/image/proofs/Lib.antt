@@ -1,0 +1,5 @@
+pub mod Past
+pub mod Checks
+pub mod Tables
+pub mod Sections
+pub mod Accepted

@@ -1,0 +1,68 @@
+-- Section by section, each where the one before ends. Assumes nothing.
+use mathlib.Core.Path.{ap, _∙_}
+use Rattle.image.specs.declared.form.Kind.the-variants.{Routes, Paths}
+use Rattle.image.specs.declared.read.Pair.{Pair}
+use Rattle.image.specs.Read.{routesForm, routeLayoutAt, endOf, sectionAt}
+use Rattle.image.proofs.Sections.{section-ends}
+use native.Mathlib.Omega.{arith}
+use borrow.Author.Needs.{needs}
+use Rattle.image.proofs.read.read_route_sections.Statement.{statement}
+use Rattle.image.proofs.read.read_route_sections.Tie as tie
+
+read-pair-requires : tie.Need-read-pair-requires
+read-pair-requires c κs = search needs
+
+enum-known-e : tie.Need-enum-known-e
+enum-known-e c = search needs
+
+returns : tie.Need-returns
+unfolding routesForm
+returns c = rw (rw (c .before .e .given .1) at (c .before .before .before .read-pair .ensures))
+
+enum-known-pair : tie.Need-enum-known-pair
+enum-known-pair c = search needs
+
+end-of-requires : tie.Need-end-of-requires
+end-of-requires c κs = search needs
+
+read-section-requires : tie.Need-read-section-requires
+read-section-requires c κs =
+    let a = c .before .before .before .before .before .before .before .before .args in
+    let l = a .s .now in
+    let first = rw (c .before .before .before .before .pair .given .1) at (c .before .before .before .before .before .before .read-pair .ensures) in
+    omega (arith, c .end-of .ensures ∙ ap (λ (p : Pair). endOf (p .children)) (first .1), section-ends Routes l (a .at), section-ends Paths l (endOf (sectionAt Routes l (a .at))))
+
+enum-known-e-2 : tie.Need-enum-known-e-2
+enum-known-e-2 c = search needs
+
+enum-known-section : tie.Need-enum-known-section
+enum-known-section c = search needs
+
+returns-2 : tie.Need-returns-2
+unfolding routesForm
+returns-2 c =
+    let first = rw (c .before .before .before .before .before .before .before .before .pair .given .1) at (c .before .before .before .before .before .before .before .before .before .before .read-pair .ensures) in
+    let second = rw (c .before .e2 .given .1, c .before .before .before .before .end-of .ensures, first .1) at (c .before .before .before .read-section .ensures) in
+    rw (first .0, second)
+
+returns-3 : tie.Need-returns-3
+unfolding routesForm routeLayoutAt
+returns-3 c =
+    let first = rw (c .before .before .before .before .before .before .before .before .pair .given .1) at (c .before .before .before .before .before .before .before .before .before .before .read-pair .ensures) in
+    let second = rw (c .before .section .given .1, c .before .before .before .before .end-of .ensures, first .1) at (c .before .before .before .read-section .ensures) in
+    (rw (first .0, second .0), rw (first .1, second .1))
+
+pub read-route-sections-spec : {M : Type 1} → statement M
+read-route-sections-spec =
+    tie.close
+    (tie.spec
+    read-pair-requires
+    enum-known-e
+    returns
+    enum-known-pair
+    end-of-requires
+    read-section-requires
+    enum-known-e-2
+    enum-known-section
+    returns-2
+    returns-3)

@@ -1,0 +1,230 @@
+// Record i of a section, straight from the bytes. Past the section's end it is the record of zeros.
+use crate::little::byte_at;
+use crate::little::u32_at;
+use crate::little::u64_at;
+use crate::record::Case;
+use crate::record::GivenEdge;
+use crate::record::GivenSource;
+use crate::record::Handler;
+use crate::record::Instruction;
+use crate::record::Path;
+use crate::record::Route;
+use crate::record::Step;
+use crate::section::Section;
+use crate::section::place;
+ghost use mathlib.Core.List.{[]};
+ghost use mathlib.Core.Path.{_≡_};
+ghost use Prim.Native.Nat.{_≤_};
+ghost use lib.ListN.{getD};
+ghost use Rattle.image.specs.Record.{instructionFrom, caseFrom, sourceFrom, edgeFrom, handlerFrom, routeFrom, pathFrom, stepFrom};
+ghost use Rattle.image.specs.Image.{recordsIn};
+
+pub fn instruction_at(s: &[u8], y: Section, i: usize) -> Instruction
+    ensures { λ r. ⌜ r ≡ getD (recordsIn instructionFrom (now (s .entry)) y) i (instructionFrom [] 0) ⌝ }
+{
+    let count = y.count as usize;
+    if i < count {
+        instruction_from(s, place(y, i))
+    } else {
+        Instruction {
+            address: 0,
+            end: 0,
+            has_end: false,
+            keeps: false,
+            flow: 0,
+            target: 0,
+            cases: 0,
+        }
+    }
+}
+
+pub fn case_at(s: &[u8], y: Section, i: usize) -> Case
+    ensures { λ r. ⌜ r ≡ getD (recordsIn caseFrom (now (s .entry)) y) i (caseFrom [] 0) ⌝ }
+{
+    let count = y.count as usize;
+    if i < count {
+        case_from(s, place(y, i))
+    } else {
+        Case { key: 0, target: 0 }
+    }
+}
+
+pub fn source_at(s: &[u8], y: Section, i: usize) -> GivenSource
+    ensures { λ r. ⌜ r ≡ getD (recordsIn sourceFrom (now (s .entry)) y) i (sourceFrom [] 0) ⌝ }
+{
+    let count = y.count as usize;
+    if i < count {
+        source_from(s, place(y, i))
+    } else {
+        GivenSource {
+            address: 0,
+            edges: 0,
+        }
+    }
+}
+
+pub fn edge_at(s: &[u8], y: Section, i: usize) -> GivenEdge
+    ensures { λ r. ⌜ r ≡ getD (recordsIn edgeFrom (now (s .entry)) y) i (edgeFrom [] 0) ⌝ }
+{
+    let count = y.count as usize;
+    if i < count {
+        edge_from(s, place(y, i))
+    } else {
+        GivenEdge {
+            target: 0,
+            kind: 0,
+            payload: 0,
+        }
+    }
+}
+
+pub fn handler_at(s: &[u8], y: Section, i: usize) -> Handler
+    ensures { λ r. ⌜ r ≡ getD (recordsIn handlerFrom (now (s .entry)) y) i (handlerFrom [] 0) ⌝ }
+{
+    let count = y.count as usize;
+    if i < count {
+        handler_from(s, place(y, i))
+    } else {
+        Handler {
+            start: 0,
+            end: 0,
+            entry: 0,
+            kind: 0,
+            filter: 0,
+        }
+    }
+}
+
+pub fn route_at(s: &[u8], y: Section, i: usize) -> Route
+    ensures { λ r. ⌜ r ≡ getD (recordsIn routeFrom (now (s .entry)) y) i (routeFrom [] 0) ⌝ }
+{
+    let count = y.count as usize;
+    if i < count {
+        route_from(s, place(y, i))
+    } else {
+        Route {
+            start: 0,
+            end: 0,
+            paths: 0,
+        }
+    }
+}
+
+pub fn path_at(s: &[u8], y: Section, i: usize) -> Path
+    ensures { λ r. ⌜ r ≡ getD (recordsIn pathFrom (now (s .entry)) y) i (pathFrom [] 0) ⌝ }
+{
+    let count = y.count as usize;
+    if i < count {
+        path_from(s, place(y, i))
+    } else {
+        Path {
+            end: 0,
+            handler: 0,
+            steps: 0,
+        }
+    }
+}
+
+pub fn step_at(s: &[u8], y: Section, i: usize) -> Step
+    ensures { λ r. ⌜ r ≡ getD (recordsIn stepFrom (now (s .entry)) y) i (stepFrom [] 0) ⌝ }
+{
+    let count = y.count as usize;
+    if i < count {
+        step_from(s, place(y, i))
+    } else {
+        Step { code: 0, value: 0 }
+    }
+}
+
+fn instruction_from(s: &[u8], at: usize) -> Instruction
+    requires { ⌜ at ≤ 18446744069414584320 ⌝ }
+    ensures { λ r. ⌜ r ≡ instructionFrom (now (s .entry)) at ⌝ }
+{
+    let has_end = byte_at(s, at + 16) == 1;
+    let keeps = byte_at(s, at + 17) == 1;
+    Instruction {
+        address: u64_at(s, at),
+        end: u64_at(s, at + 8),
+        has_end,
+        keeps,
+        flow: byte_at(s, at + 18),
+        target: u64_at(s, at + 19),
+        cases: u32_at(s, at + 27) as usize,
+    }
+}
+
+fn case_from(s: &[u8], at: usize) -> Case
+    requires { ⌜ at ≤ 18446744069414584320 ⌝ }
+    ensures { λ r. ⌜ r ≡ caseFrom (now (s .entry)) at ⌝ }
+{
+    Case {
+        key: u32_at(s, at),
+        target: u64_at(s, at + 4),
+    }
+}
+
+fn source_from(s: &[u8], at: usize) -> GivenSource
+    requires { ⌜ at ≤ 18446744069414584320 ⌝ }
+    ensures { λ r. ⌜ r ≡ sourceFrom (now (s .entry)) at ⌝ }
+{
+    GivenSource {
+        address: u64_at(s, at),
+        edges: u32_at(s, at + 8) as usize,
+    }
+}
+
+fn edge_from(s: &[u8], at: usize) -> GivenEdge
+    requires { ⌜ at ≤ 18446744069414584320 ⌝ }
+    ensures { λ r. ⌜ r ≡ edgeFrom (now (s .entry)) at ⌝ }
+{
+    GivenEdge {
+        target: u64_at(s, at),
+        kind: byte_at(s, at + 8),
+        payload: u32_at(s, at + 9),
+    }
+}
+
+fn handler_from(s: &[u8], at: usize) -> Handler
+    requires { ⌜ at ≤ 18446744069414584320 ⌝ }
+    ensures { λ r. ⌜ r ≡ handlerFrom (now (s .entry)) at ⌝ }
+{
+    Handler {
+        start: u64_at(s, at),
+        end: u64_at(s, at + 8),
+        entry: u64_at(s, at + 16),
+        kind: byte_at(s, at + 24),
+        filter: u32_at(s, at + 25),
+    }
+}
+
+fn route_from(s: &[u8], at: usize) -> Route
+    requires { ⌜ at ≤ 18446744069414584320 ⌝ }
+    ensures { λ r. ⌜ r ≡ routeFrom (now (s .entry)) at ⌝ }
+{
+    Route {
+        start: u64_at(s, at),
+        end: u64_at(s, at + 8),
+        paths: u32_at(s, at + 16) as usize,
+    }
+}
+
+fn path_from(s: &[u8], at: usize) -> Path
+    requires { ⌜ at ≤ 18446744069414584320 ⌝ }
+    ensures { λ r. ⌜ r ≡ pathFrom (now (s .entry)) at ⌝ }
+{
+    Path {
+        end: byte_at(s, at),
+        handler: u64_at(s, at + 1),
+        steps: u32_at(s, at + 9) as usize,
+    }
+}
+
+fn step_from(s: &[u8], at: usize) -> Step
+    requires { ⌜ at ≤ 18446744069414584320 ⌝ }
+    ensures { λ r. ⌜ r ≡ stepFrom (now (s .entry)) at ⌝ }
+{
+    Step {
+        code: byte_at(s, at),
+        value: u64_at(s, at + 1),
+    }
+}

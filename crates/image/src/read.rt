@@ -1,0 +1,167 @@
+// The readers: a sequence image, or the routes for a later call.
+//
+// Nothing is copied: the answer is where the sections stand, or the refusal.
+use crate::form::ImageError;
+use crate::form::Kind;
+use crate::form::Verdict;
+use crate::form::header_form;
+use crate::record::header_from;
+use crate::scan::ReadSection;
+use crate::scan::Sum;
+use crate::scan::read_section;
+use crate::section::CodeLayout;
+use crate::section::Layout;
+use crate::section::RouteLayout;
+use crate::section::Section;
+use crate::section::end_of;
+ghost use mathlib.Core.Path.{_≡_};
+ghost use Prim.Native.Nat.{_<_};
+ghost use Rattle.image.specs.Read.{readImage, readRoutes};
+ghost use Rattle.image.specs.Scanned.{PairRead, CodeRead, RoutesRead, imageAnswer, routesAnswer};
+
+// A section, that of its children, and how many children those have.
+pub struct Pair {
+    pub parents: Section,
+    pub children: Section,
+    pub grandchildren: u64,
+}
+
+pub enum ReadPair {
+    Read(Pair),
+    Refused(ImageError),
+}
+
+pub enum ReadCode {
+    Read(CodeLayout),
+    Refused(ImageError),
+}
+
+pub enum ReadRoutes {
+    Read(RouteLayout),
+    Refused(ImageError),
+}
+
+pub enum ReadImage {
+    Read(Layout),
+    Refused(ImageError),
+}
+
+pub fn read_image(s: &[u8]) -> ReadImage
+    ensures { λ r. ⌜ imageAnswer (now (s .entry)) r ≡ readImage (now (s .entry)) ⌝ }
+{
+    if let Verdict::Refused(e) = header_form(s) {
+        return ReadImage::Refused(e);
+    }
+    let header = header_from(s);
+    let mode = header.mode;
+    let code = match read_code(s, mode == 2) {
+        ReadCode::Refused(e) => return ReadImage::Refused(e),
+        ReadCode::Read(layout) => layout,
+    };
+    let routes = match read_route_sections(s, end_of(code.handlers), mode != 0) {
+        ReadRoutes::Refused(e) => return ReadImage::Refused(e),
+        ReadRoutes::Read(layout) => layout,
+    };
+    let end = end_of(routes.steps);
+    if end < s.len() {
+        return ReadImage::Refused(ImageError::BadForm { offset: end });
+    }
+    ReadImage::Read(Layout {
+        header,
+        code,
+        routes,
+    })
+}
+
+pub fn read_routes(s: &[u8]) -> ReadRoutes
+    ensures { λ r. ⌜ routesAnswer (now (s .entry)) r ≡ readRoutes (now (s .entry)) ⌝ }
+{
+    let routes = match read_route_sections(s, 0, true) {
+        ReadRoutes::Refused(e) => return ReadRoutes::Refused(e),
+        ReadRoutes::Read(layout) => layout,
+    };
+    let end = end_of(routes.steps);
+    if end < s.len() {
+        return ReadRoutes::Refused(ImageError::BadForm { offset: end });
+    }
+    ReadRoutes::Read(routes)
+}
+
+// The sections from the instructions to the handlers.
+fn read_code(s: &[u8], given: bool) -> ReadCode
+    ensures { λ r. ⌜ CodeRead (now (s .entry)) given r ⌝ }
+{
+    let first = match read_pair(Kind::Instructions, Kind::Cases, s, 12, true) {
+        ReadPair::Refused(e) => return ReadCode::Refused(e),
+        ReadPair::Read(pair) => pair,
+    };
+    let instructions = first.parents;
+    let cases = first.children;
+    let second = match read_pair(Kind::Sources, Kind::Edges, s, end_of(cases), given) {
+        ReadPair::Refused(e) => return ReadCode::Refused(e),
+        ReadPair::Read(pair) => pair,
+    };
+    let sources = second.parents;
+    let edges = second.children;
+    match read_section(Kind::Handlers, s, end_of(edges), true, Sum::Free) {
+        ReadSection::Refused(e) => ReadCode::Refused(e),
+        ReadSection::Read {
+            section,
+            children: _,
+        } => ReadCode::Read(CodeLayout {
+            instructions,
+            cases,
+            sources,
+            edges,
+            handlers: section,
+        }),
+    }
+}
+
+// The three sections of routes, the last of an image.
+fn read_route_sections(s: &[u8], at: usize, used: bool) -> ReadRoutes
+    requires { ⌜ at < 8388608 ⌝ }
+    ensures { λ r. ⌜ RoutesRead (now (s .entry)) at used r ⌝ }
+{
+    let pair = match read_pair(Kind::Routes, Kind::Paths, s, at, used) {
+        ReadPair::Refused(e) => return ReadRoutes::Refused(e),
+        ReadPair::Read(pair) => pair,
+    };
+    let routes = pair.parents;
+    let paths = pair.children;
+    let sum = Sum::Exactly(pair.grandchildren);
+    match read_section(Kind::Steps, s, end_of(paths), used, sum) {
+        ReadSection::Refused(e) => ReadRoutes::Refused(e),
+        ReadSection::Read {
+            section,
+            children: _,
+        } => ReadRoutes::Read(RouteLayout {
+            routes,
+            paths,
+            steps: section,
+        }),
+    }
+}
+
+// A section and, behind it, that of its children.
+fn read_pair(parent: Kind, child: Kind, s: &[u8], at: usize, used: bool) -> ReadPair
+    requires { ⌜ at < 12582912 ⌝ }
+    ensures { λ r. ⌜ PairRead parent child (now (s .entry)) at used r ⌝ }
+{
+    match read_section(parent, s, at, used, Sum::Free) {
+        ReadSection::Refused(e) => ReadPair::Refused(e),
+        ReadSection::Read { section, children } => {
+            match read_section(child, s, end_of(section), used, Sum::Exactly(children)) {
+                ReadSection::Refused(e) => ReadPair::Refused(e),
+                ReadSection::Read {
+                    section: inner,
+                    children: grandchildren,
+                } => ReadPair::Read(Pair {
+                    parents: section,
+                    children: inner,
+                    grandchildren,
+                }),
+            }
+        }
+    }
+}

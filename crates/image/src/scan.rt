@@ -1,0 +1,144 @@
+// The sections: a count, then the records, each of which is looked at once.
+use crate::form::ImageError;
+use crate::form::Kind;
+use crate::form::Verdict;
+use crate::form::check_used4;
+use crate::form::record_form;
+use crate::little::u32_at;
+use crate::section::Section;
+ghost use mathlib.Core.Path.{_≡_};
+ghost use Prim.Native.Nat.{_+_, _*_, _≤_, _<_};
+ghost use Rattle.image.specs.Verdict.{checkOf};
+ghost use Rattle.image.specs.Read.{widthOf, limitOf, childrenAt, adds, countForm};
+ghost use Rattle.image.specs.Scanned.{Scanned, SectionRead};
+
+// What a section's count has to be: as many as its parents' children are, or free.
+pub enum Sum {
+    Free,
+    Exactly(u64),
+}
+
+// The children of the records that were scanned, or the first refusal.
+pub enum Scan {
+    Children(u64),
+    Refused(ImageError),
+}
+
+pub enum ReadSection {
+    Read { section: Section, children: u64 },
+    Refused(ImageError),
+}
+
+fn width_of(kind: Kind) -> usize
+    ensures { λ r. ⌜ (r ≡ widthOf kind) × (9 ≤ r) × (r ≤ 31) ⌝ }
+{
+    match kind {
+        Kind::Instructions => 31,
+        Kind::Cases => 12,
+        Kind::Sources => 12,
+        Kind::Edges => 13,
+        Kind::Handlers => 29,
+        Kind::Routes => 20,
+        Kind::Paths => 13,
+        Kind::Steps => 9,
+    }
+}
+
+fn limit_of(kind: Kind) -> u64
+    ensures { λ r. ⌜ (r ≡ limitOf kind) × (r ≤ 512) ⌝ }
+{
+    match kind {
+        Kind::Instructions => 512,
+        Kind::Cases => 512,
+        Kind::Sources => 512,
+        Kind::Edges => 512,
+        Kind::Handlers => 32,
+        Kind::Routes => 32,
+        Kind::Paths => 128,
+        Kind::Steps => 512,
+    }
+}
+
+fn children_at(kind: Kind, s: &[u8], at: usize) -> u64
+    requires { ⌜ at < 2147483648 ⌝ }
+    ensures { λ r. ⌜ (r ≡ childrenAt kind (now (s .entry)) at) × (r < 4294967296) ⌝ }
+{
+    match kind {
+        Kind::Instructions => u32_at(s, at + 27),
+        Kind::Cases => 0,
+        Kind::Sources => u32_at(s, at + 8),
+        Kind::Edges => 0,
+        Kind::Handlers => 0,
+        Kind::Routes => u32_at(s, at + 16),
+        Kind::Paths => u32_at(s, at + 9),
+        Kind::Steps => 0,
+    }
+}
+
+fn adds_up(sum: Sum, count: u64) -> bool
+    ensures { λ r. ⌜ r ≡ adds sum count ⌝ }
+{
+    match sum {
+        Sum::Free => true,
+        Sum::Exactly(children) => children == count,
+    }
+}
+
+// The count of a section.
+fn count_form(kind: Kind, s: &[u8], at: usize, used: bool, sum: Sum) -> Verdict
+    requires { ⌜ at < 16777216 ⌝ }
+    ensures { λ r. ⌜ checkOf r ≡ countForm kind (now (s .entry)) at used sum ⌝ }
+{
+    let v = check_used4(Verdict::Clear, s, at, used);
+    let Verdict::Clear = v else {
+        return v;
+    };
+    let count = u32_at(s, at);
+    if limit_of(kind) < count {
+        return Verdict::Refused(ImageError::OverLimit { offset: at });
+    }
+    if adds_up(sum, count) {
+        v
+    } else {
+        Verdict::Refused(ImageError::BadForm { offset: at })
+    }
+}
+
+// The n records from `base` on.
+fn scan_records(kind: Kind, s: &[u8], base: usize, n: usize) -> Scan
+    requires { ⌜ (4 ≤ base) × (base < 1073741824) × (n ≤ 512) ⌝ }
+    ensures { λ r. ⌜ Scanned kind (now (s .entry)) base n r ⌝ }
+{
+    let width = width_of(kind);
+    let mut at = base;
+    let mut children: u64 = 0;
+    for i in 0..n {
+        if let Verdict::Refused(e) = record_form(kind, s, at, i == 0) {
+            return Scan::Refused(e);
+        }
+        children += children_at(kind, s, at);
+        at += width;
+    }
+    Scan::Children(children)
+}
+
+// The section whose count stands at `at`, if it is used, with as many records as the sum says.
+pub fn read_section(kind: Kind, s: &[u8], at: usize, used: bool, sum: Sum) -> ReadSection
+    requires { ⌜ at < 16777216 ⌝ }
+    ensures { λ r. ⌜ SectionRead kind (now (s .entry)) at used sum r ⌝ }
+{
+    if let Verdict::Refused(e) = count_form(kind, s, at, used, sum) {
+        return ReadSection::Refused(e);
+    }
+    let count = u32_at(s, at);
+    let children = match scan_records(kind, s, at + 4, count as usize) {
+        Scan::Refused(e) => return ReadSection::Refused(e),
+        Scan::Children(children) => children,
+    };
+    let section = Section {
+        at: (at + 4) as u32,
+        width: width_of(kind) as u32,
+        count: count as u32,
+    };
+    ReadSection::Read { section, children }
+}

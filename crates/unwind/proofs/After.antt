@@ -1,0 +1,239 @@
+-- The graph after the addition: its blocks, its edges, and what they lead to.
+--     built-up, built-down         the built blocks are the same afterwards
+--     old-block, image-block       the block at an old number, and where an instance has a block
+--     Edges, edges-split           an edge afterwards is an old one, a clone's, or a new unwind edge
+--     out-forth, out-back          the ordinary edges out of an instance are those of the part, moved
+use mathlib.Core.Path.{_≡_, refl, sym, _∙_, ap, subst}
+use mathlib.Core.Logic.{_⊎_, inl, inr}
+use mathlib.Core.Bool.{Bool, true, false, cond, _||_}
+use mathlib.Core.List.{List, [], _∷_, _++_, map, List·Memᴰ, List·Memᴰ·head, List·Memᴰ·tail, List·Memᴰ·append-cases, List·Memᴰ·eq-of-singleton, Memᴰ·append-left, Memᴰ·append-right, Memᴰ·cast}
+use mathlib.Core.Option.{Option, none, some}
+use Prim.Native.Nat.{ℕ, zero, suc, _+_, _-_, _≤_, _<_}
+use native.Mathlib.Omega.{arith}
+use native.Mathlib.Decide.{decLt}
+use borrow.Author.Tests.{eq-eqb, eqb-true, ltb-true}
+use lib.Dec.{eqb, ltb}
+use lib.ListN.{length, getD, length-append, List·getD-append}
+use lib.Seq.{getD-append-add}
+use Rattle.image.specs.Deal.{UnwindRoute}
+use Rattle.graph.specs.declared.record.Block.{Block}
+use Rattle.graph.specs.declared.record.Edge.{Edge}
+use Rattle.graph.specs.Graph.{Graph, block as blockAt}
+use Rattle.graph.specs.Fold.{flat, sum}
+use Rattle.graph.specs.Flow.{Kind}
+use Rattle.graph.specs.WellFormed.{filled, isBuilt}
+use Rattle.unwind.specs.Lists.{joined, rank}
+use Rattle.unwind.specs.Blocks.{firstOf, lastOf}
+use Rattle.unwind.specs.Part.{funclets, outgoing}
+use Rattle.unwind.specs.Trie.{Node}
+use Rattle.unwind.specs.Instance.{blocksOf, later, copied, base, place, moved, cloneBlocks, cloneEdge, cloneEdges}
+use Rattle.unwind.specs.Ways.{HopEnd, block, leave, Leap, leap, Way, wanted, routeEdge, edgeTo, routeEdges}
+use Rattle.unwind.specs.Add.{extended}
+use Rattle.unwind.specs.Walk.{_∈_, Built}
+use Rattle.unwind.proofs.Lists.{at, none-in, or-either, mem-keep, keep-mem, mem-joined, joined-mem, mem-map, map-mem, mem-flat, flat-mem, at-map, at-getD, at-rank, at-flat}
+use Rattle.unwind.proofs.Sound.{Sound}
+use Rattle.unwind.proofs.Instance.{first-or-later, blocks-lt, place-first, place-later, copied-later, mem-copied, place-apart, clone-owner, later-above, moved-first}
+
+-- ---- built blocks
+
+sum-same : (f f′ : ℕ → ℕ) (n : ℕ) → ((i : ℕ) → i < n → f i ≡ f′ i) → sum f n ≡ sum f′ n
+unfolding sum
+sum-same f f′ zero same = refl
+sum-same f f′ (suc n) same = omega (arith, sum-same f f′ n (λ i h. same i (omega arith)), same n (omega arith))
+
+sum-le : (f : ℕ → ℕ) (m n : ℕ) → m ≤ n → sum f m ≤ sum f n
+unfolding sum
+sum-le f m zero h = let e : m ≡ 0 = omega arith in rw e (omega arith)
+sum-le f m (suc n) h = go (decLt n m) (λ (k : m ≤ n). sum-le f m n k)
+  where
+    go : Dec (n < m) → (m ≤ n → sum f m ≤ sum f n) → sum f m ≤ sum f n + f n
+    go (yes k) below = let e : m ≡ suc n = omega arith in rw e (omega arith)
+    go (no k) below = omega (arith, below (omega arith))
+
+filled-le : (g : Graph) (m n : ℕ) → m ≤ n → filled g m ≤ filled g n
+unfolding filled
+filled-le g m n h = sum-le (λ (a : ℕ). blockAt g a .count) m n h
+
+module _ (g : Graph) (bs : List Block) (es : List Edge) where
+  pub old-block : (b : ℕ) → b < length (g .blocks) → blockAt (extended g bs es) b ≡ blockAt g b
+  unfolding extended
+  old-block b h = List·getD-append (g .blocks) bs _ b h
+
+  filled-after : (b : ℕ) → b ≤ length (g .blocks) → filled (extended g bs es) b ≡ filled g b
+  unfolding filled
+  filled-after b h = sum-same (λ (a : ℕ). blockAt (extended g bs es) a .count) (λ (a : ℕ). blockAt g a .count) b (λ a k. ap (λ (x : Block). x .count) (old-block a (omega arith)))
+
+  same-built : (b : ℕ) → b < length (g .blocks) → isBuilt (extended g bs es) b ≡ isBuilt g b
+  unfolding isBuilt extended
+  same-built b h = ap (λ (k : ℕ). eqb b 0 || ltb k (length (g .table))) (filled-after b (omega arith))
+
+  -- the built blocks are the same afterwards
+  pub built-up : (b : ℕ) → Built g b → Built (extended g bs es) b
+  unfolding extended
+  built-up b x =
+      let h : b < length (g .blocks) = x .exists in
+      record { exists = omega (arith, length-append (g .blocks) bs); original = same-built b h ∙ x .original }
+
+  pub built-down : Sound g → (b : ℕ) → Built (extended g bs es) b → Built g b
+  unfolding isBuilt extended
+  built-down s b x = go (decLt b (length (g .blocks)))
+    where
+      out : (length (g .blocks) ≤ b) → (eqb b 0 ≡ true) ⊎ (ltb (filled (extended g bs es) b) (length (g .table)) ≡ true) → ⊥
+      out h (inl e) = omega (arith, eqb-true b 0 e, s .some-block)
+      out h (inr e) =
+          omega (
+            arith,
+            ltb-true (filled (extended g bs es) b) (length (g .table)) e,
+            s .covered,
+            filled-le (extended g bs es) (length (g .blocks)) b h,
+            filled-after (length (g .blocks)) (omega arith),
+          )
+
+      go : Dec (b < length (g .blocks)) → Built g b
+      go (yes h) = record { exists = h; original = sym (same-built b h) ∙ x .original }
+      go (no h) = absurd (out (omega arith) (or-either (eqb b 0) _ (x .original)))
+
+  pub same-first : (b c : ℕ) → blockAt (extended g bs es) b ≡ blockAt g c → firstOf (extended g bs es) b ≡ firstOf g c
+  unfolding firstOf extended
+  same-first b c e = rw e
+
+  pub same-last : (b c : ℕ) → blockAt (extended g bs es) b ≡ blockAt g c → lastOf (extended g bs es) b ≡ lastOf g c
+  unfolding lastOf extended
+  same-last b c e = rw e
+
+-- ---- the new edges
+
+edge-unwinds : (g : Graph) (seen : List Leap) (w : Way) (h : HopEnd) (d : Edge) → d ∈ edgeTo g seen w h → d .kind ≡ Kind.exceptionUnwind
+unfolding edgeTo routeEdge
+edge-unwinds g seen w leave d m = absurd (none-in m)
+edge-unwinds g seen w (block t) d m = go (wanted (w .source) t seen) m
+  where
+    go : (x : Bool) → d ∈ cond x [] (routeEdge g (w .route) (w .source) t ∷ []) → d .kind ≡ Kind.exceptionUnwind
+    go true k = absurd (none-in k)
+    go false k = ap (λ (y : Edge). y .kind) (List·Memᴰ·eq-of-singleton k)
+
+pub new-unwinds : (g : Graph) (seen : List Leap) (ws : List Way) (d : Edge) → d ∈ routeEdges g seen ws → d .kind ≡ Kind.exceptionUnwind
+unfolding routeEdges
+new-unwinds g seen [] d m = absurd (none-in m)
+new-unwinds g seen (w ∷ ws) d m = go (List·Memᴰ·append-cases (edgeTo g seen w (w .end)) m) (new-unwinds g (leap w ∷ seen) ws d)
+  where
+    go : (d ∈ edgeTo g seen w (w .end)) ⊎ (d ∈ routeEdges g (leap w ∷ seen) ws) → (d ∈ routeEdges g (leap w ∷ seen) ws → d .kind ≡ Kind.exceptionUnwind) → d .kind ≡ Kind.exceptionUnwind
+    go (inl k) below = edge-unwinds g seen w (w .end) d k
+    go (inr k) below = below k
+
+-- ---- blocks and edges of instances
+
+-- the graph before, the routes, the nodes, and new edges that are all unwind edges
+module _ (g : Graph) (rs : List UnwindRoute) (z : List Node) (new : List Edge) (unwinds : (d : Edge) → d ∈ new → d .kind ≡ Kind.exceptionUnwind) (sound : Sound g) where
+  abbrev fs : List ℕ
+  fs = funclets rs
+
+  -- the graph after
+  abbrev pub after : Graph
+  after = extended g (cloneBlocks g fs z) (cloneEdges g fs z ++ new)
+
+  copy-block : (i b : ℕ) → i < length z → b ∈ blocksOf g fs z i → later g fs z i ≡ true → blockAt after (base g fs z i + rank b (blocksOf g fs z i)) ≡ blockAt g b
+  unfolding extended cloneBlocks base
+  copy-block i b h m l =
+      let r : ℕ = rank b (blocksOf g fs z i) in
+      let before : ℕ = length (flat (copied g fs z) i) in
+      let here : at (copied g fs z i) r ≡ some b = ap (λ (x : List ℕ). at x r) (copied-later g rs z i l) ∙ at-rank m in
+      let sum : length (g .blocks) + before + r ≡ length (g .blocks) + (before + r) = omega arith in
+      let bs : List Block = map (blockAt g) (flat (copied g fs z) (length z)) in
+      ap (λ (k : ℕ). getD (g .blocks ++ bs) k (record { first = 0; count = 0 })) sum
+      ∙ getD-append-add (g .blocks) bs (before + r) (record { first = 0; count = 0 })
+      ∙ at-getD bs (before + r) (record { first = 0; count = 0 })
+      (at-map (blockAt g) (flat (copied g fs z) (length z)) (before + r) (at-flat (copied g fs z) (length z) i r h here))
+
+  pub image-block : (i b : ℕ) → i < length z → b ∈ blocksOf g fs z i → blockAt after (place g fs z i b) ≡ blockAt g b
+  image-block i b h m = go (first-or-later g rs z i)
+    where
+      go : (later g fs z i ≡ true) ⊎ (later g fs z i ≡ false) → blockAt after (place g fs z i b) ≡ blockAt g b
+      go (inl l) = ap (blockAt after) (place-later g rs z i b l) ∙ copy-block i b h m l
+      go (inr l) = ap (blockAt after) (place-first g rs z i b l) ∙ old-block g (cloneBlocks g fs z) (cloneEdges g fs z ++ new) b (blocks-lt g rs z i b m)
+
+  -- an edge of the graph after
+  pub data Kin (d : Edge) : Type 0 where
+    old : d ∈ g .edges → Kin d
+    clone : (i b : ℕ) (d₀ : Edge) → i < length z → later g fs z i ≡ true → b ∈ blocksOf g fs z i → d₀ ∈ g .edges → d₀ .source ≡ b → d ≡ cloneEdge g fs z i d₀ → Kin d
+    unwind : d .kind ≡ Kind.exceptionUnwind → Kin d
+
+  abbrev copies : ℕ → List Edge
+  copies i = joined (λ b. map (cloneEdge g fs z i) (outgoing g b)) (copied g fs z i)
+
+  kin : (d : Edge) → d ∈ after .edges → Kin d
+  unfolding extended cloneEdges outgoing
+  kin d m = sort (List·Memᴰ·append-cases (g .edges) m)
+    where
+      cloned : d ∈ cloneEdges g fs z → Kin d
+      cloned k =
+          let x = flat-mem copies (length z) k in
+          let y = joined-mem (λ (b : ℕ). map (cloneEdge g fs z (x .0)) (outgoing g b)) (copied g fs z (x .0)) (x .2) in
+          let c = mem-copied g rs z (x .0) (y .0) (y .1) in
+          let e = map-mem (cloneEdge g fs z (x .0)) (outgoing g (y .0)) (y .2) in
+          let o = keep-mem (λ (d : Edge). eqb (d .source) (y .0)) (g .edges) (e .1) in
+          clone (x .0) (y .0) (e .0) (x .1) (c .0) (c .1) (o .0) (eqb-true _ _ (o .1)) (e .2)
+
+      sort′ : (d ∈ cloneEdges g fs z) ⊎ (d ∈ new) → Kin d
+      sort′ (inl k) = cloned k
+      sort′ (inr k) = unwind (unwinds d k)
+
+      sort : (d ∈ g .edges) ⊎ (d ∈ cloneEdges g fs z ++ new) → Kin d
+      sort (inl k) = old k
+      sort (inr k) = sort′ (List·Memᴰ·append-cases (cloneEdges g fs z) k)
+
+  -- an edge out of an instance's block that is no new unwind edge is one out of the block itself, moved
+  pub record Moves (i b : ℕ) (d d₀ : Edge) : Type 0 where
+    pub stood : d₀ ∈ g .edges
+    pub from : d₀ .source ≡ b
+    pub kind : d .kind ≡ d₀ .kind
+    pub to : d .target ≡ moved g fs z i (d₀ .target)
+
+  pub out-forth : (i b : ℕ) → b ∈ blocksOf g fs z i → (d : Edge) → d ∈ after .edges → d .source ≡ place g fs z i b
+      → (d .kind ≡ Kind.exceptionUnwind → ⊥) → (d₀ : Edge) × Moves i b d d₀
+  unfolding cloneEdge
+  out-forth i b m d there s n = go (kin d there) (first-or-later g rs z i)
+    where
+      go : Kin d → (later g fs z i ≡ true) ⊎ (later g fs z i ≡ false) → (d₀ : Edge) × Moves i b d d₀
+      go (unwind k) l = absurd (n k)
+      go (old k) (inl l) = absurd (omega (arith, s, sound .sources d k, later-above g rs z i b l))
+      go (old k) (inr l) = (d, record { stood = k; from = s ∙ place-first g rs z i b l; kind = refl; to = sym (moved-first g rs z i (d .target) l) })
+      go (clone j c d₀ h l k there₀ from₀ e) l′ =
+          let at-j : place g fs z j c ≡ place g fs z i b = ap (place g fs z j) (sym from₀) ∙ sym (ap (λ (y : Edge). y .source) e) ∙ s in
+          let same : j ≡ i = clone-owner g rs z j i c b l k m at-j in
+          let k′ : c ∈ blocksOf g fs z i = subst (λ (x : ℕ). c ∈ blocksOf g fs z x) same k in
+          let c-is : c ≡ b = place-apart g rs z i c b k′ m (ap (λ (x : ℕ). place g fs z x c) (sym same) ∙ at-j) in (
+            d₀,
+            record {
+              stood = there₀;
+              from = from₀ ∙ c-is;
+              kind = ap (λ (y : Edge). y .kind) e;
+              to = ap (λ (y : Edge). y .target) e ∙ ap (λ (x : ℕ). moved g fs z x (d₀ .target)) same;
+            },
+          )
+
+  pub record Stands (i b : ℕ) (d d₀ : Edge) : Type 0 where
+    pub there : d ∈ after .edges
+    pub from : d .source ≡ place g fs z i b
+    pub kind : d .kind ≡ d₀ .kind
+    pub to : d .target ≡ moved g fs z i (d₀ .target)
+
+  pub out-back : (i b : ℕ) → i < length z → b ∈ blocksOf g fs z i → (d₀ : Edge) → d₀ ∈ g .edges → d₀ .source ≡ b → (d : Edge) × Stands i b d d₀
+  unfolding extended cloneEdges cloneEdge outgoing
+  out-back i b h m d₀ k s = go (first-or-later g rs z i)
+    where
+      go : (later g fs z i ≡ true) ⊎ (later g fs z i ≡ false) → (d : Edge) × Stands i b d d₀
+      go (inr l) =
+          (d₀, record { there = Memᴰ·append-left _ k; from = s ∙ sym (place-first g rs z i b l); kind = refl; to = sym (moved-first g rs z i (d₀ .target) l) })
+      go (inl l) =
+          let c : b ∈ copied g fs z i = subst (λ (x : List ℕ). b ∈ x) (sym (copied-later g rs z i l)) m in
+          let o : d₀ ∈ outgoing g b = mem-keep (λ (d : Edge). eqb (d .source) b) k (eq-eqb _ b s) in
+          let e : cloneEdge g fs z i d₀ ∈ copies i = mem-joined (λ (b : ℕ). map (cloneEdge g fs z i) (outgoing g b)) c (mem-map (cloneEdge g fs z i) o) in (
+            cloneEdge g fs z i d₀,
+            record {
+              there = Memᴰ·append-right (g .edges) (Memᴰ·append-left new (mem-flat copies (length z) i h e));
+              from = ap (place g fs z i) s;
+              kind = refl;
+              to = refl;
+            },
+          )

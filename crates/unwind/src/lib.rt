@@ -1,0 +1,1 @@
+// The unwinding: what an addition of routes gives (specs), and why its hops spell the listed paths (proofs).

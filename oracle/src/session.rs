@@ -1,0 +1,184 @@
+//! One graph of the published Rust: built from an image, then added to.
+
+use cfglib::builder::address::{
+    build_address_cfg, build_address_cfg_from_given_edges, build_address_cfg_with_routes,
+    AddressGraph, HopEnd, UnwindHop,
+};
+use cfglib::cfg::Cfg;
+
+use crate::contents::{
+    Block, Call, Contents, Edge, Hop, Payload, Reference, Region, RegionHandler, Row, Unresolved,
+};
+use crate::image::{Handler, Image, Instruction, Refusal, Route};
+use crate::published::{self, Operation};
+
+/// The limits of a graph after an addition (18 to 20) and a build (19).
+pub mod limit {
+    pub const BLOCKS: usize = 1024;
+    pub const EDGES: usize = 4096;
+    pub const HOPS: usize = 2048;
+    pub const CALL_LISTS: usize = 4096;
+}
+
+/// A graph of the published Rust with what of the image it leaves out: the
+/// table and the handlers' ranges.
+pub struct Session {
+    graph: AddressGraph<Operation, Payload>,
+    instructions: Vec<Instruction>,
+    handlers: Vec<Handler>,
+}
+
+impl Session {
+    /// The build alone, without the addition of the image's routes: refusals 3
+    /// to 16, and 19.
+    pub fn build(image: &Image) -> Result<Self, Refusal> {
+        let operations = published::operations(image);
+        let handlers = published::handlers(image);
+        let routes = published::routes(&image.routes);
+        let options = published::options(image);
+        let payload = published::payload;
+        let built = match image.mode {
+            0 => build_address_cfg(operations, &handlers, options, payload),
+            1 => build_address_cfg_with_routes(operations, &handlers, &routes, options, payload),
+            _ => build_address_cfg_from_given_edges(
+                operations,
+                published::given(image),
+                &handlers,
+                &routes,
+                options,
+                payload,
+            ),
+        };
+        let graph = built.map_err(published::refusal)?;
+        if graph.cfg.edge_count() > limit::EDGES {
+            return Err(Refusal::new(19, 0, 0));
+        }
+        Ok(Self {
+            graph,
+            instructions: image.instructions.clone(),
+            handlers: image.handlers.clone(),
+        })
+    }
+
+    /// Adds routes: refusals 10 to 12, 14, 15, 17, then 18 to 20 on the whole
+    /// result. A refused addition leaves the graph as it was.
+    pub fn add(&mut self, routes: &[Route]) -> Result<Vec<Hop>, Refusal> {
+        let before = self.graph.cfg.clone();
+        let routes = published::routes(routes);
+        let hops = self
+            .graph
+            .add_unwind_routes(&routes, published::payload)
+            .map_err(published::refusal)?;
+        if let Some(number) = excess(&self.graph.cfg, &hops) {
+            self.graph.cfg = before;
+            return Err(Refusal::new(number, 0, 0));
+        }
+        Ok(hops.into_iter().map(hop).collect())
+    }
+
+    /// All that the graph holds.
+    pub fn contents(&self) -> Contents {
+        let cfg = &self.graph.cfg;
+        Contents {
+            table: self.instructions.iter().map(row).collect(),
+            entry: cfg.entry().index(),
+            blocks: cfg.blocks().map(|block| run(block.instructions())).collect(),
+            edges: cfg
+                .edges()
+                .map(|edge| Edge {
+                    source: edge.source().index(),
+                    target: edge.target().index(),
+                    kind: published::kind_number(edge.data().kind()),
+                    payload: *edge.data().payload(),
+                })
+                .collect(),
+            regions: self.regions(),
+            references: self.references(),
+            unresolved: self
+                .graph
+                .unresolved_transfers
+                .iter()
+                .map(|record| {
+                    let (role, case) = published::unresolved_role(record.role);
+                    Unresolved { source: record.source, target: record.target, role, case }
+                })
+                .collect(),
+            calls: self
+                .graph
+                .calls
+                .iter()
+                .map(|call| Call { source: call.source, target: call.target })
+                .collect(),
+        }
+    }
+
+    fn references(&self) -> Vec<Reference> {
+        let references = self.graph.handler_refs.iter();
+        references
+            .map(|one| Reference { region: one.region().index(), place: one.index() })
+            .collect()
+    }
+
+    /// The regions. The published Rust keeps no range of a region: it is that
+    /// of any of its handlers.
+    fn regions(&self) -> Vec<Region> {
+        let ranges = self.references().into_iter().zip(&self.handlers);
+        let mut ranges: Vec<_> =
+            ranges.map(|(one, handler)| (one.region, handler.start, handler.end)).collect();
+        ranges.sort_unstable();
+        ranges.dedup();
+        let regions = self.graph.cfg.regions().iter().zip(ranges);
+        regions
+            .map(|(region, (_, start, end))| Region {
+                parent: region.parent.map(|parent| parent.index()),
+                start,
+                end,
+                protected: region.protected_blocks.iter().map(|block| block.index()).collect(),
+                handlers: region.handlers.iter().map(region_handler).collect(),
+            })
+            .collect()
+    }
+}
+
+/// The first of 18 to 20 that the result of an addition calls for.
+fn excess(cfg: &Cfg<Operation, Payload>, hops: &[UnwindHop]) -> Option<u8> {
+    let lists: usize = hops.iter().map(|hop| hop.calls.len()).sum();
+    if cfg.block_count() > limit::BLOCKS {
+        Some(18)
+    } else if cfg.edge_count() > limit::EDGES {
+        Some(19)
+    } else if hops.len() > limit::HOPS || lists > limit::CALL_LISTS {
+        Some(20)
+    } else {
+        None
+    }
+}
+
+fn hop(hop: UnwindHop) -> Hop {
+    Hop {
+        source: hop.source.index(),
+        end: match hop.end {
+            HopEnd::Block(block) => Some(block.index()),
+            HopEnd::Leave => None,
+        },
+        lists: hop.calls,
+    }
+}
+
+fn row(instruction: &Instruction) -> Row {
+    Row {
+        address: instruction.address,
+        end: instruction.end.expect("a built table has every end"),
+        keeps: instruction.keeps,
+        flow: instruction.flow,
+    }
+}
+
+fn run(operations: &[Operation]) -> Block {
+    Block { first: operations.first().map_or(0, |first| first.position), count: operations.len() }
+}
+
+fn region_handler(handler: &cfglib::region::Handler) -> RegionHandler {
+    let (kind, filter) = published::handler_kind(handler.kind);
+    RegionHandler { entry: handler.entry.index(), kind, filter }
+}
