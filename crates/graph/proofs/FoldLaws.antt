@@ -1,16 +1,15 @@
 -- Lists and tests by counting.
---     length-table, getD-table      f 0, f 1, .. below n: how many, and which stands at i
---     table-same                   the list hangs on f below n alone
---     all-at, all-more, all-fails  what holds of each number holds of one; one number more; one of which it does not hold
---     count-same                   the count hangs on f below n alone
---     count-front, count-add       the first number apart, and the first m
---     count-one                    f holds of one number more
---     count-le                     there are n at most
+--     length-table, getD-table        f 0, f 1, .. below n: how many, and which stands at i
+--     table-same                      the list hangs on f below n alone
+--     all-at, all-more, all-fails     what holds of each number holds of one; one number more; one of which it does not hold
+--     count-same                      the count hangs on f below n alone
+--     count-add                       the first m numbers apart
+--     count-one, count-le             f holds of one number more; of n at most
 -- Assumes nothing.
-use mathlib.Core.Path.{_≡_, refl, sym, ap, _∙_}
+use mathlib.Core.Path.{_≡_, refl, _∙_}
 use mathlib.Core.Bool.{Bool, true, false, _&&_, and-false}
 use mathlib.Core.Logic.{_⊎_, inl, inr, ⊎-elim}
-use mathlib.Core.List.{List, [], _∷_, _++_}
+use mathlib.Core.List.{[], _∷_}
 use Prim.Native.Nat.{ℕ, zero, suc, _+_, _≤_, _<_}
 use native.Mathlib.Nat.{add-zero, add-suc, eq-or-lt-of-le, le-of-suc-le-suc, not-suc-le-zero}
 use native.Mathlib.Numerals.{add-one}

@@ -1,7 +1,7 @@
 -- The search for the reached blocks: what its steps keep. Only the contracts of `reach` cite this file; what the search
 -- finds is said by `Finds`, with the definition of Reached.
 use mathlib.Core.Path.{_≡_}
-use mathlib.Core.Bool.{Bool, true, cond}
+use mathlib.Core.Bool.{true, cond}
 use mathlib.Core.List.{List, [], _∷_}
 use Prim.Native.Nat.{ℕ, suc, _+_, _-_, _*_, _≤_, _<_}
 use lib.Dec.{eqb}
