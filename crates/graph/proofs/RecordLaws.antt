@@ -5,7 +5,7 @@
 --     X-added     the graph with a row more is the graph with the record more
 -- for X of entry, block, edge, region, handler, unresolved, call.
 -- Assumes nothing.
-use mathlib.Core.Path.{_≡_, refl, sym, ap, _∙_}
+use mathlib.Core.Path.{_≡_, sym, ap, _∙_}
 use mathlib.Core.List.{List, [], _∷_}
 use Prim.Native.Nat.{ℕ, zero, suc, _+_, _*_, _<_, _≤_}
 use native.Mathlib.Numerals.{towards-suc}

@@ -5,22 +5,20 @@
 --     works-start, turn-works, turn-less, finds      the worklist
 -- Assumes nothing.
 use mathlib.Core.Path.{_≡_, refl, sym, ap, _∙_}
-use mathlib.Core.Bool.{Bool, true, false, cond, _&&_, _||_, not, or-true, true≢false, false≢true}
+use mathlib.Core.Bool.{Bool, true, false, _&&_, _||_, not, or-true, true≢false, false≢true}
 use mathlib.Core.Logic.{_⊎_, inl, inr, ⊎-elim}
-use mathlib.Core.List.{List, [], _∷_}
-use Prim.Native.Nat.{ℕ, zero, suc, _+_, _-_, _*_, _≤_, _<_}
+use mathlib.Core.List.{List, []}
+use Prim.Native.Nat.{ℕ, zero, suc, _+_, _-_, _≤_, _<_}
 use native.Mathlib.Nat.{not-suc-le-zero}
 use native.Mathlib.Decide.{ℕ-discrete, decLt}
 use native.Mathlib.Omega.{arith}
 use borrow.Author.Tests.{eq-eqb, ne-eqb, ltb-true}
 use lib.Dec.{T, eqb, ltb, ltb→lt}
-use lib.ListN.{length, getD, set, drop, length-set, drop-of-length-le, replicate, getD-replicate}
+use lib.ListN.{length, getD, set, length-set, drop-of-length-le, replicate, getD-replicate}
 use lib.Seq.{drop-cons, getD-set-same, getD-set-other}
-use Rattle.graph.specs.Graph.{Graph}
-use Rattle.graph.specs.Fold.{all}
-use Rattle.graph.specs.Records.{edge}
+use Rattle.graph.specs.Graph.{Graph, edge}
 use Rattle.graph.specs.Words.{edgeOf}
-use Rattle.graph.specs.BlockSet.{member, none, including, excluding, sizeOf}
+use Rattle.graph.specs.BlockSet.{member, none, including, excluding}
 use Rattle.graph.specs.WellFormed.{isBlock, edgeEndsExist}
 use Rattle.graph.specs.Reached.{Reached, start, step}
 use Rattle.graph.specs.Search.{In, Finds, Ends, linkIn, link, Linked, Works, left, Followed, Follows, seeing}

@@ -11,8 +11,8 @@ use crate::store::edges::edge_at;
 use crate::store::edges::edge_count;
 use crate::store::entry;
 ghost use mathlib.Core.Path.{_≡_};
-ghost use Prim.Native.Nat.{ℕ, _<_};
-ghost use lib.ListN.{length, getD, replicate};
+ghost use Prim.Native.Nat.{_<_};
+ghost use lib.ListN.{length, replicate};
 ghost use Rattle.graph.specs.Words.{heldIn};
 ghost use Rattle.graph.specs.Search.{Finds, Ends, Linked, Roomy, Follows, seeing};
 
