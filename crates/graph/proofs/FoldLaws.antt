@@ -2,8 +2,8 @@
 --     length-table, getD-table      f 0, f 1, .. below n: how many, and which stands at i
 --     table-same                   the list hangs on f below n alone
 --     all-at, all-more, all-fails  what holds of each number holds of one; one number more; one of which it does not hold
---     some-same, some-more, some-at    it hangs on f below n alone; one number more; f holds of one number
---     some-none, some-where        of no number, and of which
+--     some-same, some-more         it hangs on f below n alone; one number more
+--     some-at, some-where, some-none     it holds of some number if of one, of which one, and of none
 --     flat-none, flat-one          lists of which none or one is not empty
 --     count-same                   the count hangs on f below n alone
 --     count-front, count-add       the first number apart, and the first m
@@ -82,19 +82,18 @@ unfolding some
 some-same f g zero same = refl
 some-same f g (suc n) same = rw (some-same f g n (λ i h. same i (omega arith)), same n (omega arith))
 
-module _ (f : ℕ → Bool) where
-  pub some-more : (n : ℕ) → some f n ≡ false → f n ≡ false → some f (n + 1) ≡ false
-  unfolding some
-  some-more n none out = rw (add-one, none) out
+pub some-more : (f : ℕ → Bool) (n : ℕ) → some f n ≡ false → f n ≡ false → some f (n + 1) ≡ false
+unfolding some
+some-more f n none out = rw (add-one, none) out
 
-  pub some-at : (n i : ℕ) → i < n → f i ≡ true → some f n ≡ true
-  unfolding some
-  some-at zero i h e = absurd (not-suc-le-zero h)
-  some-at (suc n) i h e =
-      ⊎-elim
-      (λ same. rw (rw same at e) (or-true (some f n)))
-      (λ lt. rw (some-at n i lt e))
-      (eq-or-lt-of-le (le-of-suc-le-suc h))
+pub some-at : (f : ℕ → Bool) (n i : ℕ) → i < n → f i ≡ true → some f n ≡ true
+unfolding some
+some-at f zero i h e = absurd (not-suc-le-zero h)
+some-at f (suc n) i h e =
+    ⊎-elim
+    (λ same. rw (rw same at e) (or-true (some f n)))
+    (λ lt. rw (some-at f n i lt e))
+    (eq-or-lt-of-le (le-of-suc-le-suc h))
 
 pub some-none : (f : ℕ → Bool) (n : ℕ) → some f n ≡ false → (i : ℕ) → i < n → f i ≡ false
 some-none f n none i h = ⊎-elim (λ e. absurd (false≢true (sym none ∙ some-at f n i h e))) (λ e. e) (decided (f i))

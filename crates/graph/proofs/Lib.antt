@@ -9,7 +9,9 @@ pub mod Bit
 pub mod BlockLaws
 pub mod Rule21
 pub mod TableLaws
+pub mod CursorLaws
 pub mod CheckLaws
 pub mod RangeLaws
 pub mod RouteLaws
-pub mod CursorLaws
+pub mod TransferLaws
+pub mod SearchLaws

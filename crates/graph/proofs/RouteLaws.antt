@@ -4,10 +4,11 @@
 --     path-is, steps-of, step-of, steps-in      the same of a path's steps
 --     paths-next, steps-next                    where the children of the next one start
 --     resumes-late, path-resumes, path-goes-on  15, path by path and step by step
---     entries-of, path-entries                  14, path by path and step by step
+--     route-check                               10 to 12, 15 and 14, path by path
+--     path-entries                              14 of a path, step by step
 --     step-names, step-calls                    14 of a step; end-names, end-leaves: of an end
 -- Assumes nothing.
-use mathlib.Core.Bool.{Bool, true, false, cond, _||_}
+use mathlib.Core.Bool.{Bool, true, false, cond, not, _||_}
 use mathlib.Core.Path.{_≡_, refl, sym, ap, _∙_}
 use mathlib.Core.List.{List, [], _∷_, _++_, map}
 use Prim.Native.Nat.{ℕ, zero, suc, _+_, _<_, _≤_}
@@ -19,7 +20,7 @@ use lib.Dec.{eqb}
 use lib.ListN.{length, getD, length-map}
 use Rattle.image.specs.Record.{routeFrom, pathFrom, stepFrom}
 use Rattle.image.specs.Image.{RouteImage}
-use Rattle.image.specs.Refusal.{Check, clear, refused, _then_}
+use Rattle.image.specs.Refusal.{Check, clear, refused, refusal, _then_, unless}
 use Rattle.image.specs.Deal.{total, deal, UnwindStep, funclet, call, UnwindEnd, handler, propagate, resume, UnwindPath, UnwindRoute, stepOf, endOf, pathsOf, routesOf}
 use Rattle.image.specs.Accepted.{AcceptedRoutes}
 use Rattle.image.specs.declared.record.Route.{Route}
@@ -28,7 +29,8 @@ use Rattle.image.specs.declared.record.Step.{Step}
 use Rattle.image.proofs.Deals.{length-zip, zip-at, length-deal, dealt-at, dealt-in, length-dealt}
 use Rattle.graph.specs.declared.record.TableEntry.{TableEntry}
 use Rattle.graph.specs.Fold.{flat, some, checks, checkEach}
-use Rattle.graph.specs.Route.{routeAt, pathAt, funcletOf, funclets, resumesAfter, resumesLate, handlerOf, entries, pathsBefore, stepsBefore, pathIn}
+use Rattle.graph.specs.Table.{rangeCheck}
+use Rattle.graph.specs.Route.{routeAt, pathAt, funcletOf, funclets, resumesAfter, resumesLate, handlerOf, entries, routeCheck, pathsBefore, stepsBefore, pathIn}
 use Rattle.graph.specs.Ranges.{namedCheck, pathCheck}
 use Rattle.graph.proofs.FoldLaws.{some-same}
 use Rattle.graph.proofs.CheckLaws.{checks-same, each-append, each-flat}
@@ -165,9 +167,13 @@ module _ (m : RouteImage) where
       unfolding resumesLate
       resumes-late = rw paths-of (some-same _ _ (route r .paths) (λ k hk. ap (λ (x : UnwindPath). resumesAfter (funclets x) (x .end)) (path-of k hk)))
 
-      pub entries-of : (t : List TableEntry) → checkEach (namedCheck t) (entries (routeAt (routesOf m) r)) ≡ checks (λ (k : ℕ). pathCheck t (pathIn m (pathsBefore m r + k))) (route r .paths)
+      entries-of : (t : List TableEntry) → checkEach (namedCheck t) (entries (routeAt (routesOf m) r)) ≡ checks (λ (k : ℕ). pathCheck t (pathIn m (pathsBefore m r + k))) (route r .paths)
       unfolding entries
       entries-of t = each-flat _ _ _ ∙ rw paths-of (checks-same _ _ (route r .paths) (λ k hk. ap (pathCheck t) (path-of k hk)))
+
+      pub route-check : (t : List TableEntry) → routeCheck t (routesOf m) r ≡ (rangeCheck t (route r .start) (route r .end) then unless (not (resumesLate (routeAt (routesOf m) r))) (refusal 15 r 0) then checks (λ (k : ℕ). pathCheck t (pathIn m (pathsBefore m r + k))) (route r .paths))
+      unfolding routeCheck
+      route-check t = rw (ap (λ (x : UnwindRoute). x .start) (route-is r h), ap (λ (x : UnwindRoute). x .end) (route-is r h), entries-of t)
 
     module _ (p : ℕ) (h : p < length (m .paths)) where
       dealt : length (getD dealtSteps p []) ≡ path p .steps

@@ -12,6 +12,7 @@ ghost use Rattle.image.specs.Accepted.{AcceptedRoutes};
 ghost use Rattle.graph.specs.Route.{routeAt, resumesLate, pathsBefore, stepsBefore};
 
 const RESUME: u64 = 2;
+
 const FUNCLET: u64 = 0;
 
 // Whether some path of route r, whose paths start at `path` and their steps at `step`, resumes after a funclet.

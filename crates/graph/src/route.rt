@@ -31,6 +31,7 @@ ghost use Rattle.graph.specs.Build.{tableCheck};
 ghost use Rattle.graph.specs.Ranges.{Enters, namedCheck, pathCheck};
 
 const HANDLER: u64 = 0;
+
 const FUNCLET: u64 = 0;
 
 // The step that comes next, or the refusal.
@@ -61,7 +62,15 @@ pub fn check_routes(s: &[u8], y: Layout, code_end: u64) -> Checked
 }
 
 // Route r, whose paths start at `path` and their steps at `step`.
-fn check_route(s: &[u8], t: Section, y: RouteLayout, code_end: u64, r: usize, path: usize, step: usize) -> Entered
+fn check_route(
+    s: &[u8],
+    t: Section,
+    y: RouteLayout,
+    code_end: u64,
+    r: usize,
+    path: usize,
+    step: usize,
+) -> Entered
     requires { ⌜ (AcceptedRoutes (routesIn (now s) y)) × (tableCheck (entriesOf (recordsIn instructionFrom (now s) t)) ≡ clear) × («code_end» ≡ codeEnd (entriesOf (recordsIn instructionFrom (now s) t))) × (r < length (routesIn (now s) y .routes)) × (path ≡ pathsBefore (routesIn (now s) y) r) × (step ≡ stepsBefore (routesIn (now s) y) path) ⌝ }
     ensures { λ e. ⌜ Enters (routeCheck (entriesOf (recordsIn instructionFrom (now (s .entry)) t)) (routesOf (routesIn (now (s .entry)) y)) r) (stepsBefore (routesIn (now (s .entry)) y) (pathsBefore (routesIn (now (s .entry)) y) (r + 1))) e ⌝ }
 {
@@ -78,7 +87,14 @@ fn check_route(s: &[u8], t: Section, y: RouteLayout, code_end: u64, r: usize, pa
 }
 
 // The entries of the n paths from `path` on, whose steps start at `step`.
-fn check_entries(s: &[u8], t: Section, y: RouteLayout, path: usize, n: usize, step: usize) -> Entered
+fn check_entries(
+    s: &[u8],
+    t: Section,
+    y: RouteLayout,
+    path: usize,
+    n: usize,
+    step: usize,
+) -> Entered
     requires { ⌜ (AcceptedRoutes (routesIn (now s) y)) × Rising (entriesOf (recordsIn instructionFrom (now s) t)) × (path + n ≤ length (routesIn (now s) y .paths)) × (step ≡ stepsBefore (routesIn (now s) y) path) ⌝ }
     ensures { λ e. ⌜ Enters (checks (λ k. pathCheck (entriesOf (recordsIn instructionFrom (now (s .entry)) t)) (pathIn (routesIn (now (s .entry)) y) (path + k))) n) (stepsBefore (routesIn (now (s .entry)) y) (path + n)) e ⌝ }
 {

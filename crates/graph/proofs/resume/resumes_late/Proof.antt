@@ -111,11 +111,11 @@ paths-again c =
       omega (arith, ap (stepsBefore m) on, steps-next m (a .path + top .k), top .inv .1, ap (λ (x : Path). x .steps) read),
       ⊎-elim (λ w. w .3 ∙ w .1 .inv .1) (λ w. w .1 ∙ top .inv .2) (c .if1 .came),
       some-more _ (top .k) (top .inv .3)
-      (⊎-elim
-      (λ w. let all : w .1 .j ≡ getD (m .paths) (a .path + top .k) (pathFrom [] 0) .steps = omega (arith, ap (λ (x : Path). x .steps) read) in
-      path-resumes m (p .0) (a .path + top .k) within (ap (λ (x : Path). x .end) (sym read) ∙ w .0 .taken) ∙ (rw (top .inv .1, all) at (w .1 .inv .2)))
-      (λ w. path-goes-on m (p .0) (a .path + top .k) within (λ e. w .0 .left (ap (λ (x : Path). x .end) read ∙ e)))
-      (c .if1 .came)),
+          (⊎-elim
+          (λ w. let all : w .1 .j ≡ getD (m .paths) (a .path + top .k) (pathFrom [] 0) .steps = omega (arith, ap (λ (x : Path). x .steps) read) in
+          path-resumes m (p .0) (a .path + top .k) within (ap (λ (x : Path). x .end) (sym read) ∙ w .0 .taken) ∙ (rw (top .inv .1, all) at (w .1 .inv .2)))
+          (λ w. path-goes-on m (p .0) (a .path + top .k) within (λ e. w .0 .left (ap (λ (x : Path). x .end) read ∙ e)))
+          (c .if1 .came)),
     )
 
 returns : tie.Need-returns Inv-loop μ-loop Inv-paths μ-paths

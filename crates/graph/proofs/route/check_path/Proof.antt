@@ -87,11 +87,11 @@ loop-again c =
     let top = c .before .before .before .before .loop in
     let step = c .before .before .step-at in
     let here =
-      rw (step .ensures) at
-      (⊎-elim {C = stepCheck t (step .result) ≡ clear}
-      (λ w. step-names t (step .result) (w .0 .taken) ∙ sym (w .1 .ensures) ∙ ap checkOf (w .3 .given .1))
-      (λ w. step-calls t (step .result) (w .left))
-      (c .if1 .came)) in
+    rw (step .ensures) at
+    (⊎-elim {C = stepCheck t (step .result) ≡ clear}
+    (λ w. step-names t (step .result) (w .0 .taken) ∙ sym (w .1 .ensures) ∙ ap checkOf (w .3 .given .1))
+    (λ w. step-calls t (step .result) (w .left))
+    (c .if1 .came)) in
     (search needs, checks-more _ (top .j) (top .inv .1) ∙ here)
 
 check-entry-requires-2 : tie.Need-check-entry-requires-2 Inv-loop μ-loop
@@ -124,14 +124,14 @@ returns-3 c =
     let t = entriesOf (recordsIn instructionFrom (start .args .s .now) (start .args .t)) in
     let path = c .before .before .before .before .path-at in
     let here =
-      rw (path .ensures) at
-      (⊎-elim {C = endCheck t (path .result) ≡ clear}
-      (λ w. end-names t (path .result) (w .0 .taken) ∙ sym (w .1 .ensures) ∙ ap checkOf (w .3 .given .1))
-      (λ w. end-leaves t (path .result) (w .left))
-      (c .if2 .came)) in (
+    rw (path .ensures) at
+    (⊎-elim {C = endCheck t (path .result) ≡ clear}
+    (λ w. end-names t (path .result) (w .0 .taken) ∙ sym (w .1 .ensures) ∙ ap checkOf (w .3 .given .1))
+    (λ w. end-leaves t (path .result) (w .left))
+    (c .if2 .came)) in (
       path-entries m (start .pre .0) (start .args .p) (start .pre .2) t
-      ∙ ap (λ (x : Check). x then endCheck t (getD (m .paths) (start .args .p) (pathFrom [] 0))) (passed (c .before .before))
-      ∙ here,
+          ∙ ap (λ (x : Check). x then endCheck t (getD (m .paths) (start .args .p) (pathFrom [] 0))) (passed (c .before .before))
+          ∙ here,
       omega (arith, steps-next m (start .args .p), start .pre .3, ap (λ (x : Path). x .steps) (path .ensures)),
     )
 
