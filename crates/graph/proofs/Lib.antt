@@ -15,3 +15,4 @@ pub mod RangeLaws
 pub mod RouteLaws
 pub mod TransferLaws
 pub mod SearchLaws
+pub mod GivenLaws
