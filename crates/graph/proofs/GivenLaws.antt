@@ -1,9 +1,10 @@
--- The checks 5, 8 and 9, as the code makes them.
+-- The checks 5 and 7 to 9, as the code makes them.
 --     order-at                                    an instruction behind the first
 --     visit-within, visit-edges, visit-flow       one for which edges are given, and one that leads as its flow says
 --     not-given                                   in the other modes nothing is refused
+--     sourced                                     what 1 to 5 and 7 leave
 -- Assumes nothing.
-use mathlib.Core.Bool.{true, false, cond, _||_}
+use mathlib.Core.Bool.{true, _||_}
 use mathlib.Core.Path.{_≡_, refl, sym, ap, _∙_}
 use mathlib.Core.List.{List, []}
 use Prim.Native.Nat.{ℕ, zero, suc, _+_, _-_, _<_, _≤_}
@@ -15,17 +16,19 @@ use Rattle.image.specs.Refusal.{clear, refusal, unless}
 use Rattle.image.specs.Record.{edgeFrom}
 use Rattle.image.specs.Image.{Image}
 use Rattle.image.specs.Accepted.{Accepted}
+use Rattle.image.proofs.Checks.{unless-clear}
 use Rattle.graph.specs.declared.record.TableEntry.{TableEntry}
 use Rattle.graph.specs.declared.cursor.Cursor.{Cursor}
 use Rattle.graph.specs.declared.cursor.Visit.{Visit}
 use Rattle.graph.specs.declared.cursor.Given.the-variants.{Edges, Flow as ByFlow}
 use Rattle.graph.specs.Fold.{some, checks}
 use Rattle.graph.specs.Flow.{Flow, isCall}
-use Rattle.graph.specs.Table.{entryAt}
-use Rattle.graph.specs.Transfer.{tableOf, size, instructionAt, addressAt, isGiven, givenAt, given}
+use Rattle.graph.specs.Table.{entryAt, isStart}
+use Rattle.graph.specs.Transfer.{tableOf, size, addressAt, sourceAt, isGiven, givenAt}
 use Rattle.graph.specs.Cursor.{Sourced, cursorAt, givenFor, visitAt}
-use Rattle.graph.specs.Build.{orderCheck, givenMode, targetCheck, givenCheck}
-use Rattle.graph.proofs.CheckLaws.{checks-same, checks-clear}
+use Rattle.graph.specs.Build.{orderCheck, tableCheck, sourceCheck, givenMode, targetCheck, givenCheck}
+use Rattle.graph.proofs.CheckLaws.{checks-same, checks-clear, checks-at}
+use Rattle.graph.proofs.RangeLaws.{rising}
 use Rattle.graph.proofs.CursorLaws.{leads-edges, leads-flow, edges-within, edge-is}
 
 pub order-at : (t : List TableEntry) (p : ℕ) → (p ≡ 0 → ⊥)
@@ -61,3 +64,12 @@ unfolding givenCheck givenMode isGiven some
 not-given m h mode n =
     let none : m .sources ≡ [] = h .not-given (omega (arith, h .modes)) in
     checks-clear (givenCheck m) n (λ p hp. rw (none, ne-eqb (m .header .mode) 2 mode))
+
+pub sourced : (m : Image) → Accepted m → tableCheck (tableOf m) ≡ clear → checks (sourceCheck m) (length (m .sources)) ≡ clear → Sourced m
+unfolding sourceCheck
+sourced m h table sources =
+    record {
+      accepted = h;
+      rising = rising (tableOf m) table;
+      starts = λ s hs. unless-clear (isStart (tableOf m) (sourceAt m s .address)) _ (checks-at (sourceCheck m) (length (m .sources)) s sources hs);
+    }

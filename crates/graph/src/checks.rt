@@ -31,7 +31,7 @@ ghost use Rattle.graph.specs.Flow.{Flow, isCall};
 ghost use Rattle.graph.specs.Lookup.{Rising};
 ghost use Rattle.graph.specs.Transfer.{entriesOf, tableOf, size};
 ghost use Rattle.graph.specs.Cursor.{Sourced, cursorAt, visitAt};
-ghost use Rattle.graph.specs.Build.{orderCheck, instructionCheck, tableCheck, entryCheck, sourceCheck, givenMode, targetCheck, givenCheck};
+ghost use Rattle.graph.specs.Build.{orderCheck, instructionCheck, tableCheck, entryCheck, sourceCheck, targetCheck, givenCheck};
 
 // The first refusal among those of the instructions: its end, its size, its order.
 pub fn check_table(s: &[u8], y: Section) -> Checked

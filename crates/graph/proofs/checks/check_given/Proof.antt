@@ -1,6 +1,6 @@
 -- The invariant: the cursor stands at its position, and the positions before it are clear. Assumes nothing.
-use mathlib.Core.Path.{_≡_, refl, sym, ap, _∙_}
-use Prim.Native.Nat.{_-_, _+_, _<_, _≤_}
+use mathlib.Core.Path.{_≡_, sym, ap, _∙_}
+use Prim.Native.Nat.{_-_, _<_, _≤_}
 use Rattle.image.specs.Record.{instructionFrom}
 use Rattle.image.specs.Image.{imageIn}
 use Rattle.image.specs.Refusal.{clear}

@@ -1,5 +1,4 @@
 -- The first instruction has none before it. Assumes nothing.
-use mathlib.Core.Path.{refl}
 use Prim.Native.Nat.{_-_}
 use borrow.Author.Tests.{lt-ltb, le-ltb}
 use Rattle.image.specs.Record.{instructionFrom}
