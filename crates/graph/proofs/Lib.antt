@@ -5,8 +5,10 @@ pub mod SectionLaws
 pub mod WordLaws
 pub mod RecordLaws
 pub mod StoredLaws
+pub mod AddingLaws
 pub mod Bit
 pub mod BlockLaws
 pub mod Rule21
 pub mod TableLaws
 pub mod TransferLaws
+pub mod EdgeLaws
