@@ -5,6 +5,7 @@ pub mod SectionLaws
 pub mod WordLaws
 pub mod RecordLaws
 pub mod StoredLaws
+pub mod AddingLaws
 pub mod Bit
 pub mod BlockLaws
 pub mod Rule21
@@ -15,3 +16,4 @@ pub mod RangeLaws
 pub mod RouteLaws
 pub mod TransferLaws
 pub mod SearchLaws
+pub mod EdgeLaws

@@ -4,6 +4,7 @@ pub mod Table
 pub mod Section
 pub mod Words
 pub mod Stored
+pub mod Adding
 pub mod BlockSet
 pub mod Error
 pub mod Lookup
@@ -15,6 +16,7 @@ pub mod Leaders
 pub mod Cursor
 pub mod Blocks
 pub mod Edges
+pub mod Emit
 pub mod Regions
 pub mod Build
 pub mod Ranges

@@ -1,6 +1,7 @@
 // The control flow graph of a sequence: its store, the three builds, its own rule (21) and what is reached.
 pub mod blockset;
 mod cursor;
+mod edges;
 pub mod error;
 mod lookup;
 mod ranges;
