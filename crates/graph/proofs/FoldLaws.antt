@@ -2,13 +2,14 @@
 --     length-table, getD-table      f 0, f 1, .. below n: how many, and which stands at i
 --     table-same                   the list hangs on f below n alone
 --     all-at, all-more, all-fails  what holds of each number holds of one; one number more; one of which it does not hold
+--     some-more, some-here         nor of one number more; one of which it holds
 --     count-same                   the count hangs on f below n alone
 --     count-front, count-add       the first number apart, and the first m
 --     count-one                    f holds of one number more
 --     count-le                     there are n at most
 -- Assumes nothing.
 use mathlib.Core.Path.{_≡_, refl, sym, ap, _∙_}
-use mathlib.Core.Bool.{Bool, true, false, _&&_, and-false}
+use mathlib.Core.Bool.{Bool, true, false, _&&_, _||_, and-false, or-true}
 use mathlib.Core.Logic.{_⊎_, inl, inr, ⊎-elim}
 use mathlib.Core.List.{List, [], _∷_, _++_}
 use Prim.Native.Nat.{ℕ, zero, suc, _+_, _≤_, _<_}
@@ -18,7 +19,7 @@ use native.Mathlib.Omega.{arith}
 use lib.Dec.{T}
 use lib.ListN.{length, getD, length-append, List·getD-append}
 use lib.Seq.{getD-at}
-use Rattle.graph.specs.Fold.{all, count}
+use Rattle.graph.specs.Fold.{some, all, count}
 use Rattle.image.specs.Image.{table}
 
 module _ {A : Type 0} where
@@ -65,6 +66,19 @@ all-fails f (suc n) i h out =
     ⊎-elim
     (λ e. rw (rw e at out) (and-false (all f n)))
     (λ lt. rw (all-fails f n i lt out))
+    (eq-or-lt-of-le (le-of-suc-le-suc h))
+
+pub some-more : (f : ℕ → Bool) (n : ℕ) → some f n ≡ false → f n ≡ false → some f (n + 1) ≡ false
+unfolding some
+some-more f n before now = rw (add-one, before) now
+
+pub some-here : (f : ℕ → Bool) (n i : ℕ) → i < n → f i ≡ true → some f n ≡ true
+unfolding some
+some-here f zero i h now = absurd (not-suc-le-zero h)
+some-here f (suc n) i h now =
+    ⊎-elim
+    (λ e. rw (rw e at now) (or-true (some f n)))
+    (λ lt. rw (some-here f n i lt now))
     (eq-or-lt-of-le (le-of-suc-le-suc h))
 
 -- ---- counts

@@ -9,3 +9,4 @@ pub mod Bit
 pub mod BlockLaws
 pub mod Rule21
 pub mod TableLaws
+pub mod DraftLaws

@@ -15,6 +15,7 @@ pub mod Cursor
 pub mod Blocks
 pub mod Edges
 pub mod Regions
+pub mod Drafts
 pub mod Build
 pub mod WellFormed
 pub mod Reached

@@ -4,4 +4,5 @@ mod cursor;
 pub mod error;
 mod lookup;
 pub mod record;
+mod region;
 pub mod store;
