@@ -17,3 +17,4 @@ pub mod RouteLaws
 pub mod TransferLaws
 pub mod SearchLaws
 pub mod EdgeLaws
+pub mod DraftLaws

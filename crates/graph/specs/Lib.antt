@@ -18,6 +18,7 @@ pub mod Blocks
 pub mod Edges
 pub mod Emit
 pub mod Regions
+pub mod Drafts
 pub mod Build
 pub mod Ranges
 pub mod WellFormed

@@ -7,6 +7,7 @@ mod lookup;
 mod ranges;
 pub mod reach;
 pub mod record;
+mod region;
 mod resume;
 mod route;
 pub mod store;
