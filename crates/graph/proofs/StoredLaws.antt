@@ -61,7 +61,6 @@ pub held-nothing : nothing ≡ held (record { entry = 0; table = []; blocks = []
 unfolding held
 held-nothing = refl
 
-more-whole : {A : Type 0} (s : Section) (p : List A) (a : A) → length p < s .most → more s (whole p) a ≡ whole (p ++ (a ∷ []))
 pub more-whole : {A : Type 0} (s : Section) (p : List A) (a : A) → length p < s .most → more s (whole p) a ≡ whole (p ++ (a ∷ []))
 unfolding more
 more-whole s p a h = rw (lt-ltb (length p) (s .most) h) (λ t. record { count = sym (length-append p (a ∷ [])) t; list = p ++ (a ∷ []) })
