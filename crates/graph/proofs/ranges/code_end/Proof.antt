@@ -10,6 +10,7 @@ use Rattle.image.specs.Record.{instructionFrom}
 use Rattle.image.specs.declared.record.Instruction.{Instruction}
 use Rattle.graph.specs.declared.record.TableEntry.{TableEntry}
 use Rattle.graph.specs.Table.{codeEnd, entryAt}
+use Rattle.graph.specs.Lookup.{entriesIn}
 use Rattle.graph.specs.Transfer.{tableEntry, entriesOf}
 use Rattle.graph.proofs.TableLaws.{size-is, entry-is}
 use Rattle.graph.proofs.RangeLaws.{code-end-more}
@@ -18,7 +19,7 @@ use Rattle.graph.proofs.ranges.code_end.Statement.{statement}
 use Rattle.graph.proofs.ranges.code_end.Tie as tie
 
 abbrev Inv-loop : tie.InvT-loop
-Inv-loop s y n greatest₀ i₀ greatest i = (i ≤ y .count) × (greatest ≡ codeEnd (take i (entriesOf (recordsIn instructionFrom s y))))
+Inv-loop s y n greatest₀ i₀ greatest i = (i ≤ y .count) × (greatest ≡ codeEnd (take i (entriesIn s y)))
 
 abbrev μ-loop : tie.MeasureT-loop
 μ-loop s y n greatest₀ i₀ greatest i = y .count - i

@@ -5,10 +5,8 @@ use Prim.Native.Nat.{_<_}
 use native.Mathlib.Omega.{arith}
 use borrow.Author.Tests.{le-ltb, lt-ltb, eq-eqb, ne-eqb}
 use lib.Dec.{eqb}
-use Rattle.image.specs.Image.{recordsIn}
-use Rattle.image.specs.Record.{instructionFrom}
 use Rattle.graph.specs.Table.{below, codeEnd, rangeCheck}
-use Rattle.graph.specs.Transfer.{entriesOf}
+use Rattle.graph.specs.Lookup.{entriesIn}
 use Rattle.graph.proofs.TableLaws.{size-is}
 use Rattle.graph.proofs.RangeLaws.{rising, below-code-end, below-less}
 use borrow.Author.Needs.{needs}
@@ -41,7 +39,7 @@ returns-3 : tie.Need-returns-3
 unfolding rangeCheck
 returns-3 c =
     let start = c .before .before .before .before .before .before .before .before in
-    let t = entriesOf (recordsIn instructionFrom (start .args .s .now) (start .args .y)) in
+    let t = entriesIn (start .args .s .now) (start .args .y) in
     let rises = c .before .before .before .before .before .before .if1 .left in
     let first = rw (c .before .before .before .first .given .1) at (c .before .before .before .before .before .find .ensures) in
     let last : start .args .end ≡ codeEnd t = c .before .if2 .taken ∙ start .pre .1 in
@@ -71,7 +69,7 @@ returns-5 : tie.Need-returns-5
 unfolding rangeCheck
 returns-5 c =
     let start = c .before .before .before .before .before .before .before .before .before .before .before in
-    let t = entriesOf (recordsIn instructionFrom (start .args .s .now) (start .args .y)) in
+    let t = entriesIn (start .args .s .now) (start .args .y) in
     let rises = c .before .before .before .before .before .before .before .before .before .if1 .left in
     let first = rw (c .before .before .before .before .before .before .first .given .1) at (c .before .before .before .before .before .before .before .before .find .ensures) in
     let past = rw (c .before .past .given .1) at (c .before .before .before .find2 .ensures) in

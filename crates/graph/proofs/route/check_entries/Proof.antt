@@ -2,11 +2,10 @@
 use mathlib.Core.Path.{_≡_, refl, ap, _∙_}
 use Prim.Native.Nat.{ℕ, _+_, _-_, _≤_}
 use native.Mathlib.Omega.{arith}
-use Rattle.image.specs.Record.{instructionFrom}
 use Rattle.image.specs.Refusal.{clear, checks}
-use Rattle.image.specs.Image.{recordsIn, routesIn}
+use Rattle.image.specs.Image.{routesIn}
 use Rattle.image.proofs.Checks.{checks-more, checks-stop}
-use Rattle.graph.specs.Transfer.{entriesOf}
+use Rattle.graph.specs.Lookup.{entriesIn}
 use Rattle.graph.specs.Route.{stepsBefore, pathIn}
 use Rattle.graph.specs.Ranges.{pathCheck}
 use borrow.Author.Needs.{needs}
@@ -15,7 +14,7 @@ use Rattle.graph.proofs.route.check_entries.Tie as tie
 
 abbrev Inv-loop : tie.InvT-loop
 Inv-loop s t y path n step next₀ k₀ next k =
-    (k ≤ n) × (next ≡ stepsBefore (routesIn s y) (path + k)) × (checks (λ (i : ℕ). pathCheck (entriesOf (recordsIn instructionFrom s t)) (pathIn (routesIn s y) (path + i))) k ≡ clear)
+    (k ≤ n) × (next ≡ stepsBefore (routesIn s y) (path + k)) × (checks (λ (i : ℕ). pathCheck (entriesIn s t) (pathIn (routesIn s y) (path + i))) k ≡ clear)
 
 abbrev μ-loop : tie.MeasureT-loop
 μ-loop s t y path n step next₀ k₀ next k = n - k

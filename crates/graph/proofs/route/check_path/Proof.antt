@@ -5,13 +5,13 @@ use mathlib.Core.List.{[]}
 use Prim.Native.Nat.{ℕ, _+_, _-_, _<_, _≤_}
 use native.Mathlib.Omega.{arith}
 use lib.ListN.{length, getD}
-use Rattle.image.specs.Record.{instructionFrom, pathFrom, stepFrom}
+use Rattle.image.specs.Record.{pathFrom, stepFrom}
 use Rattle.image.specs.Refusal.{Check, clear, checks, _then_}
 use Rattle.image.specs.Image.{recordsIn, routesIn}
 use Rattle.image.specs.declared.record.Path.{Path}
 use Rattle.image.proofs.Checks.{checks-more, checks-stop}
 use Rattle.graph.specs.Error.{checkOf}
-use Rattle.graph.specs.Transfer.{entriesOf}
+use Rattle.graph.specs.Lookup.{entriesIn}
 use Rattle.graph.specs.Route.{stepsBefore}
 use Rattle.graph.proofs.RouteLaws.{steps-in, steps-next, stepCheck, endCheck, step-names, step-calls, end-names, end-leaves, path-entries}
 use borrow.Author.Needs.{needs}
@@ -20,7 +20,7 @@ use Rattle.graph.proofs.route.check_path.Tie as tie
 
 abbrev Inv-loop : tie.InvT-loop
 Inv-loop s t y p step path size j₀ j =
-    (j ≤ size) × (checks (λ (i : ℕ). stepCheck (entriesOf (recordsIn instructionFrom s t)) (getD (recordsIn stepFrom s (y .steps)) (step + i) (stepFrom [] 0))) j ≡ clear)
+    (j ≤ size) × (checks (λ (i : ℕ). stepCheck (entriesIn s t) (getD (recordsIn stepFrom s (y .steps)) (step + i) (stepFrom [] 0))) j ≡ clear)
 
 abbrev μ-loop : tie.MeasureT-loop
 μ-loop s t y p step path size j₀ j = size - j
@@ -34,7 +34,7 @@ among c =
 
 -- after the loop all of them are clear
 passed : (c : tie.After-loop Inv-loop μ-loop) → let a = c .before .before .before .before .args in let m = routesIn (a .s .now) (a .y) in
-    checks (λ (i : ℕ). stepCheck (entriesOf (recordsIn instructionFrom (a .s .now) (a .t))) (getD (m .steps) (stepsBefore m (a .p) + i) (stepFrom [] 0))) (getD (m .paths) (a .p) (pathFrom [] 0) .steps) ≡ clear
+    checks (λ (i : ℕ). stepCheck (entriesIn (a .s .now) (a .t)) (getD (m .steps) (stepsBefore m (a .p) + i) (stepFrom [] 0))) (getD (m .paths) (a .p) (pathFrom [] 0) .steps) ≡ clear
 passed c =
     let read = c .before .before .path-at .ensures in
     let all : c .before .loop .j ≡ c .before .before .path-at .result .steps = omega arith in
@@ -63,7 +63,7 @@ returns : tie.Need-returns Inv-loop μ-loop
 returns c =
     let start = c .before .before .before .before .before .before .before .before .before .before .before in
     let m = routesIn (start .args .s .now) (start .args .y) in
-    let t = entriesOf (recordsIn instructionFrom (start .args .s .now) (start .args .t)) in
+    let t = entriesIn (start .args .s .now) (start .args .t) in
     let top = c .before .before .before .before .before .before .before .before .loop in
     let step = c .before .before .before .before .before .before .step-at in
     let here = rw (step .ensures) at (step-names t (step .result) (c .before .before .before .before .if1 .taken) ∙ sym (c .before .before .before .check-entry .ensures) ∙ ap checkOf (c .before .e .given .1)) in
@@ -83,7 +83,7 @@ loop-less c = search needs
 loop-again : tie.Need-loop-again Inv-loop μ-loop
 loop-again c =
     let a = c .before .before .before .before .before .before .before .args in
-    let t = entriesOf (recordsIn instructionFrom (a .s .now) (a .t)) in
+    let t = entriesIn (a .s .now) (a .t) in
     let top = c .before .before .before .before .loop in
     let step = c .before .before .step-at in
     let here =
@@ -104,7 +104,7 @@ returns-2 : tie.Need-returns-2 Inv-loop μ-loop
 returns-2 c =
     let start = c .before .before .before .before .before .before .before .before .before .before in
     let m = routesIn (start .args .s .now) (start .args .y) in
-    let t = entriesOf (recordsIn instructionFrom (start .args .s .now) (start .args .t)) in
+    let t = entriesIn (start .args .s .now) (start .args .t) in
     let path = c .before .before .before .before .before .before .before .before .path-at in
     let here = rw (path .ensures) at (end-names t (path .result) (c .before .before .before .before .if2 .taken) ∙ sym (c .before .before .before .check-entry2 .ensures) ∙ ap checkOf (c .before .e2 .given .1)) in
     path-entries m (start .pre .0) (start .args .p) (start .pre .2) t
@@ -121,7 +121,7 @@ returns-3 : tie.Need-returns-3 Inv-loop μ-loop
 returns-3 c =
     let start = c .before .before .before .before .before .before in
     let m = routesIn (start .args .s .now) (start .args .y) in
-    let t = entriesOf (recordsIn instructionFrom (start .args .s .now) (start .args .t)) in
+    let t = entriesIn (start .args .s .now) (start .args .t) in
     let path = c .before .before .before .before .path-at in
     let here =
     rw (path .ensures) at

@@ -3,14 +3,14 @@ use mathlib.Core.Path.{_≡_, refl, sym, ap, _∙_}
 use Prim.Native.Nat.{_+_, _-_, _<_, _≤_}
 use native.Mathlib.Omega.{arith}
 use lib.ListN.{length}
-use Rattle.image.specs.Record.{instructionFrom, routeFrom}
+use Rattle.image.specs.Record.{routeFrom}
 use Rattle.image.specs.Refusal.{clear, checks}
 use Rattle.image.specs.Image.{recordsIn, routesIn}
 use Rattle.image.specs.Deal.{total, routesOf}
 use Rattle.image.specs.declared.record.Route.{Route}
 use Rattle.image.proofs.Checks.{checks-more, checks-stop}
 use Rattle.image.proofs.Tables.{length-records}
-use Rattle.graph.specs.Transfer.{entriesOf}
+use Rattle.graph.specs.Lookup.{entriesIn}
 use Rattle.graph.specs.Leaders.{routes}
 use Rattle.graph.specs.Route.{routeCheck, pathsBefore, stepsBefore}
 use Rattle.graph.proofs.RouteLaws.{length-routes, paths-in, paths-next}
@@ -20,7 +20,7 @@ use Rattle.graph.proofs.route.check_routes.Tie as tie
 
 abbrev Inv-loop : tie.InvT-loop
 Inv-loop s code-end instructions layout all n path₀ step₀ r₀ path step r =
-    (r ≤ layout .routes .count) × (path ≡ pathsBefore (routesIn s layout) r) × (step ≡ stepsBefore (routesIn s layout) path) × (checks (routeCheck (entriesOf (recordsIn instructionFrom s instructions)) (routesOf (routesIn s layout))) r ≡ clear)
+    (r ≤ layout .routes .count) × (path ≡ pathsBefore (routesIn s layout) r) × (step ≡ stepsBefore (routesIn s layout) path) × (checks (routeCheck (entriesIn s instructions) (routesOf (routesIn s layout))) r ≡ clear)
 
 abbrev μ-loop : tie.MeasureT-loop
 μ-loop s code-end instructions layout all n path₀ step₀ r₀ path step r = layout .routes .count - r
@@ -43,7 +43,7 @@ check-route-requires : tie.Need-check-route-requires Inv-loop μ-loop
 check-route-requires c κs =
     let p = c .before .before .before .before .before .before .before .pre in
     let top = c .before .loop in
-    (p .0 .routed, p .1, p .2, among c, top .inv .1, top .inv .2)
+    (p .1, (p .0 .routed, among c, top .inv .1, top .inv .2))
 
 enum-known-e : tie.Need-enum-known-e Inv-loop μ-loop
 enum-known-e c = search needs
