@@ -1,7 +1,6 @@
 -- Test by test, in the order of the definition. The greatest end stands behind every start. Assumes nothing.
 use mathlib.Core.Bool.{or-true}
 use mathlib.Core.Path.{_≡_, sym, ap, _∙_}
-use Prim.Native.Nat.{_<_}
 use native.Mathlib.Omega.{arith}
 use borrow.Author.Tests.{le-ltb, lt-ltb, eq-eqb, ne-eqb}
 use lib.Dec.{eqb}
@@ -20,20 +19,11 @@ returns c = rw (le-ltb _ _ (c .if1 .taken))
 find-requires : tie.Need-find-requires
 find-requires c κs = rising _ (c .before .before .pre .0)
 
-enum-known-first : tie.Need-enum-known-first
-enum-known-first c = search needs
-
-enum-told : tie.Need-enum-told
-enum-told c = search needs
-
 returns-2 : tie.Need-returns-2
 unfolding rangeCheck
 returns-2 c =
     let none = rw (c .enum-told .given .1) at (c .before .before .find .ensures) in
     rw (lt-ltb _ _ (c .before .before .before .if1 .left), none)
-
-cast-past : tie.Need-cast-past
-cast-past c = search needs
 
 returns-3 : tie.Need-returns-3
 unfolding rangeCheck
@@ -49,12 +39,6 @@ returns-3 c =
 
 find-requires-2 : tie.Need-find-requires-2
 find-requires-2 c κs = rising _ (c .before .before .before .before .before .before .before .pre .0)
-
-enum-known-past : tie.Need-enum-known-past
-enum-known-past c = search needs
-
-enum-told-2 : tie.Need-enum-told-2
-enum-told-2 c = search needs
 
 returns-4 : tie.Need-returns-4
 unfolding rangeCheck
@@ -81,13 +65,13 @@ range-check-spec =
     (tie.spec
     returns
     find-requires
-    enum-known-first
-    enum-told
+    (λ c. search needs)
+    (λ c. search needs)
     returns-2
-    cast-past
+    (λ c. search needs)
     returns-3
     find-requires-2
-    enum-known-past
-    enum-told-2
+    (λ c. search needs)
+    (λ c. search needs)
     returns-4
     returns-5)

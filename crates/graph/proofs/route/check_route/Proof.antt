@@ -1,6 +1,6 @@
 -- The range, then Resume after a funclet, then the entries. Assumes nothing.
 use mathlib.Core.Path.{_≡_, sym, ap, _∙_, subst₂}
-use Prim.Native.Nat.{ℕ, _+_, _≤_}
+use Prim.Native.Nat.{ℕ, _+_}
 use native.Mathlib.Omega.{arith}
 use Rattle.image.specs.Refusal.{Check, checks}
 use Rattle.image.specs.Image.{routesIn}
@@ -15,14 +15,8 @@ use borrow.Author.Needs.{needs}
 use Rattle.graph.proofs.route.check_route.Statement.{statement}
 use Rattle.graph.proofs.route.check_route.Tie as tie
 
-route-at-requires : tie.Need-route-at-requires
-route-at-requires c κs = search needs
-
 range-check-requires : tie.Need-range-check-requires
 range-check-requires c κs = c .before .before .pre .0
-
-enum-known-e : tie.Need-enum-known-e
-enum-known-e c = search needs
 
 returns : tie.Need-returns
 returns c =
@@ -31,9 +25,6 @@ returns c =
     let t = entriesIn (start .args .s .now) (start .args .t) in
     let range = rw (c .before .e .given .1, c .before .before .before .before .route-at .ensures) at (c .before .before .before .range-check .ensures) in
     rw (route-check m (start .pre .1 .0) (start .args .r) (start .pre .1 .1) t, range)
-
-enum-told : tie.Need-enum-told
-enum-told c = search needs
 
 resumes-late-requires : tie.Need-resumes-late-requires
 resumes-late-requires c κs = c .before .before .before .before .before .pre .1
@@ -72,11 +63,11 @@ pub check-route-spec : {M : Type 1} → statement M
 check-route-spec =
     tie.close
     (tie.spec
-    route-at-requires
+    (λ c κs. search needs)
     range-check-requires
-    enum-known-e
+    (λ c. search needs)
     returns
-    enum-told
+    (λ c. search needs)
     resumes-late-requires
     returns-2
     check-entries-requires

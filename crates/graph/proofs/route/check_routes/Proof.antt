@@ -25,9 +25,6 @@ Inv-loop s code-end instructions layout all n path₀ step₀ r₀ path step r =
 abbrev μ-loop : tie.MeasureT-loop
 μ-loop s code-end instructions layout all n path₀ step₀ r₀ path step r = layout .routes .count - r
 
-cast-n : tie.Need-cast-n Inv-loop μ-loop
-cast-n c = search needs
-
 loop-holds : tie.Need-loop-holds Inv-loop μ-loop
 unfolding checks pathsBefore stepsBefore total
 loop-holds c = (search needs, refl, refl, refl)
@@ -45,9 +42,6 @@ check-route-requires c κs =
     let top = c .before .loop in
     (p .1, (p .0 .routed, among c, top .inv .1, top .inv .2))
 
-enum-known-e : tie.Need-enum-known-e Inv-loop μ-loop
-enum-known-e c = search needs
-
 returns : tie.Need-returns Inv-loop μ-loop
 unfolding routes
 returns c =
@@ -55,12 +49,6 @@ returns c =
     let top = c .before .before .before .before .before .loop in
     let within : top .r < length (routesOf (routesIn (a .s .now) (a .y .routes))) = rw (length-routes (routesIn (a .s .now) (a .y .routes))) (among (c .before .before .before .before)) in
     sym (checks-stop _ (top .r) _ _ within (top .inv .3) (rw (c .before .e .given .1) at (c .before .before .before .check-route .ensures)))
-
-enum-known-next : tie.Need-enum-known-next Inv-loop μ-loop
-enum-known-next c = search needs
-
-route-at-requires : tie.Need-route-at-requires Inv-loop μ-loop
-route-at-requires c κs = search needs
 
 add-path : tie.Need-add-path Inv-loop μ-loop
 add-path c =
@@ -72,9 +60,6 @@ add-path c =
 
 add-r : tie.Need-add-r Inv-loop μ-loop
 add-r c = omega (arith, c .before .before .before .before .before .before .before .before .struct-known .given)
-
-loop-less : tie.Need-loop-less Inv-loop μ-loop
-loop-less c = search needs
 
 loop-again : tie.Need-loop-again Inv-loop μ-loop
 loop-again c =
@@ -100,15 +85,15 @@ check-routes-spec =
     (tie.spec
     Inv-loop
     μ-loop
-    cast-n
+    (λ c. search needs)
     loop-holds
     check-route-requires
-    enum-known-e
+    (λ c. search needs)
     returns
-    enum-known-next
-    route-at-requires
+    (λ c. search needs)
+    (λ c κs. search needs)
     add-path
     add-r
-    loop-less
+    (λ c. search needs)
     loop-again
     returns-2)
