@@ -10,3 +10,10 @@ pub mod BlockLaws
 pub mod Rule21
 pub mod TableLaws
 pub mod DraftLaws
+pub mod DealLaws
+pub mod CursorLaws
+pub mod CheckLaws
+pub mod RangeLaws
+pub mod RouteLaws
+pub mod TransferLaws
+pub mod SearchLaws

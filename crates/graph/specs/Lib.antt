@@ -9,6 +9,7 @@ pub mod Error
 pub mod Lookup
 pub mod Flow
 pub mod Transfer
+pub mod Slots
 pub mod Route
 pub mod Leaders
 pub mod Cursor
@@ -17,5 +18,7 @@ pub mod Edges
 pub mod Regions
 pub mod Drafts
 pub mod Build
+pub mod Ranges
 pub mod WellFormed
 pub mod Reached
+pub mod Search

@@ -2,3 +2,5 @@ pub mod Past
 pub mod Checks
 pub mod Tables
 pub mod Sections
+pub mod Accepted
+pub mod Deals

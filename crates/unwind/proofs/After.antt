@@ -6,9 +6,9 @@
 use mathlib.Core.Path.{_≡_, refl, sym, _∙_, ap, subst}
 use mathlib.Core.Logic.{_⊎_, inl, inr}
 use mathlib.Core.Bool.{Bool, true, false, cond, _||_}
-use mathlib.Core.List.{List, [], _∷_, _++_, map, List·Memᴰ, List·Memᴰ·head, List·Memᴰ·tail, List·Memᴰ·append-cases, List·Memᴰ·eq-of-singleton, Memᴰ·append-left, Memᴰ·append-right, Memᴰ·cast}
-use mathlib.Core.Option.{Option, none, some}
-use Prim.Native.Nat.{ℕ, zero, suc, _+_, _-_, _≤_, _<_}
+use mathlib.Core.List.{List, [], _∷_, _++_, map, List·Memᴰ·append-cases, List·Memᴰ·eq-of-singleton, Memᴰ·append-left, Memᴰ·append-right}
+use mathlib.Core.Option.{some}
+use Prim.Native.Nat.{ℕ, zero, suc, _+_, _≤_, _<_}
 use native.Mathlib.Omega.{arith}
 use native.Mathlib.Decide.{decLt}
 use borrow.Author.Tests.{eq-eqb, eqb-true, ltb-true}
@@ -81,8 +81,13 @@ module _ (g : Graph) (bs : List Block) (es : List Edge) where
       out : (length (g .blocks) ≤ b) → (eqb b 0 ≡ true) ⊎ (ltb (filled (extended g bs es) b) (length (g .table)) ≡ true) → ⊥
       out h (inl e) = omega (arith, eqb-true b 0 e, s .some-block)
       out h (inr e) =
-          omega (arith, ltb-true (filled (extended g bs es) b) (length (g .table)) e, s .covered,
-          filled-le (extended g bs es) (length (g .blocks)) b h, filled-after (length (g .blocks)) (omega arith))
+          omega (
+            arith,
+            ltb-true (filled (extended g bs es) b) (length (g .table)) e,
+            s .covered,
+            filled-le (extended g bs es) (length (g .blocks)) b h,
+            filled-after (length (g .blocks)) (omega arith),
+          )
 
       go : Dec (b < length (g .blocks)) → Built g b
       go (yes h) = record { exists = h; original = sym (same-built b h) ∙ x .original }

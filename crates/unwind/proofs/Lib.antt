@@ -11,4 +11,6 @@ pub mod Parts
 pub mod Walks
 pub mod Hops
 pub mod Accepted
+pub mod Milder
+pub mod Owners
 pub mod Demand

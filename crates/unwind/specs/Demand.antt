@@ -7,20 +7,21 @@ use Rattle.image.specs.Image.{RouteImage}
 use Rattle.image.specs.Read.{read, readRoutes}
 use Rattle.image.specs.Deal.{UnwindPath, UnwindRoute, routesOf}
 use Rattle.graph.specs.Graph.{Graph, Held}
-use Rattle.unwind.specs.Walk.{Funclet, Handler, Begins, Reach, Returning, Guarded, Lists, Walk, May}
+use Rattle.unwind.specs.Walk.{Funclet, Handler, Begins, Reach, Part, Returning, Guarded, Lists, Walk, May}
 use Rattle.unwind.specs.Add.{Addition, added, addRoutes}
 
--- The conditions, over the graph before the addition.
+-- The conditions, over the graph before the addition. Blocks are built ones here, and a handler lies in a part where the
+-- block that it begins does: that asks less than to count copies too, and instructions within blocks.
 pub record Conditions (g : Graph) (rs : List UnwindRoute) : Type 0 where
   -- 'the parts of different funclets share no block'
-  pub apart : (f e f′ e′ b : ℕ) → Funclet rs f → Begins g f e → Reach g rs f e b → Funclet rs f′ → Begins g f′ e′ → Reach g rs f′ e′ b → f ≡ f′
+  pub apart : (f f′ b : ℕ) → Funclet rs f → Funclet rs f′ → Part g rs f b → Part g rs f′ b → f ≡ f′
   -- 'each part has a returning block'
   pub returns : (f e : ℕ) → Funclet rs f → Begins g f e → (b : ℕ) × Reach g rs f e b × Returning g b
   -- 'no protected block that keeps its exception edge lies in a part'
-  pub outside : (f e b : ℕ) → Funclet rs f → Begins g f e → Reach g rs f e b → Guarded g rs b → ⊥
+  pub outside : (f b : ℕ) → Funclet rs f → Part g rs f b → Guarded g rs b → ⊥
   -- 'no handler address begins such a block or lies in a part'
   pub unguarded : (h b : ℕ) → Handler rs h → Begins g h b → Guarded g rs b → ⊥
-  pub unreached : (h b f e : ℕ) → Handler rs h → Begins g h b → Funclet rs f → Begins g f e → Reach g rs f e b → ⊥
+  pub unreached : (h b f : ℕ) → Handler rs h → Begins g h b → Funclet rs f → Part g rs f b → ⊥
 
 -- The conclusion, over the graph and the hops afterwards.
 pub record Demand3 (rs : List UnwindRoute) (a : Addition) : Type 0 where

@@ -3,7 +3,7 @@
 use mathlib.Core.Path.{_≡_}
 use mathlib.Core.Bool.{true}
 use mathlib.Core.Logic.{_⊎_}
-use mathlib.Core.List.{List, [], _∷_, _++_, map, List·Memᴰ}
+use mathlib.Core.List.{List, _∷_, _++_, map, List·Memᴰ}
 use Prim.Native.Nat.{ℕ, _≤_, _<_}
 use lib.ListN.{length}
 use Rattle.image.specs.Deal.{UnwindStep, funclet, call, UnwindEnd, handler, propagate, resume, UnwindPath, UnwindRoute}
@@ -70,6 +70,12 @@ module _ (g : Graph) where
       start : Reach f e e
       step : {b c : ℕ} → Reach f e b → (d : Edge) → d ∈ g .edges → d .source ≡ b → d .target ≡ c
           → (d .kind ≡ Kind.exceptionUnwind → ⊥) → (d .kind ≡ Kind.call → ⊥) → (Other f c → ⊥) → Reach f e c
+
+    -- block b lies in the part of funclet f
+    pub record Part (f b : ℕ) : Type 0 where
+      pub entry : ℕ
+      pub begins : Begins f entry
+      pub reach : Reach f entry b
 
     -- a protected block that was built and keeps its exception edge
     pub record Guarded (b : ℕ) : Type 0 where

@@ -5,7 +5,7 @@ use Prim.Native.Nat.{_-_, _≤_}
 use Rattle.image.specs.Image.{imageIn}
 use Rattle.graph.specs.Fold.{some}
 use Rattle.graph.specs.Regions.{sameRange, isDraft}
-use Rattle.graph.proofs.FoldLaws.{some-more, some-here}
+use Rattle.graph.proofs.FoldLaws.{some-more, some-at}
 use Rattle.graph.proofs.DraftLaws.{same-is}
 use native.Mathlib.Omega.{arith}
 use borrow.Author.Needs.{needs}
@@ -29,7 +29,7 @@ returns c =
     let m = imageIn (a .s .now) (a .y) in
     let top = c .before .before .before .before .loop in
     let same = sym (same-is m (top .g) (a .h) _ _ (c .before .before .handler2 .ensures) (c .before .before .before .before .before .handler .ensures)) ∙ sym (c .before .same-range .ensures) ∙ c .if1 .taken in
-    rw (some-here (λ g. sameRange m g (a .h)) (a .h) (top .g) (search needs) same)
+    rw (some-at (λ g. sameRange m g (a .h)) (a .h) (top .g) (search needs) same)
 
 loop-again : tie.Need-loop-again Inv-loop μ-loop
 loop-again c =
