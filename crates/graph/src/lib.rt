@@ -1,12 +1,12 @@
 // The control flow graph of a sequence: its store, the three builds, its own rule (21) and what is reached.
 pub mod blockset;
 mod cursor;
+mod drafts;
 pub mod error;
 mod lookup;
 mod ranges;
 pub mod reach;
 pub mod record;
-mod region;
 mod resume;
 mod route;
 pub mod store;
