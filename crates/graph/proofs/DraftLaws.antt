@@ -22,7 +22,7 @@ use Rattle.image.specs.declared.record.Handler.{Handler}
 use Rattle.graph.specs.Leaders.{handlerAt}
 use Rattle.graph.specs.Regions.{sameRange, isDraft, span, place, draftsBelow}
 use Rattle.graph.specs.Drafts.{draftsIn, Counted, Drafted, put}
-use Rattle.graph.specs.declared.region.Drafts.{Drafts}
+use Rattle.graph.specs.declared.drafts.Drafts.{Drafts}
 
 module _ (m : Image) where
   pub same-is : (g h : ℕ) (a b : Handler) → a ≡ handlerAt m g → b ≡ handlerAt m h → (eqb (a .start) (b .start) && eqb (a .end) (b .end)) ≡ sameRange m g h

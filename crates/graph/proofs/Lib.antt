@@ -10,6 +10,8 @@ pub mod Bit
 pub mod BlockLaws
 pub mod Rule21
 pub mod TableLaws
+pub mod DraftLaws
+pub mod DealLaws
 pub mod CursorLaws
 pub mod CheckLaws
 pub mod RangeLaws
@@ -17,4 +19,3 @@ pub mod RouteLaws
 pub mod TransferLaws
 pub mod SearchLaws
 pub mod EdgeLaws
-pub mod DraftLaws

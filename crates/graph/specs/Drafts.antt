@@ -4,7 +4,7 @@ use mathlib.Core.List.{List, _∷_, _++_}
 use Prim.Native.Nat.{ℕ, _≤_}
 use lib.ListN.{length, take, drop}
 use Rattle.image.specs.Image.{Image}
-use Rattle.graph.specs.declared.region.Drafts.{Drafts}
+use Rattle.graph.specs.declared.drafts.Drafts.{Drafts}
 use Rattle.graph.specs.Regions.{place}
 
 -- the drafts that an array holds

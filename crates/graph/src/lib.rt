@@ -1,13 +1,13 @@
 // The control flow graph of a sequence: its store, the three builds, its own rule (21) and what is reached.
 pub mod blockset;
 mod cursor;
+mod drafts;
 mod edges;
 pub mod error;
 mod lookup;
 mod ranges;
 pub mod reach;
 pub mod record;
-mod region;
 mod resume;
 mod route;
 pub mod store;

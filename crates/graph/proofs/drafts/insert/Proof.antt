@@ -9,8 +9,8 @@ use Rattle.graph.proofs.DraftLaws.{put-none, put-on, put-end, counted-s
 use Rattle.graph.specs.Drafts.{draftsIn, put}
 use native.Mathlib.Omega.{arith}
 use borrow.Author.Needs.{needs}
-use Rattle.graph.proofs.region.insert.Statement.{statement}
-use Rattle.graph.proofs.region.insert.Tie as tie
+use Rattle.graph.proofs.drafts.insert.Statement.{statement}
+use Rattle.graph.proofs.drafts.insert.Tie as tie
 
 abbrev Inv-loop : tie.InvT-loop
 Inv-loop j h count list₀ next₀ k₀ list next k =

@@ -9,8 +9,8 @@ use Rattle.graph.proofs.FoldLaws.{some-more, some-at}
 use Rattle.graph.proofs.DraftLaws.{same-is}
 use native.Mathlib.Omega.{arith}
 use borrow.Author.Needs.{needs}
-use Rattle.graph.proofs.region.is_draft.Statement.{statement}
-use Rattle.graph.proofs.region.is_draft.Tie as tie
+use Rattle.graph.proofs.drafts.is_draft.Statement.{statement}
+use Rattle.graph.proofs.drafts.is_draft.Tie as tie
 
 abbrev Inv-loop : tie.InvT-loop
 Inv-loop s y h own g₀ g = (g ≤ h) × (some (λ g. sameRange (imageIn s y) g h) g ≡ false)

@@ -1,8 +1,8 @@
 -- `handler` meets its contract: the definition is what `handler_at` answers. Assumes nothing.
 use Rattle.graph.specs.Leaders.{handlerAt}
 use borrow.Author.Needs.{needs}
-use Rattle.graph.proofs.region.handler.Statement.{statement}
-use Rattle.graph.proofs.region.handler.Tie as tie
+use Rattle.graph.proofs.drafts.handler.Statement.{statement}
+use Rattle.graph.proofs.drafts.handler.Tie as tie
 
 returns : tie.Need-returns
 unfolding handlerAt

@@ -9,8 +9,8 @@ use Rattle.graph.specs.Regions.{draftsBelow, drafts}
 use Rattle.graph.specs.Drafts.{Drafted}
 use native.Mathlib.Omega.{arith}
 use borrow.Author.Needs.{needs}
-use Rattle.graph.proofs.region.drafts_of.Statement.{statement}
-use Rattle.graph.proofs.region.drafts_of.Tie as tie
+use Rattle.graph.proofs.drafts.drafts_of.Statement.{statement}
+use Rattle.graph.proofs.drafts.drafts_of.Tie as tie
 
 abbrev Inv-loop : tie.InvT-loop
 Inv-loop s y n d₀ h₀ d h = (h ≤ n) × (n ≤ 32) × Drafted d (draftsBelow (imageIn s y) h)

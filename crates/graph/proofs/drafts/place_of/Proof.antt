@@ -9,8 +9,8 @@ use Rattle.graph.specs.Drafts.{draftsIn}
 use Rattle.graph.proofs.DraftLaws.{place-on, place-here, place-end, counted-size, counted-at}
 use native.Mathlib.Omega.{arith}
 use borrow.Author.Needs.{needs}
-use Rattle.graph.proofs.region.place_of.Statement.{statement}
-use Rattle.graph.proofs.region.place_of.Tie as tie
+use Rattle.graph.proofs.drafts.place_of.Statement.{statement}
+use Rattle.graph.proofs.drafts.place_of.Tie as tie
 
 abbrev Inv-loop : tie.InvT-loop
 Inv-loop s y h d own count j₀ j =

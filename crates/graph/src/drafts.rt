@@ -1,4 +1,4 @@
-// Regions: one for each protected range, the wider ones first.
+// Drafts of regions: one for each protected range, the wider ones first.
 use image::access::handler_at;
 use image::record::Handler;
 use image::section::Layout;

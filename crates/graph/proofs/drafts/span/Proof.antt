@@ -5,8 +5,8 @@ use native.Mathlib.Omega.{arith}
 use borrow.Author.Needs.{needs}
 use Rattle.image.specs.declared.record.Handler.{Handler}
 use Rattle.graph.specs.Regions.{span}
-use Rattle.graph.proofs.region.span.Statement.{statement}
-use Rattle.graph.proofs.region.span.Tie as tie
+use Rattle.graph.proofs.drafts.span.Statement.{statement}
+use Rattle.graph.proofs.drafts.span.Tie as tie
 
 returns : tie.Need-returns
 unfolding span

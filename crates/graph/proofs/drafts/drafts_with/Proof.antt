@@ -5,8 +5,8 @@ use Rattle.graph.specs.Regions.{place}
 use Rattle.graph.proofs.DraftLaws.{drafts-in, drafts-out, drafts-most, drafted-size}
 use native.Mathlib.Omega.{arith}
 use borrow.Author.Needs.{needs}
-use Rattle.graph.proofs.region.drafts_with.Statement.{statement}
-use Rattle.graph.proofs.region.drafts_with.Tie as tie
+use Rattle.graph.proofs.drafts.drafts_with.Statement.{statement}
+use Rattle.graph.proofs.drafts.drafts_with.Tie as tie
 
 insert-requires : tie.Need-insert-requires
 insert-requires c κs =
