@@ -11,7 +11,6 @@ pub mod BlockLaws
 pub mod Rule21
 pub mod TableLaws
 pub mod DraftLaws
-pub mod DealLaws
 pub mod CursorLaws
 pub mod CheckLaws
 pub mod RangeLaws
