@@ -5,10 +5,12 @@ pub mod SectionLaws
 pub mod WordLaws
 pub mod RecordLaws
 pub mod StoredLaws
+pub mod AddingLaws
 pub mod Bit
 pub mod BlockLaws
 pub mod Rule21
 pub mod TableLaws
+pub mod DraftLaws
 pub mod CursorLaws
 pub mod CheckLaws
 pub mod RangeLaws
@@ -16,3 +18,4 @@ pub mod RouteLaws
 pub mod TransferLaws
 pub mod SearchLaws
 pub mod GivenLaws
+pub mod EdgeLaws

@@ -21,7 +21,7 @@ use lib.ListN.{length, getD, length-map}
 use Rattle.image.specs.Record.{routeFrom, pathFrom, stepFrom}
 use Rattle.image.specs.Image.{RouteImage}
 use Rattle.image.specs.Refusal.{Check, clear, refused, refusal, _then_, unless}
-use Rattle.image.specs.Deal.{total, deal, UnwindStep, funclet, call, UnwindEnd, handler, propagate, resume, UnwindPath, UnwindRoute, stepOf, endOf, pathsOf, routesOf}
+use Rattle.image.specs.Deal.{total, deal, UnwindStep, funclet, call, propagate, resume, UnwindPath, UnwindRoute, stepOf, endOf, pathsOf, routesOf}
 use Rattle.image.specs.Accepted.{AcceptedRoutes}
 use Rattle.image.specs.declared.record.Route.{Route}
 use Rattle.image.specs.declared.record.Path.{Path}

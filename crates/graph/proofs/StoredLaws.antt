@@ -3,6 +3,7 @@
 --     stored-onto                  a turn of a loop: what a leaf says of the words at hand, said of those at entry
 --     emptied-then                 stores into an emptied graph: which words are as they were before it was
 --     held-nothing                 the emptied graph
+--     whole, more-whole            a section that is not cut, and a record more
 --     X-more                       a graph with room, and a record more
 --     all-held                     within the limits nothing is cut
 -- for X of entry, block, edge, region, handler, unresolved, call.
@@ -52,7 +53,7 @@ emptied-then a b k u = b .kept k u ∙ a .kept k (b .uses k u)
 
 -- ---- graphs that hold all their records
 
-abbrev whole : {A : Type 0} → List A → Part A
+abbrev pub whole : {A : Type 0} → List A → Part A
 whole p = record { count = length p; list = p }
 
 -- a graph with no record, as `empty` leaves it
@@ -60,7 +61,7 @@ pub held-nothing : nothing ≡ held (record { entry = 0; table = []; blocks = []
 unfolding held
 held-nothing = refl
 
-more-whole : {A : Type 0} (s : Section) (p : List A) (a : A) → length p < s .most → more s (whole p) a ≡ whole (p ++ (a ∷ []))
+pub more-whole : {A : Type 0} (s : Section) (p : List A) (a : A) → length p < s .most → more s (whole p) a ≡ whole (p ++ (a ∷ []))
 unfolding more
 more-whole s p a h = rw (lt-ltb (length p) (s .most) h) (λ t. record { count = sym (length-append p (a ∷ [])) t; list = p ++ (a ∷ []) })
 

@@ -4,6 +4,7 @@ pub mod Table
 pub mod Section
 pub mod Words
 pub mod Stored
+pub mod Adding
 pub mod BlockSet
 pub mod Error
 pub mod Lookup
@@ -15,7 +16,9 @@ pub mod Leaders
 pub mod Cursor
 pub mod Blocks
 pub mod Edges
+pub mod Emit
 pub mod Regions
+pub mod Drafts
 pub mod Build
 pub mod Ranges
 pub mod WellFormed

@@ -2,6 +2,8 @@
 pub mod blockset;
 mod checks;
 mod cursor;
+mod drafts;
+mod edges;
 pub mod error;
 mod lookup;
 mod ranges;

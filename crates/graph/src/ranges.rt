@@ -8,16 +8,13 @@ use image::access::instruction_at;
 use image::section::Layout;
 use image::section::Section;
 ghost use mathlib.Core.Path.{_≡_};
-ghost use lib.ListN.{length};
-ghost use Rattle.image.specs.Refusal.{clear};
-ghost use Rattle.image.specs.Image.{recordsIn, imageIn};
-ghost use Rattle.image.specs.Record.{instructionFrom};
+ghost use Rattle.image.specs.Image.{imageIn};
 ghost use Rattle.graph.specs.Error.{checkOf};
-ghost use Rattle.graph.specs.Fold.{checks};
 ghost use Rattle.graph.specs.Table.{codeEnd};
-ghost use Rattle.graph.specs.Transfer.{entriesOf, tableOf};
-ghost use Rattle.graph.specs.Build.{tableCheck, handlerCheck};
-ghost use Rattle.graph.specs.Ranges.{Ranges};
+ghost use Rattle.graph.specs.Lookup.{entriesIn};
+ghost use Rattle.graph.specs.Transfer.{tableOf};
+ghost use Rattle.graph.specs.Build.{handlerCheck};
+ghost use Rattle.graph.specs.Ranges.{Ended, Ranges, handlersCheck};
 
 // The positions of a range's instructions: from `first` up to `past`.
 pub enum Ranged {
@@ -27,7 +24,7 @@ pub enum Ranged {
 
 // The greatest end of all: a range may end there, where no instruction starts.
 pub fn code_end(s: &[u8], y: Section) -> u64
-    ensures { λ r. ⌜ r ≡ codeEnd (entriesOf (recordsIn instructionFrom (now (s .entry)) y)) ⌝ }
+    ensures { λ r. ⌜ r ≡ codeEnd (entriesIn (now (s .entry)) y) ⌝ }
 {
     let n = y.count as usize;
     let mut greatest: u64 = 0;
@@ -42,8 +39,8 @@ pub fn code_end(s: &[u8], y: Section) -> u64
 
 // The positions of the range from `start` to `end`, in a table that ends at `code_end`.
 pub fn range_check(s: &[u8], y: Section, code_end: u64, start: u64, end: u64) -> Ranged
-    requires { ⌜ (tableCheck (entriesOf (recordsIn instructionFrom (now s) y)) ≡ clear) × («code_end» ≡ codeEnd (entriesOf (recordsIn instructionFrom (now s) y))) ⌝ }
-    ensures { λ r. ⌜ Ranges (entriesOf (recordsIn instructionFrom (now (s .entry)) y)) start end r ⌝ }
+    requires { ⌜ Ended (entriesIn (now s) y) «code_end» ⌝ }
+    ensures { λ r. ⌜ Ranges (entriesIn (now (s .entry)) y) start end r ⌝ }
 {
     if end <= start {
         return Ranged::Refused(AddressBuildError::EmptyProtectedRange { start, end });
@@ -63,8 +60,8 @@ pub fn range_check(s: &[u8], y: Section, code_end: u64, start: u64, end: u64) ->
 
 // The first refusal among those of the handlers.
 pub fn check_handlers(s: &[u8], y: Layout, code_end: u64) -> Checked
-    requires { ⌜ (tableCheck (tableOf (imageIn (now s) y)) ≡ clear) × («code_end» ≡ codeEnd (tableOf (imageIn (now s) y))) ⌝ }
-    ensures { λ r. ⌜ checkOf r ≡ checks (handlerCheck (imageIn (now (s .entry)) y)) (length (imageIn (now (s .entry)) y .handlers)) ⌝ }
+    requires { ⌜ Ended (tableOf (imageIn (now s) y)) «code_end» ⌝ }
+    ensures { λ r. ⌜ checkOf r ≡ handlersCheck (imageIn (now (s .entry)) y) ⌝ }
 {
     let n = y.code.handlers.count as usize;
     for h in 0..n {
@@ -77,7 +74,7 @@ pub fn check_handlers(s: &[u8], y: Layout, code_end: u64) -> Checked
 }
 
 fn check_handler(s: &[u8], y: Layout, code_end: u64, h: usize) -> Checked
-    requires { ⌜ (tableCheck (tableOf (imageIn (now s) y)) ≡ clear) × («code_end» ≡ codeEnd (tableOf (imageIn (now s) y))) ⌝ }
+    requires { ⌜ Ended (tableOf (imageIn (now s) y)) «code_end» ⌝ }
     ensures { λ r. ⌜ checkOf r ≡ handlerCheck (imageIn (now (s .entry)) y) h ⌝ }
 {
     let code = y.code;

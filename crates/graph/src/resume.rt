@@ -4,20 +4,21 @@ use image::access::route_at;
 use image::access::step_at;
 use image::section::RouteLayout;
 ghost use mathlib.Core.Path.{_≡_};
-ghost use Prim.Native.Nat.{_<_};
-ghost use lib.ListN.{length};
 ghost use Rattle.image.specs.Image.{routesIn};
 ghost use Rattle.image.specs.Deal.{routesOf};
-ghost use Rattle.image.specs.Accepted.{AcceptedRoutes};
-ghost use Rattle.graph.specs.Route.{routeAt, resumesLate, pathsBefore, stepsBefore};
+ghost use Rattle.graph.specs.Route.{routeAt, resumesLate};
+ghost use Rattle.graph.specs.Ranges.{Placed};
 
-const RESUME: u64 = 2;
+// 'path end and step code count from 0 in their enums' order'
+pub const HANDLER: u64 = 0;
 
-const FUNCLET: u64 = 0;
+pub const RESUME: u64 = 2;
+
+pub const FUNCLET: u64 = 0;
 
 // Whether some path of route r, whose paths start at `path` and their steps at `step`, resumes after a funclet.
 pub fn resumes_late(s: &[u8], y: RouteLayout, r: usize, path: usize, step: usize) -> bool
-    requires { ⌜ (AcceptedRoutes (routesIn (now s) y)) × (r < length (routesIn (now s) y .routes)) × (path ≡ pathsBefore (routesIn (now s) y) r) × (step ≡ stepsBefore (routesIn (now s) y) path) ⌝ }
+    requires { ⌜ Placed (routesIn (now s) y) r path step ⌝ }
     ensures { λ b. ⌜ b ≡ resumesLate (routeAt (routesOf (routesIn (now (s .entry)) y)) r) ⌝ }
 {
     let n = route_at(s, y.routes, r).paths;

@@ -5,6 +5,8 @@ use crate::lookup::Found;
 use crate::lookup::find;
 use crate::ranges::Ranged;
 use crate::ranges::range_check;
+use crate::resume::FUNCLET;
+use crate::resume::HANDLER;
 use crate::resume::resumes_late;
 use image::access::path_at;
 use image::access::route_at;
@@ -15,26 +17,17 @@ use image::section::Section;
 ghost use mathlib.Core.Path.{_≡_};
 ghost use Prim.Native.Nat.{_+_, _<_, _≤_};
 ghost use lib.ListN.{length};
-ghost use Rattle.image.specs.Refusal.{clear};
-ghost use Rattle.image.specs.Record.{instructionFrom};
-ghost use Rattle.image.specs.Image.{recordsIn, imageIn, routesIn};
+ghost use Rattle.image.specs.Image.{imageIn, routesIn};
 ghost use Rattle.image.specs.Deal.{routesOf};
 ghost use Rattle.image.specs.Accepted.{Accepted, AcceptedRoutes};
 ghost use Rattle.graph.specs.Error.{checkOf};
 ghost use Rattle.graph.specs.Fold.{checks};
-ghost use Rattle.graph.specs.Table.{codeEnd};
-ghost use Rattle.graph.specs.Lookup.{Rising};
-ghost use Rattle.graph.specs.Transfer.{entriesOf, tableOf};
-ghost use Rattle.graph.specs.Leaders.{routes};
+ghost use Rattle.graph.specs.Lookup.{entriesIn, Rising};
+ghost use Rattle.graph.specs.Transfer.{tableOf};
 ghost use Rattle.graph.specs.Route.{routeCheck, pathsBefore, stepsBefore, pathIn};
-ghost use Rattle.graph.specs.Build.{tableCheck};
-ghost use Rattle.graph.specs.Ranges.{Enters, namedCheck, pathCheck};
+ghost use Rattle.graph.specs.Ranges.{Ended, Placed, Enters, namedCheck, pathCheck, routesCheck};
 
-const HANDLER: u64 = 0;
-
-const FUNCLET: u64 = 0;
-
-// The step that comes next, or the refusal.
+// Where the steps of the path behind start, or the refusal.
 pub enum Entered {
     Next(usize),
     Refused(AddressBuildError),
@@ -42,8 +35,8 @@ pub enum Entered {
 
 // The first refusal among those of the routes. The scan carries along where a route's paths and their steps start.
 pub fn check_routes(s: &[u8], y: Layout, code_end: u64) -> Checked
-    requires { ⌜ (Accepted (imageIn (now s) y)) × (tableCheck (tableOf (imageIn (now s) y)) ≡ clear) × («code_end» ≡ codeEnd (tableOf (imageIn (now s) y))) ⌝ }
-    ensures { λ r. ⌜ checkOf r ≡ checks (routeCheck (tableOf (imageIn (now (s .entry)) y)) (routes (imageIn (now (s .entry)) y))) (length (routes (imageIn (now (s .entry)) y))) ⌝ }
+    requires { ⌜ Accepted (imageIn (now s) y) × Ended (tableOf (imageIn (now s) y)) «code_end» ⌝ }
+    ensures { λ r. ⌜ checkOf r ≡ routesCheck (imageIn (now (s .entry)) y) ⌝ }
 {
     let instructions = y.code.instructions;
     let layout = y.routes;
@@ -71,8 +64,8 @@ fn check_route(
     path: usize,
     step: usize,
 ) -> Entered
-    requires { ⌜ (AcceptedRoutes (routesIn (now s) y)) × (tableCheck (entriesOf (recordsIn instructionFrom (now s) t)) ≡ clear) × («code_end» ≡ codeEnd (entriesOf (recordsIn instructionFrom (now s) t))) × (r < length (routesIn (now s) y .routes)) × (path ≡ pathsBefore (routesIn (now s) y) r) × (step ≡ stepsBefore (routesIn (now s) y) path) ⌝ }
-    ensures { λ e. ⌜ Enters (routeCheck (entriesOf (recordsIn instructionFrom (now (s .entry)) t)) (routesOf (routesIn (now (s .entry)) y)) r) (stepsBefore (routesIn (now (s .entry)) y) (pathsBefore (routesIn (now (s .entry)) y) (r + 1))) e ⌝ }
+    requires { ⌜ Ended (entriesIn (now s) t) «code_end» × Placed (routesIn (now s) y) r path step ⌝ }
+    ensures { λ e. ⌜ Enters (routesIn (now (s .entry)) y) (routeCheck (entriesIn (now (s .entry)) t) (routesOf (routesIn (now (s .entry)) y)) r) (pathsBefore (routesIn (now (s .entry)) y) (r + 1)) e ⌝ }
 {
     let route = route_at(s, y.routes, r);
     let start = route.start;
@@ -95,8 +88,8 @@ fn check_entries(
     n: usize,
     step: usize,
 ) -> Entered
-    requires { ⌜ (AcceptedRoutes (routesIn (now s) y)) × Rising (entriesOf (recordsIn instructionFrom (now s) t)) × (path + n ≤ length (routesIn (now s) y .paths)) × (step ≡ stepsBefore (routesIn (now s) y) path) ⌝ }
-    ensures { λ e. ⌜ Enters (checks (λ k. pathCheck (entriesOf (recordsIn instructionFrom (now (s .entry)) t)) (pathIn (routesIn (now (s .entry)) y) (path + k))) n) (stepsBefore (routesIn (now (s .entry)) y) (path + n)) e ⌝ }
+    requires { ⌜ AcceptedRoutes (routesIn (now s) y) × Rising (entriesIn (now s) t) × (path + n ≤ length (routesIn (now s) y .paths)) × (step ≡ stepsBefore (routesIn (now s) y) path) ⌝ }
+    ensures { λ e. ⌜ Enters (routesIn (now (s .entry)) y) (checks (λ k. pathCheck (entriesIn (now (s .entry)) t) (pathIn (routesIn (now (s .entry)) y) (path + k))) n) (path + n) e ⌝ }
 {
     let mut next = step;
     for k in 0..n {
@@ -110,8 +103,8 @@ fn check_entries(
 
 // The entries of path p, whose steps start at `step`: its funclets in order, then its handler.
 fn check_path(s: &[u8], t: Section, y: RouteLayout, p: usize, step: usize) -> Entered
-    requires { ⌜ (AcceptedRoutes (routesIn (now s) y)) × Rising (entriesOf (recordsIn instructionFrom (now s) t)) × (p < length (routesIn (now s) y .paths)) × (step ≡ stepsBefore (routesIn (now s) y) p) ⌝ }
-    ensures { λ e. ⌜ Enters (pathCheck (entriesOf (recordsIn instructionFrom (now (s .entry)) t)) (pathIn (routesIn (now (s .entry)) y) p)) (stepsBefore (routesIn (now (s .entry)) y) (p + 1)) e ⌝ }
+    requires { ⌜ AcceptedRoutes (routesIn (now s) y) × Rising (entriesIn (now s) t) × (p < length (routesIn (now s) y .paths)) × (step ≡ stepsBefore (routesIn (now s) y) p) ⌝ }
+    ensures { λ e. ⌜ Enters (routesIn (now (s .entry)) y) (pathCheck (entriesIn (now (s .entry)) t) (pathIn (routesIn (now (s .entry)) y) p)) (p + 1) e ⌝ }
 {
     let path = path_at(s, y.paths, p);
     let size = path.steps;
@@ -132,8 +125,8 @@ fn check_path(s: &[u8], t: Section, y: RouteLayout, p: usize, step: usize) -> En
 }
 
 fn check_entry(s: &[u8], t: Section, a: u64) -> Checked
-    requires { ⌜ Rising (entriesOf (recordsIn instructionFrom (now s) t)) ⌝ }
-    ensures { λ r. ⌜ checkOf r ≡ namedCheck (entriesOf (recordsIn instructionFrom (now (s .entry)) t)) a ⌝ }
+    requires { ⌜ Rising (entriesIn (now s) t) ⌝ }
+    ensures { λ r. ⌜ checkOf r ≡ namedCheck (entriesIn (now (s .entry)) t) a ⌝ }
 {
     let Found::At(_) = find(s, t, a) else {
         return Checked::Refused(AddressBuildError::MissingRouteEntry { address: a });

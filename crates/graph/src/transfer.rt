@@ -5,7 +5,7 @@ ghost use mathlib.Core.Bool.{not};
 ghost use mathlib.Core.Path.{_≡_};
 ghost use Prim.Native.Nat.{_≤_};
 ghost use lib.Dec.{eqb};
-ghost use Rattle.graph.specs.Flow.{Flow, slotsOf, kindOf, fallsThrough, unresolvedRole, isCall, flowUnder};
+ghost use Rattle.graph.specs.Flow.{Flow, From, slotsOf, kindOf, fallsThrough, unresolvedRole, isCall, flowUnder};
 ghost use Rattle.graph.specs.Transfer.{hasTarget, slotTransfer, caseTransfer};
 ghost use Rattle.graph.specs.Slots.{fromOf, slotIn, slotsIn, transferIn};
 
@@ -138,6 +138,18 @@ pub fn has_target(x: Transfer) -> bool
         Origin::Computed => false,
         Origin::Named => true,
         Origin::End => true,
+    }
+}
+
+pub fn is_empty(x: Transfer) -> bool
+    ensures { λ r. ⌜ r ≡ eqb (transferIn x .from) From.nowhere ⌝ }
+{
+    let from = x.from;
+    match from {
+        Origin::Nowhere => true,
+        Origin::Computed => false,
+        Origin::Named => false,
+        Origin::End => false,
     }
 }
 

@@ -9,32 +9,14 @@ use borrow.Author.Needs.{needs}
 use Rattle.graph.proofs.ranges.check_handler.Statement.{statement}
 use Rattle.graph.proofs.ranges.check_handler.Tie as tie
 
-handler-at-requires : tie.Need-handler-at-requires
-handler-at-requires c κs = search needs
-
-range-check-requires : tie.Need-range-check-requires
-range-check-requires c κs = search needs
-
-enum-known-e : tie.Need-enum-known-e
-enum-known-e c = search needs
-
 returns : tie.Need-returns
 unfolding handlerCheck handlerAt
 returns c =
     let range = rw (c .before .e .given .1, c .before .before .before .before .handler-at .ensures) at (c .before .before .before .range-check .ensures) in
     rw range
 
-enum-told : tie.Need-enum-told
-enum-told c = search needs
-
 find-requires : tie.Need-find-requires
 find-requires c κs = rising _ (c .before .before .before .before .before .before .before .pre .0)
-
-enum-told-2 : tie.Need-enum-told-2
-enum-told-2 c = search needs
-
-enum-told-3 : tie.Need-enum-told-3
-enum-told-3 c = search needs
 
 returns-2 : tie.Need-returns-2
 unfolding handlerCheck handlerAt
@@ -56,13 +38,13 @@ pub check-handler-spec : {M : Type 1} → statement M
 check-handler-spec =
     tie.close
     (tie.spec
-    handler-at-requires
-    range-check-requires
-    enum-known-e
+    (λ c κs. search needs)
+    (λ c κs. search needs)
+    (λ c. search needs)
     returns
-    enum-told
+    (λ c. search needs)
     find-requires
-    enum-told-2
-    enum-told-3
+    (λ c. search needs)
+    (λ c. search needs)
     returns-2
     returns-3)

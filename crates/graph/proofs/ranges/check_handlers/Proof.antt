@@ -21,21 +21,12 @@ Inv-loop s y code-end n h₀ h = (h ≤ y .code .handlers .count) × (checks (ha
 abbrev μ-loop : tie.MeasureT-loop
 μ-loop s y code-end n h₀ h = y .code .handlers .count - h
 
-cast-n : tie.Need-cast-n Inv-loop μ-loop
-cast-n c = search needs
-
 loop-holds : tie.Need-loop-holds Inv-loop μ-loop
 unfolding checks
 loop-holds c = (search needs, refl)
 
 check-handler-requires : tie.Need-check-handler-requires Inv-loop μ-loop
 check-handler-requires c κs = c .before .before .before .before .pre
-
-enum-told : tie.Need-enum-told Inv-loop μ-loop
-enum-told c = search needs
-
-enum-told-2 : tie.Need-enum-told-2 Inv-loop μ-loop
-enum-told-2 c = search needs
 
 returns : tie.Need-returns Inv-loop μ-loop
 returns c =
@@ -48,9 +39,6 @@ returns c =
 
 add-h : tie.Need-add-h Inv-loop μ-loop
 add-h c = omega (arith, c .before .before .before .before .before .struct-known .given)
-
-loop-less : tie.Need-loop-less Inv-loop μ-loop
-loop-less c = search needs
 
 loop-again : tie.Need-loop-again Inv-loop μ-loop
 loop-again c =
@@ -71,13 +59,13 @@ check-handlers-spec =
     (tie.spec
     Inv-loop
     μ-loop
-    cast-n
+    (λ c. search needs)
     loop-holds
     check-handler-requires
-    enum-told
-    enum-told-2
+    (λ c. search needs)
+    (λ c. search needs)
     returns
     add-h
-    loop-less
+    (λ c. search needs)
     loop-again
     returns-2)

@@ -9,7 +9,8 @@ use Rattle.image.specs.Image.{recordsIn}
 use Rattle.image.specs.Record.{instructionFrom}
 use Rattle.image.specs.declared.record.Instruction.{Instruction}
 use Rattle.graph.specs.declared.record.TableEntry.{TableEntry}
-use Rattle.graph.specs.Table.{codeEnd, entryAt}
+use Rattle.graph.specs.Table.{codeEnd}
+use Rattle.graph.specs.Lookup.{entriesIn}
 use Rattle.graph.specs.Transfer.{tableEntry, entriesOf}
 use Rattle.graph.proofs.TableLaws.{size-is, entry-is}
 use Rattle.graph.proofs.RangeLaws.{code-end-more}
@@ -18,26 +19,14 @@ use Rattle.graph.proofs.ranges.code_end.Statement.{statement}
 use Rattle.graph.proofs.ranges.code_end.Tie as tie
 
 abbrev Inv-loop : tie.InvT-loop
-Inv-loop s y n greatest₀ i₀ greatest i = (i ≤ y .count) × (greatest ≡ codeEnd (take i (entriesOf (recordsIn instructionFrom s y))))
+Inv-loop s y n greatest₀ i₀ greatest i = (i ≤ y .count) × (greatest ≡ codeEnd (take i (entriesIn s y)))
 
 abbrev μ-loop : tie.MeasureT-loop
 μ-loop s y n greatest₀ i₀ greatest i = y .count - i
 
-cast-n : tie.Need-cast-n Inv-loop μ-loop
-cast-n c = search needs
-
 loop-holds : tie.Need-loop-holds Inv-loop μ-loop
 unfolding codeEnd
 loop-holds c = (search needs, refl)
-
-instruction-at-requires : tie.Need-instruction-at-requires Inv-loop μ-loop
-instruction-at-requires c κs = search needs
-
-add-i : tie.Need-add-i Inv-loop μ-loop
-add-i c = search needs
-
-loop-less : tie.Need-loop-less Inv-loop μ-loop
-loop-less c = search needs
 
 loop-again : tie.Need-loop-again Inv-loop μ-loop
 unfolding tableEntry
@@ -62,10 +51,10 @@ code-end-spec =
     (tie.spec
     Inv-loop
     μ-loop
-    cast-n
+    (λ c. search needs)
     loop-holds
-    instruction-at-requires
-    add-i
-    loop-less
+    (λ c κs. search needs)
+    (λ c. search needs)
+    (λ c. search needs)
     loop-again
     returns)

@@ -51,9 +51,6 @@ steps-among c =
     let inside = among (c .before .before .before) in
     omega (arith, steps-in (routesIn (a .s .now) (a .y)) (p .0) (a .path + top .k) (omega (arith, inside)), top .inv .1, ap (λ (x : Path). x .steps) (c .path-at .ensures))
 
-route-at-requires : tie.Need-route-at-requires Inv-loop μ-loop Inv-paths μ-paths
-route-at-requires c κs = search needs
-
 paths-holds : tie.Need-paths-holds Inv-loop μ-loop Inv-paths μ-paths
 unfolding some
 paths-holds c =
@@ -63,9 +60,6 @@ paths-holds c =
 
 add-path-at : tie.Need-add-path-at Inv-loop μ-loop Inv-paths μ-paths
 add-path-at c = omega (arith, among (c .before .before), c .before .before .before .before .pre .0 .paths-most)
-
-path-at-requires : tie.Need-path-at-requires Inv-loop μ-loop Inv-paths μ-paths
-path-at-requires c κs = search needs
 
 add-next : tie.Need-add-next Inv-loop μ-loop Inv-paths μ-paths
 add-next c = omega (arith, steps-among c, c .before .before .before .before .before .pre .0 .steps-most)
@@ -77,14 +71,8 @@ loop-holds c = (search needs, c .before .before .before .before .paths .inv .2, 
 add-step-at : tie.Need-add-step-at Inv-loop μ-loop Inv-paths μ-paths
 add-step-at c = omega (arith, steps-among (c .before .before .before .before), c .before .before .before .before .before .before .before .before .before .pre .0 .steps-most)
 
-step-at-requires : tie.Need-step-at-requires Inv-loop μ-loop Inv-paths μ-paths
-step-at-requires c κs = search needs
-
 add-j : tie.Need-add-j Inv-loop μ-loop Inv-paths μ-paths
 add-j c = omega (arith, steps-among (c .before .before .before .before .before .before .before), c .before .before .before .before .before .before .before .before .before .before .before .before .pre .0 .steps-most)
-
-loop-less : tie.Need-loop-less Inv-loop μ-loop Inv-paths μ-paths
-loop-less c = search needs
 
 loop-again : tie.Need-loop-again Inv-loop μ-loop Inv-paths μ-paths
 loop-again c =
@@ -93,9 +81,6 @@ loop-again c =
 
 add-k : tie.Need-add-k Inv-loop μ-loop Inv-paths μ-paths
 add-k c = omega (arith, among (c .before .before .before .before .before), c .before .before .before .before .before .before .before .pre .0 .paths-most)
-
-paths-less : tie.Need-paths-less Inv-loop μ-loop Inv-paths μ-paths
-paths-less c = search needs
 
 paths-again : tie.Need-paths-again Inv-loop μ-loop Inv-paths μ-paths
 paths-again c =
@@ -150,19 +135,19 @@ resumes-late-spec =
     μ-loop
     Inv-paths
     μ-paths
-    route-at-requires
+    (λ c κs. search needs)
     paths-holds
     add-path-at
-    path-at-requires
+    (λ c κs. search needs)
     add-next
     loop-holds
     add-step-at
-    step-at-requires
+    (λ c κs. search needs)
     add-j
-    loop-less
+    (λ c. search needs)
     loop-again
     add-k
-    paths-less
+    (λ c. search needs)
     paths-again
     returns
     returns-2)

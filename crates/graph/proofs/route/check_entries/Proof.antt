@@ -2,11 +2,10 @@
 use mathlib.Core.Path.{_≡_, refl, ap, _∙_}
 use Prim.Native.Nat.{ℕ, _+_, _-_, _≤_}
 use native.Mathlib.Omega.{arith}
-use Rattle.image.specs.Record.{instructionFrom}
 use Rattle.image.specs.Refusal.{clear, checks}
-use Rattle.image.specs.Image.{recordsIn, routesIn}
+use Rattle.image.specs.Image.{routesIn}
 use Rattle.image.proofs.Checks.{checks-more, checks-stop}
-use Rattle.graph.specs.Transfer.{entriesOf}
+use Rattle.graph.specs.Lookup.{entriesIn}
 use Rattle.graph.specs.Route.{stepsBefore, pathIn}
 use Rattle.graph.specs.Ranges.{pathCheck}
 use borrow.Author.Needs.{needs}
@@ -15,7 +14,7 @@ use Rattle.graph.proofs.route.check_entries.Tie as tie
 
 abbrev Inv-loop : tie.InvT-loop
 Inv-loop s t y path n step next₀ k₀ next k =
-    (k ≤ n) × (next ≡ stepsBefore (routesIn s y) (path + k)) × (checks (λ (i : ℕ). pathCheck (entriesOf (recordsIn instructionFrom s t)) (pathIn (routesIn s y) (path + i))) k ≡ clear)
+    (k ≤ n) × (next ≡ stepsBefore (routesIn s y) (path + k)) × (checks (λ (i : ℕ). pathCheck (entriesIn s t) (pathIn (routesIn s y) (path + i))) k ≡ clear)
 
 abbrev μ-loop : tie.MeasureT-loop
 μ-loop s t y path n step next₀ k₀ next k = n - k
@@ -35,22 +34,10 @@ check-path-requires c κs =
     let p = c .before .before .before .pre in
     (p .0, p .1, omega (arith, p .2), c .before .loop .inv .1)
 
-enum-known-e : tie.Need-enum-known-e Inv-loop μ-loop
-enum-known-e c = search needs
-
 returns : tie.Need-returns Inv-loop μ-loop
 returns c =
     let top = c .before .before .before .before .before .loop in
     checks-stop _ (top .k) _ _ (c .before .before .before .before .loop-test .taken) (top .inv .2) (rw (c .before .e .given .1) at (c .before .before .before .check-path .ensures))
-
-enum-known-behind : tie.Need-enum-known-behind Inv-loop μ-loop
-enum-known-behind c = search needs
-
-add-k : tie.Need-add-k Inv-loop μ-loop
-add-k c = search needs
-
-loop-less : tie.Need-loop-less Inv-loop μ-loop
-loop-less c = search needs
 
 loop-again : tie.Need-loop-again Inv-loop μ-loop
 loop-again c =
@@ -75,10 +62,10 @@ check-entries-spec =
     loop-holds
     add-check-path
     check-path-requires
-    enum-known-e
+    (λ c. search needs)
     returns
-    enum-known-behind
-    add-k
-    loop-less
+    (λ c. search needs)
+    (λ c. search needs)
+    (λ c. search needs)
     loop-again
     returns-2)

@@ -3,15 +3,6 @@ use borrow.Author.Needs.{needs}
 use Rattle.graph.proofs.route.check_entry.Statement.{statement}
 use Rattle.graph.proofs.route.check_entry.Tie as tie
 
-find-requires : tie.Need-find-requires
-find-requires c κs = search needs
-
-enum-told : tie.Need-enum-told
-enum-told c = search needs
-
-enum-told-2 : tie.Need-enum-told-2
-enum-told-2 c = search needs
-
 returns : tie.Need-returns
 returns c = rw (rw (c .enum-told2 .given .1) at (c .before .before .find .ensures))
 
@@ -19,4 +10,4 @@ returns-2 : tie.Need-returns-2
 returns-2 c = let here = rw (c .enum-told .given .1) at (c .before .before .find .ensures) in rw (here .0)
 
 pub check-entry-spec : {M : Type 1} → statement M
-check-entry-spec = tie.close (tie.spec find-requires enum-told enum-told-2 returns returns-2)
+check-entry-spec = tie.close (tie.spec (λ c κs. search needs) (λ c. search needs) (λ c. search needs) returns returns-2)

@@ -2,16 +2,16 @@
 use mathlib.Core.Logic.{⊎-elim}
 use mathlib.Core.Path.{_≡_, refl, sym, ap, _∙_}
 use mathlib.Core.List.{[]}
-use Prim.Native.Nat.{ℕ, _+_, _-_, _<_, _≤_}
+use Prim.Native.Nat.{ℕ, _+_, _-_, _≤_}
 use native.Mathlib.Omega.{arith}
-use lib.ListN.{length, getD}
-use Rattle.image.specs.Record.{instructionFrom, pathFrom, stepFrom}
+use lib.ListN.{getD}
+use Rattle.image.specs.Record.{pathFrom, stepFrom}
 use Rattle.image.specs.Refusal.{Check, clear, checks, _then_}
 use Rattle.image.specs.Image.{recordsIn, routesIn}
 use Rattle.image.specs.declared.record.Path.{Path}
 use Rattle.image.proofs.Checks.{checks-more, checks-stop}
 use Rattle.graph.specs.Error.{checkOf}
-use Rattle.graph.specs.Transfer.{entriesOf}
+use Rattle.graph.specs.Lookup.{entriesIn}
 use Rattle.graph.specs.Route.{stepsBefore}
 use Rattle.graph.proofs.RouteLaws.{steps-in, steps-next, stepCheck, endCheck, step-names, step-calls, end-names, end-leaves, path-entries}
 use borrow.Author.Needs.{needs}
@@ -20,7 +20,7 @@ use Rattle.graph.proofs.route.check_path.Tie as tie
 
 abbrev Inv-loop : tie.InvT-loop
 Inv-loop s t y p step path size j₀ j =
-    (j ≤ size) × (checks (λ (i : ℕ). stepCheck (entriesOf (recordsIn instructionFrom s t)) (getD (recordsIn stepFrom s (y .steps)) (step + i) (stepFrom [] 0))) j ≡ clear)
+    (j ≤ size) × (checks (λ (i : ℕ). stepCheck (entriesIn s t) (getD (recordsIn stepFrom s (y .steps)) (step + i) (stepFrom [] 0))) j ≡ clear)
 
 abbrev μ-loop : tie.MeasureT-loop
 μ-loop s t y p step path size j₀ j = size - j
@@ -34,14 +34,11 @@ among c =
 
 -- after the loop all of them are clear
 passed : (c : tie.After-loop Inv-loop μ-loop) → let a = c .before .before .before .before .args in let m = routesIn (a .s .now) (a .y) in
-    checks (λ (i : ℕ). stepCheck (entriesOf (recordsIn instructionFrom (a .s .now) (a .t))) (getD (m .steps) (stepsBefore m (a .p) + i) (stepFrom [] 0))) (getD (m .paths) (a .p) (pathFrom [] 0) .steps) ≡ clear
+    checks (λ (i : ℕ). stepCheck (entriesIn (a .s .now) (a .t)) (getD (m .steps) (stepsBefore m (a .p) + i) (stepFrom [] 0))) (getD (m .paths) (a .p) (pathFrom [] 0) .steps) ≡ clear
 passed c =
     let read = c .before .before .path-at .ensures in
     let all : c .before .loop .j ≡ c .before .before .path-at .result .steps = omega arith in
     rw (all, c .before .before .before .before .pre .3, read) at (c .before .loop .inv .1)
-
-path-at-requires : tie.Need-path-at-requires Inv-loop μ-loop
-path-at-requires c κs = search needs
 
 loop-holds : tie.Need-loop-holds Inv-loop μ-loop
 unfolding checks
@@ -50,20 +47,14 @@ loop-holds c = (search needs, refl)
 add-step-at : tie.Need-add-step-at Inv-loop μ-loop
 add-step-at c = omega (arith, among (c .before .before))
 
-step-at-requires : tie.Need-step-at-requires Inv-loop μ-loop
-step-at-requires c κs = search needs
-
 check-entry-requires : tie.Need-check-entry-requires Inv-loop μ-loop
 check-entry-requires c κs = c .before .before .before .before .before .before .before .pre .1
-
-enum-known-e : tie.Need-enum-known-e Inv-loop μ-loop
-enum-known-e c = search needs
 
 returns : tie.Need-returns Inv-loop μ-loop
 returns c =
     let start = c .before .before .before .before .before .before .before .before .before .before .before in
     let m = routesIn (start .args .s .now) (start .args .y) in
-    let t = entriesOf (recordsIn instructionFrom (start .args .s .now) (start .args .t)) in
+    let t = entriesIn (start .args .s .now) (start .args .t) in
     let top = c .before .before .before .before .before .before .before .before .loop in
     let step = c .before .before .before .before .before .before .step-at in
     let here = rw (step .ensures) at (step-names t (step .result) (c .before .before .before .before .if1 .taken) ∙ sym (c .before .before .before .check-entry .ensures) ∙ ap checkOf (c .before .e .given .1)) in
@@ -71,48 +62,35 @@ returns c =
     let stops = rw (start .pre .3, c .before .before .before .before .before .before .before .before .before .path-at .ensures) at stop in
     path-entries m (start .pre .0) (start .args .p) (start .pre .2) t ∙ ap (λ (x : Check). x then endCheck t (getD (m .paths) (start .args .p) (pathFrom [] 0))) stops
 
-enum-told : tie.Need-enum-told Inv-loop μ-loop
-enum-told c = search needs
-
 add-j : tie.Need-add-j Inv-loop μ-loop
 add-j c = omega (arith, among (c .before .before .before .before .before))
-
-loop-less : tie.Need-loop-less Inv-loop μ-loop
-loop-less c = search needs
 
 loop-again : tie.Need-loop-again Inv-loop μ-loop
 loop-again c =
     let a = c .before .before .before .before .before .before .before .args in
-    let t = entriesOf (recordsIn instructionFrom (a .s .now) (a .t)) in
+    let t = entriesIn (a .s .now) (a .t) in
     let top = c .before .before .before .before .loop in
     let step = c .before .before .step-at in
-    let here =
-    rw (step .ensures) at
-    (⊎-elim {C = stepCheck t (step .result) ≡ clear}
+    let here : stepCheck t (step .result) ≡ clear =
+    ⊎-elim
     (λ w. step-names t (step .result) (w .0 .taken) ∙ sym (w .1 .ensures) ∙ ap checkOf (w .3 .given .1))
     (λ w. step-calls t (step .result) (w .left))
-    (c .if1 .came)) in
-    (search needs, checks-more _ (top .j) (top .inv .1) ∙ here)
+    (c .if1 .came) in
+    (search needs, checks-more _ (top .j) (top .inv .1) ∙ (rw (step .ensures) at here))
 
 check-entry-requires-2 : tie.Need-check-entry-requires-2 Inv-loop μ-loop
 check-entry-requires-2 c κs = c .before .before .before .before .before .before .pre .1
-
-enum-known-e-2 : tie.Need-enum-known-e-2 Inv-loop μ-loop
-enum-known-e-2 c = search needs
 
 returns-2 : tie.Need-returns-2 Inv-loop μ-loop
 returns-2 c =
     let start = c .before .before .before .before .before .before .before .before .before .before in
     let m = routesIn (start .args .s .now) (start .args .y) in
-    let t = entriesOf (recordsIn instructionFrom (start .args .s .now) (start .args .t)) in
+    let t = entriesIn (start .args .s .now) (start .args .t) in
     let path = c .before .before .before .before .before .before .before .before .path-at in
     let here = rw (path .ensures) at (end-names t (path .result) (c .before .before .before .before .if2 .taken) ∙ sym (c .before .before .before .check-entry2 .ensures) ∙ ap checkOf (c .before .e2 .given .1)) in
     path-entries m (start .pre .0) (start .args .p) (start .pre .2) t
     ∙ ap (λ (x : Check). x then endCheck t (getD (m .paths) (start .args .p) (pathFrom [] 0))) (passed (c .before .before .before .before .before .before))
     ∙ here
-
-enum-told-2 : tie.Need-enum-told-2 Inv-loop μ-loop
-enum-told-2 c = search needs
 
 add-t17 : tie.Need-add-t17 Inv-loop μ-loop
 add-t17 c = omega (arith, among (c .before .before .before .before))
@@ -121,17 +99,16 @@ returns-3 : tie.Need-returns-3 Inv-loop μ-loop
 returns-3 c =
     let start = c .before .before .before .before .before .before in
     let m = routesIn (start .args .s .now) (start .args .y) in
-    let t = entriesOf (recordsIn instructionFrom (start .args .s .now) (start .args .t)) in
+    let t = entriesIn (start .args .s .now) (start .args .t) in
     let path = c .before .before .before .before .path-at in
-    let here =
-    rw (path .ensures) at
-    (⊎-elim {C = endCheck t (path .result) ≡ clear}
+    let here : endCheck t (path .result) ≡ clear =
+    ⊎-elim
     (λ w. end-names t (path .result) (w .0 .taken) ∙ sym (w .1 .ensures) ∙ ap checkOf (w .3 .given .1))
     (λ w. end-leaves t (path .result) (w .left))
-    (c .if2 .came)) in (
+    (c .if2 .came) in (
       path-entries m (start .pre .0) (start .args .p) (start .pre .2) t
           ∙ ap (λ (x : Check). x then endCheck t (getD (m .paths) (start .args .p) (pathFrom [] 0))) (passed (c .before .before))
-          ∙ here,
+          ∙ (rw (path .ensures) at here),
       omega (arith, steps-next m (start .args .p), start .pre .3, ap (λ (x : Path). x .steps) (path .ensures)),
     )
 
@@ -141,20 +118,20 @@ check-path-spec =
     (tie.spec
     Inv-loop
     μ-loop
-    path-at-requires
+    (λ c κs. search needs)
     loop-holds
     add-step-at
-    step-at-requires
+    (λ c κs. search needs)
     check-entry-requires
-    enum-known-e
+    (λ c. search needs)
     returns
-    enum-told
+    (λ c. search needs)
     add-j
-    loop-less
+    (λ c. search needs)
     loop-again
     check-entry-requires-2
-    enum-known-e-2
+    (λ c. search needs)
     returns-2
-    enum-told-2
+    (λ c. search needs)
     add-t17
     returns-3)

@@ -3,14 +3,14 @@ use mathlib.Core.Path.{_≡_, refl, sym, ap, _∙_}
 use Prim.Native.Nat.{_+_, _-_, _<_, _≤_}
 use native.Mathlib.Omega.{arith}
 use lib.ListN.{length}
-use Rattle.image.specs.Record.{instructionFrom, routeFrom}
+use Rattle.image.specs.Record.{routeFrom}
 use Rattle.image.specs.Refusal.{clear, checks}
 use Rattle.image.specs.Image.{recordsIn, routesIn}
 use Rattle.image.specs.Deal.{total, routesOf}
 use Rattle.image.specs.declared.record.Route.{Route}
 use Rattle.image.proofs.Checks.{checks-more, checks-stop}
 use Rattle.image.proofs.Tables.{length-records}
-use Rattle.graph.specs.Transfer.{entriesOf}
+use Rattle.graph.specs.Lookup.{entriesIn}
 use Rattle.graph.specs.Leaders.{routes}
 use Rattle.graph.specs.Route.{routeCheck, pathsBefore, stepsBefore}
 use Rattle.graph.proofs.RouteLaws.{length-routes, paths-in, paths-next}
@@ -20,13 +20,10 @@ use Rattle.graph.proofs.route.check_routes.Tie as tie
 
 abbrev Inv-loop : tie.InvT-loop
 Inv-loop s code-end instructions layout all n path₀ step₀ r₀ path step r =
-    (r ≤ layout .routes .count) × (path ≡ pathsBefore (routesIn s layout) r) × (step ≡ stepsBefore (routesIn s layout) path) × (checks (routeCheck (entriesOf (recordsIn instructionFrom s instructions)) (routesOf (routesIn s layout))) r ≡ clear)
+    (r ≤ layout .routes .count) × (path ≡ pathsBefore (routesIn s layout) r) × (step ≡ stepsBefore (routesIn s layout) path) × (checks (routeCheck (entriesIn s instructions) (routesOf (routesIn s layout))) r ≡ clear)
 
 abbrev μ-loop : tie.MeasureT-loop
 μ-loop s code-end instructions layout all n path₀ step₀ r₀ path step r = layout .routes .count - r
-
-cast-n : tie.Need-cast-n Inv-loop μ-loop
-cast-n c = search needs
 
 loop-holds : tie.Need-loop-holds Inv-loop μ-loop
 unfolding checks pathsBefore stepsBefore total
@@ -43,10 +40,7 @@ check-route-requires : tie.Need-check-route-requires Inv-loop μ-loop
 check-route-requires c κs =
     let p = c .before .before .before .before .before .before .before .pre in
     let top = c .before .loop in
-    (p .0 .routed, p .1, p .2, among c, top .inv .1, top .inv .2)
-
-enum-known-e : tie.Need-enum-known-e Inv-loop μ-loop
-enum-known-e c = search needs
+    (p .1, (p .0 .routed, among c, top .inv .1, top .inv .2))
 
 returns : tie.Need-returns Inv-loop μ-loop
 unfolding routes
@@ -55,12 +49,6 @@ returns c =
     let top = c .before .before .before .before .before .loop in
     let within : top .r < length (routesOf (routesIn (a .s .now) (a .y .routes))) = rw (length-routes (routesIn (a .s .now) (a .y .routes))) (among (c .before .before .before .before)) in
     sym (checks-stop _ (top .r) _ _ within (top .inv .3) (rw (c .before .e .given .1) at (c .before .before .before .check-route .ensures)))
-
-enum-known-next : tie.Need-enum-known-next Inv-loop μ-loop
-enum-known-next c = search needs
-
-route-at-requires : tie.Need-route-at-requires Inv-loop μ-loop
-route-at-requires c κs = search needs
 
 add-path : tie.Need-add-path Inv-loop μ-loop
 add-path c =
@@ -72,9 +60,6 @@ add-path c =
 
 add-r : tie.Need-add-r Inv-loop μ-loop
 add-r c = omega (arith, c .before .before .before .before .before .before .before .before .struct-known .given)
-
-loop-less : tie.Need-loop-less Inv-loop μ-loop
-loop-less c = search needs
 
 loop-again : tie.Need-loop-again Inv-loop μ-loop
 loop-again c =
@@ -100,15 +85,15 @@ check-routes-spec =
     (tie.spec
     Inv-loop
     μ-loop
-    cast-n
+    (λ c. search needs)
     loop-holds
     check-route-requires
-    enum-known-e
+    (λ c. search needs)
     returns
-    enum-known-next
-    route-at-requires
+    (λ c. search needs)
+    (λ c κs. search needs)
     add-path
     add-r
-    loop-less
+    (λ c. search needs)
     loop-again
     returns-2)

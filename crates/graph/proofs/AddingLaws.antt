@@ -1,0 +1,86 @@
+-- Records added one after the other.
+--     added-none, added-then                        nothing, and one pass behind another
+--     edge-added, unresolved-added, call-added      what the store adds
+--     adding-held                                   within the limits nothing is cut
+-- Assumes nothing.
+use mathlib.Core.Path.{_≡_, refl, sym, ap, _∙_}
+use mathlib.Core.List.{List, [], _∷_, _++_, append-assoc, append-nil}
+use Prim.Native.Nat.{ℕ, _+_, _<_, _≤_}
+use native.Mathlib.Omega.{arith}
+use lib.ListN.{length, length-append}
+use Rattle.graph.specs.Section.{Section}
+use Rattle.graph.specs.Graph.{Graph, Held, held}
+use Rattle.graph.specs.Words.{edgeRows, unresolvedRows, callRows, Part, holding, heldIn}
+use Rattle.graph.specs.Stored.{more, withEdge, withUnresolved, withCall, tableIn, blocksIn, edgesIn, regionsIn, handlersIn, unresolvedIn, callsIn, Stored}
+use Rattle.graph.specs.Adding.{mores, adding, Added}
+use Rattle.graph.specs.declared.record.Edge.{Edge}
+use Rattle.graph.specs.declared.record.UnresolvedTransfer.{UnresolvedTransfer}
+use Rattle.graph.specs.declared.record.CallSite.{CallSite}
+use Rattle.graph.proofs.StoredLaws.{stored-none, stored-then, whole, more-whole}
+
+module _ {A : Type 0} (s : Section) where
+  mores-append : (p : Part A) (l k : List A) → mores s p (l ++ k) ≡ mores s (mores s p l) k
+  unfolding mores
+  mores-append p [] k = refl
+  mores-append p (a ∷ l) k = mores-append (more s p a) l k
+
+  mores-whole : (p l : List A) → length p + length l ≤ s .most → mores s (whole p) l ≡ whole (p ++ l)
+  unfolding mores
+  mores-whole p [] h = ap whole (sym (append-nil p))
+  mores-whole p (a ∷ l) h =
+      ap (λ (q : Part A). mores s q l) (more-whole s p a (omega arith))
+      ∙ mores-whole (p ++ (a ∷ [])) l (rw length-append (omega arith))
+      ∙ ap whole (append-assoc p (a ∷ []) l)
+
+adding-then : (h : Held) (es es′ : List Edge) (us us′ : List UnresolvedTransfer) (cs cs′ : List CallSite)
+    → adding h (es ++ es′) (us ++ us′) (cs ++ cs′) ≡ adding (adding h es us cs) es′ us′ cs′
+unfolding adding
+adding-then h es es′ us us′ cs cs′ =
+    λ t.
+    holding
+    (h .graph .entry)
+    (tableIn h)
+    (blocksIn h)
+    (mores-append edgeRows (edgesIn h) es es′ t)
+    (regionsIn h)
+    (handlersIn h)
+    (mores-append unresolvedRows (unresolvedIn h) us us′ t)
+    (mores-append callRows (callsIn h) cs cs′ t)
+
+pub added-none : (l : List ℕ) → Added l l [] [] []
+unfolding adding mores
+added-none l = record { stored = stored-none l }
+
+pub added-then : {l m n : List ℕ} {es es′ : List Edge} {us us′ : List UnresolvedTransfer} {cs cs′ : List CallSite}
+    → Added l m es us cs → Added m n es′ us′ cs′ → Added l n (es ++ es′) (us ++ us′) (cs ++ cs′)
+added-then {l} {m} {n} {es} {es′} {us} {us′} {cs} {cs′} a b =
+    record { stored = rw (adding-then (heldIn l) es es′ us us′ cs cs′, ← a .stored .holds) (stored-then (a .stored) (b .stored)) }
+
+module _ {l l′ : List ℕ} where
+  pub edge-added : (e : Edge) → Stored l l′ (withEdge (heldIn l) e) → Added l l′ (e ∷ []) [] []
+  unfolding adding mores
+  edge-added e a = record { stored = a }
+
+  pub unresolved-added : (u : UnresolvedTransfer) → Stored l l′ (withUnresolved (heldIn l) u) → Added l l′ [] (u ∷ []) []
+  unfolding adding mores
+  unresolved-added u a = record { stored = a }
+
+  pub call-added : (c : CallSite) → Stored l l′ (withCall (heldIn l) c) → Added l l′ [] [] (c ∷ [])
+  unfolding adding mores
+  call-added c a = record { stored = a }
+
+pub adding-held : (g : Graph) (es : List Edge) (us : List UnresolvedTransfer) (cs : List CallSite)
+    → length (g .edges) + length es ≤ 4096 → length (g .unresolved) + length us ≤ 1024 → length (g .calls) + length cs ≤ 512
+    → adding (held g) es us cs ≡ held (record { entry = g .entry; table = g .table; blocks = g .blocks; edges = g .edges ++ es; regions = g .regions; handlers = g .handlers; unresolved = g .unresolved ++ us; calls = g .calls ++ cs })
+unfolding adding held
+adding-held g es us cs he hu hc =
+    λ t.
+    holding
+    (g .entry)
+    (whole (g .table))
+    (whole (g .blocks))
+    (mores-whole edgeRows (g .edges) es he t)
+    (whole (g .regions))
+    (whole (g .handlers))
+    (mores-whole unresolvedRows (g .unresolved) us hu t)
+    (mores-whole callRows (g .calls) cs hc t)

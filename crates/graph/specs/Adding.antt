@@ -1,0 +1,31 @@
+-- Records behind those that words hold: edges, unresolved transfers and calls, as a pass over the table adds them.
+use mathlib.Core.List.{List, [], _∷_}
+use Prim.Native.Nat.{ℕ}
+use Rattle.graph.specs.Section.{Section}
+use Rattle.graph.specs.Graph.{Held}
+use Rattle.graph.specs.Words.{edgeRows, unresolvedRows, callRows, Part, holding, heldIn}
+use Rattle.graph.specs.Stored.{more, tableIn, blocksIn, edgesIn, regionsIn, handlersIn, unresolvedIn, callsIn, Stored}
+use Rattle.graph.specs.declared.record.Edge.{Edge}
+use Rattle.graph.specs.declared.record.UnresolvedTransfer.{UnresolvedTransfer}
+use Rattle.graph.specs.declared.record.CallSite.{CallSite}
+
+-- one record after the other; where the section is full, no more
+unfoldable pub mores : {A : Type 0} → Section → Part A → List A → Part A
+mores s p [] = p
+mores s p (a ∷ l) = mores s (more s p a) l
+
+unfoldable pub adding : Held → List Edge → List UnresolvedTransfer → List CallSite → Held
+adding h es us cs =
+    holding
+    (h .graph .entry)
+    (tableIn h)
+    (blocksIn h)
+    (mores edgeRows (edgesIn h) es)
+    (regionsIn h)
+    (handlersIn h)
+    (mores unresolvedRows (unresolvedIn h) us)
+    (mores callRows (callsIn h) cs)
+
+-- stores took l to l′, which holds what l does and these records behind it
+pub record Added (l l′ : List ℕ) (es : List Edge) (us : List UnresolvedTransfer) (cs : List CallSite) : Type 0 where
+  pub stored : Stored l l′ (adding (heldIn l) es us cs)
