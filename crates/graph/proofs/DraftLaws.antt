@@ -4,8 +4,8 @@
 --     drafts-in, drafts-out           a handler that is a draft, and one that is not
 --     drafts-most                     no more than there are handlers
 --     put-none, put-on, put-end       one more among them, each behind it moved up after the other
---     counted-size, counted-at        the drafts that an array holds: how many, and which stands at j
---     drafted-size                    how many they are
+--     counted-size, counted-at, counted-past     the drafts that an array holds: how many, and which stands at j
+--     drafted-size, drafted-at        the same of a list of drafts that it holds
 -- Assumes nothing.
 use mathlib.Core.Path.{_≡_, refl, sym, ap, _∙_}
 use mathlib.Core.Bool.{Bool, true, false, cond, _&&_}
@@ -15,7 +15,7 @@ use native.Mathlib.Numerals.{add-one}
 use native.Mathlib.Omega.{arith}
 use borrow.Author.Tests.{le-leb, lt-leb}
 use lib.Dec.{eqb, leb}
-use lib.ListN.{length, getD, take, drop, set, drop-of-length-le}
+use lib.ListN.{length, getD, take, drop, set, drop-of-length-le, List·getD-eq-default}
 use lib.Seq.{length-take-le, take-suc, drop-cons, append-snoc, take-suc-set, take-take, getD-take}
 use Rattle.image.specs.Image.{Image}
 use Rattle.image.specs.declared.record.Handler.{Handler}
@@ -87,5 +87,11 @@ module _ {d : Drafts} where
   pub counted-at : Counted d → (j : ℕ) → j < d .count → getD (draftsIn d) j 0 ≡ getD (d .list) j 0
   counted-at counted j h = getD-take (d .count) (d .list) j 0 h
 
+  pub counted-past : Counted d → (j : ℕ) → d .count ≤ j → getD (draftsIn d) j 0 ≡ 0
+  counted-past counted j h = List·getD-eq-default (draftsIn d) 0 {n = j} (omega (arith, counted-size counted))
+
   pub drafted-size : {gs : List ℕ} → Drafted d gs → length gs ≡ d .count
   drafted-size drafted = ap length (sym (drafted .list)) ∙ counted-size (drafted .counted)
+
+  pub drafted-at : {gs : List ℕ} → Drafted d gs → (j : ℕ) → getD (draftsIn d) j 0 ≡ getD gs j 0
+  drafted-at drafted j = ap (λ (l : List ℕ). getD l j 0) (drafted .list)

@@ -11,6 +11,7 @@ pub mod BlockLaws
 pub mod Rule21
 pub mod TableLaws
 pub mod DraftLaws
+pub mod RegionLaws
 pub mod CursorLaws
 pub mod CheckLaws
 pub mod RangeLaws

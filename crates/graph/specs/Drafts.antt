@@ -1,10 +1,18 @@
--- The drafts of regions in an array: what its functions answer.
+-- What the code that adds regions is lent, and what it answers on the way: the drafts in an array, and the parent of one.
 use mathlib.Core.Path.{_≡_}
-use mathlib.Core.List.{List, _∷_, _++_}
+use mathlib.Core.List.{List, [], _∷_, _++_}
 use Prim.Native.Nat.{ℕ, _≤_}
 use lib.ListN.{length, take, drop}
+use Rattle.image.specs.Refusal.{clear}
 use Rattle.image.specs.Image.{Image}
 use Rattle.graph.specs.declared.drafts.Drafts.{Drafts}
+use Rattle.graph.specs.declared.regions.Parent.{Parent}
+use Rattle.graph.specs.declared.regions.Parent.the-variants.{Region, Nothing}
+use Rattle.graph.specs.Fold.{checks}
+use Rattle.graph.specs.Table.{codeEnd}
+use Rattle.graph.specs.Transfer.{tableOf}
+use Rattle.graph.specs.Emit.{Numbered}
+use Rattle.graph.specs.Build.{tableCheck, handlerCheck}
 use Rattle.graph.specs.Regions.{place}
 
 -- the drafts that an array holds
@@ -26,3 +34,16 @@ put j h gs = take j gs ++ h ∷ drop j gs
 pub record Placed (m : Image) (d : Drafts) (h j : ℕ) : Type 0 where
   pub within : j ≤ d .count
   pub place : place m h (draftsIn d) ≡ put j h (draftsIn d)
+
+-- a list of one region, or of none
+abbrev pub parentIn : Parent → List ℕ
+parentIn (Region k) = k ∷ []
+parentIn Nothing = []
+
+-- the checks of the table and of the handlers have passed, and the code's end and the blocks are known
+pub record Handled (m : Image) (end : ℕ) (blocks : List ℕ) : Type 0 where
+  pub few : length (m .handlers) ≤ 32
+  pub table : tableCheck (tableOf m) ≡ clear
+  pub passed : checks (handlerCheck m) (length (m .handlers)) ≡ clear
+  pub ends : end ≡ codeEnd (tableOf m)
+  pub numbered : Numbered m blocks

@@ -6,7 +6,7 @@ ghost use mathlib.Core.Bool.{_&&_};
 ghost use mathlib.Core.Path.{_≡_};
 ghost use Prim.Native.Nat.{_+_, _≤_, _<_};
 ghost use lib.Dec.{eqb};
-ghost use lib.ListN.{length};
+ghost use lib.ListN.{length, getD};
 ghost use Rattle.image.specs.Image.{imageIn};
 ghost use Rattle.graph.specs.Leaders.{handlerAt};
 ghost use Rattle.graph.specs.Regions.{isDraft, span, draftsBelow, drafts};
@@ -93,14 +93,22 @@ fn insert(d: Drafts, j: usize, h: usize) -> Drafts
     }
 }
 
-fn handler(s: &[u8], y: Layout, h: usize) -> Handler
+// The draft in place k, and 0 past the last.
+pub fn draft_at(d: Drafts, k: usize) -> usize
+    requires { ⌜ Counted d ⌝ }
+    ensures { λ r. ⌜ r ≡ getD (draftsIn d) k 0 ⌝ }
+{
+    if k < d.count { d.list[k] } else { 0 }
+}
+
+pub fn handler(s: &[u8], y: Layout, h: usize) -> Handler
     ensures { λ r. ⌜ r ≡ handlerAt (imageIn (now (s .entry)) y) h ⌝ }
 {
     let code = y.code;
     handler_at(s, code.handlers, h)
 }
 
-fn same_range(a: Handler, b: Handler) -> bool
+pub fn same_range(a: Handler, b: Handler) -> bool
     ensures { λ r. ⌜ r ≡ (eqb (a .start) (b .start) && eqb (a .end) (b .end)) ⌝ }
 {
     let starts = a.start == b.start;
@@ -109,7 +117,7 @@ fn same_range(a: Handler, b: Handler) -> bool
 }
 
 // How many addresses its range has.
-fn span(s: &[u8], y: Layout, h: usize) -> u64
+pub fn span(s: &[u8], y: Layout, h: usize) -> u64
     ensures { λ r. ⌜ r ≡ span (imageIn (now (s .entry)) y) h ⌝ }
 {
     let own = handler(s, y, h);

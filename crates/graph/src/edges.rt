@@ -98,7 +98,7 @@ fn report(g: &mut Words, source: u64, x: Transfer)
     add_unresolved(g, record);
 }
 
-fn block_of(blocks: &[u16; 512], p: usize) -> u64
+pub fn block_of(blocks: &[u16; 512], p: usize) -> u64
     requires { ⌜ p < 512 ⌝ }
     ensures { λ r. ⌜ r ≡ getD (now (blocks .entry)) p 0 ⌝ }
 {

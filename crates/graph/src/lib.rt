@@ -9,6 +9,7 @@ mod lookup;
 mod ranges;
 pub mod reach;
 pub mod record;
+mod regions;
 mod resume;
 mod route;
 pub mod store;
