@@ -18,3 +18,4 @@ pub mod TransferLaws
 pub mod SearchLaws
 pub mod EdgeLaws
 pub mod DraftLaws
+pub mod RuleLaws

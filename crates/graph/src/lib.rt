@@ -10,5 +10,6 @@ pub mod record;
 mod region;
 mod resume;
 mod route;
+mod rule;
 pub mod store;
 mod transfer;
