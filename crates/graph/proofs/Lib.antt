@@ -20,3 +20,4 @@ pub mod TransferLaws
 pub mod SearchLaws
 pub mod GivenLaws
 pub mod EdgeLaws
+pub mod RuleLaws

@@ -12,5 +12,6 @@ pub mod record;
 mod regions;
 mod resume;
 mod route;
+mod rule;
 pub mod store;
 mod transfer;
