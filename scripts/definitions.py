@@ -1,13 +1,13 @@
 #!/usr/bin/env python3
 """The definitions of the graph crate, computed and held against the published Rust.
 
-    scripts/definitions.py [--oracle DIR] [--most BYTES] [--keep] FAMILY:SEED:COUNT ..
+    scripts/definitions.py [--oracle DIR] [--most BYTES] [FAMILY:SEED:COUNT ..]
 
-Images of the families come from the oracle, which answers them by the Rust (build alone). For each image the script
+Images of the families come from the oracle, which answers them by the published Rust (build alone). For each image the script
 writes one line of antt into a scratch crate outside the repository: what `buildOf` gives, as numbers, is what the Rust
 gave, and a built graph meets rule 21. `rt` computes the lines; those that do not hold are printed with their images.
 """
-import argparse, os, re, shutil, struct, subprocess, sys, tempfile, time
+import argparse, glob, os, re, shutil, struct, subprocess, sys, tempfile, time
 
 ROOT = os.path.dirname(os.path.dirname(os.path.abspath(__file__)))
 SECTIONS = [  # record of each section, with the struct format of its fields
@@ -21,20 +21,19 @@ SECTIONS = [  # record of each section, with the struct format of its fields
     ('steps', 'code value', '<BQ'),
 ]
 BOOLEANS = {'has_entry', 'has_end', 'keeps'}
-COMPUTED = {0, 1, 3, 9}  # the unresolved roles without a target
+COMPUTED = '0139'  # the unresolved roles without a target
 PER_FILE = 40
+STANDARD = 'small:1:200 handlers:2:100 given:3:100 mistakes:4:200 routes:5:60 wide:6:60 funclets:7:40 typical:8:30 exhaustive:1:150'
 
 
 def literal(names, values):
-    def field(name, value):
-        shown = ('true' if value else 'false') if name in BOOLEANS else value
-        return f'{"«%s»" % name if "_" in name else name} = {shown}'
-    return 'record { ' + '; '.join(field(n, v) for n, v in zip(names, values)) + ' }'
+    shown = [('true' if v else 'false') if n in BOOLEANS else v for n, v in zip(names, values)]
+    return 'record { ' + '; '.join(f'{"«%s»" % n if "_" in n else n} = {v}' for n, v in zip(names, shown)) + ' }'
 
 
 def image(data):
     """The image as a literal, its bytes being of good form."""
-    mode, calls, has_entry, entry = struct.unpack_from('<BBBQ', data, 1)
+    header = literal(['mode', 'calls', 'has_entry', 'entry'], struct.unpack_from('<BBBQ', data, 1))
     lists, at = {}, 12
     for name, fields, form in SECTIONS:
         (count,), at = struct.unpack_from('<I', data, at), at + 4
@@ -42,7 +41,6 @@ def image(data):
         at += count * struct.calcsize(form)
         lists[name] = ' ∷ '.join([literal(fields.split(), r) for r in records] + ['[]'])
     routes = '; '.join(f'{name} = {lists.pop(name)}' for name in ('routes', 'paths', 'steps'))
-    header = literal(['mode', 'calls', 'has_entry', 'entry'], [mode, calls, has_entry, entry])
     rest = '; '.join(f'{name} = {value}' for name, value in lists.items())
     return f'record {{ header = {header}; {rest}; routes = record {{ {routes} }} }}'
 
@@ -68,9 +66,7 @@ def expected(answer):
         out += [int(region), int(place), int(entry), int(kind), maybe(filter_)]
     for source, target, role, case in of('unresolved'):
         out += [int(source), maybe(target), int(role), maybe(case)]
-    for source, target in of('call'):
-        out += [int(source), maybe(target)]
-    return out
+    return out + sum(([int(source), maybe(target)] for source, target in of('call')), [])
 
 
 DUMP = '''
@@ -115,46 +111,64 @@ same (a ∷ s) (b ∷ t) = eqb a b && same s t
 unfoldable pub holds : Image → List ℕ → Bool
 unfolding UNFOLD join maybe dump same
 holds m l = same (dump (buildOf m)) l
-'''.replace('COMPUTED', ' || '.join(f'eqb (u .role) {role}' for role in sorted(COMPUTED)))
+'''.replace('COMPUTED', ' || '.join(f'eqb (u .role) {role}' for role in COMPUTED))
+
+
+def types(code):
+    """The modules and types that code declares: the definitions need no more of it."""
+    kept, within = [], False
+    for line in code.splitlines():
+        begins = re.match(r'(pub )?(struct|enum|mod|type|const) |use [a-z_:]+::[A-Z]', line)
+        if begins or within:
+            kept.append(line)
+            within = not (line == '}' or line.endswith(';') and not line.startswith(' '))
+    return '\n'.join(kept) + '\n'
 
 
 def unfoldable():
     """Every definition that opens only where it is named."""
     names = ['mathlib.Core.List.zipWith']
-    for crate in ('image', 'graph'):
-        folder = os.path.join(ROOT, 'crates', crate, 'specs')
-        for file in sorted(os.listdir(folder)):
-            text = open(os.path.join(folder, file), encoding='utf-8').read()
-            found = re.findall(r'^unfoldable pub (\S+)', text, re.M)
-            names += [f'Rattle.{crate}.specs.{file[:-5]}.{name}' for name in found]
+    for file in sorted(glob.glob('crates/image/specs/*.antt', root_dir=ROOT) + glob.glob('crates/graph/specs/*.antt', root_dir=ROOT)):
+        _, crate, _, module = file[:-5].split('/')
+        text = open(os.path.join(ROOT, file), encoding='utf-8').read()
+        names += [f'Rattle.{crate}.specs.{module}.{name}' for name in re.findall(r'^unfoldable pub (\S+)', text, re.M)]
     return ' '.join(names)
+
+
+def tally(rows):
+    """What the images have in them."""
+    runs = lambda data: [struct.unpack_from('<QQ', data, 16 + 31 * i) for i in range(struct.unpack_from('<I', data, 12)[0])]
+    uneven = sum(any(a[1] != b[0] for a, b in zip(runs(data), runs(data)[1:])) for _, data, _ in rows)
+    modes = [sum(data[1] == mode for _, data, _ in rows) for mode in range(3)]
+    refusals = sorted({int(answer.split()[1]) for _, _, answer in rows if answer.startswith('refused')})
+    print(f'modes {modes}, flattened {sum(data[2] for _, data, _ in rows)}, with a gap or overlap {uneven}, refusals {refusals}')
 
 
 def main():
     options = argparse.ArgumentParser(description=__doc__, formatter_class=argparse.RawDescriptionHelpFormatter)
     options.add_argument('--oracle', default=os.path.join(ROOT, 'oracle'))
-    options.add_argument('--most', type=int, default=700, help='leave out longer images')
-    options.add_argument('--keep', action='store_true', help='keep the scratch crate')
-    options.add_argument('families', nargs='*', default=[])
+    options.add_argument('--most', type=int, default=2000, help='leave out longer images')
+    options.add_argument('families', nargs='*', default=STANDARD.split())
     given = options.parse_args()
-    program = lambda name: os.path.join(given.oracle, 'target/release', name)
+    run = lambda name, *words, **more: subprocess.run(
+        [os.path.join(given.oracle, 'target/release', name), *words], capture_output=True, check=True, **more).stdout.decode().splitlines()
     rows = []
     for family, seed, count in (f.split(':') for f in given.families):
-        made = subprocess.run([program('images'), family, seed, count, '--hex'], capture_output=True, check=True)
-        images = [bytes.fromhex(line) for line in made.stdout.decode().split()]
+        images = [bytes.fromhex(line) for line in run('images', family, seed, count, '--hex')]
         images = [i for i in images if len(i) <= given.most]
-        stream = b''.join(struct.pack('<I', len(i)) + i for i in images)
-        told = subprocess.run([program('answers'), '--build', '--lines'], input=stream, capture_output=True, check=True)
-        answers = told.stdout.decode().splitlines()
+        answers = run('answers', '--build', '--lines', input=b''.join(struct.pack('<I', len(i)) + i for i in images))
         rows += [(family, i, a) for i, a in zip(images, answers) if a.split()[:2] not in (['refused', '1'], ['refused', '2'])]
 
     folder = tempfile.mkdtemp(prefix='definitions-')
-    for part in ('crates', 'target/rlib', 'target/stamp'):
-        if os.path.isdir(os.path.join(ROOT, part)):
-            shutil.copytree(os.path.join(ROOT, part), os.path.join(folder, part))
-    write = lambda path, text: (os.makedirs(os.path.dirname(os.path.join(folder, path)), exist_ok=True),
-                                open(os.path.join(folder, path), 'w', encoding='utf-8').write(text))
-    write('crates.txt', open(os.path.join(ROOT, 'crates.txt')).read() + '\nrows: graph image\n')
+
+    def write(path, text):
+        os.makedirs(os.path.dirname(os.path.join(folder, path)), exist_ok=True)
+        open(os.path.join(folder, path), 'w', encoding='utf-8').write(text)
+
+    for file in sum((glob.glob(f'crates/{crate}/s*/**/*.*t', root_dir=ROOT, recursive=True) for crate in ('image', 'graph')), []):
+        text = open(os.path.join(ROOT, file), encoding='utf-8').read()
+        write(file, types(text) if file.endswith('.rt') else text)
+    write('crates.txt', 'image:\ngraph: image\nrows: graph image\n')
     write('crates/rows/src/lib.rt', '// Rows to compute.\n')
     write('crates/rows/specs/Dump.antt', DUMP.replace('UNFOLD', unfoldable()))
     files = [rows[i:i + PER_FILE] for i in range(0, len(rows), PER_FILE)]
@@ -175,17 +189,11 @@ def main():
         family, data, answer = rows[row]
         print(f'row {row} ({family}) differs: {data.hex()}\n    the Rust: {answer}')
     if checked.returncode and not bad:
-        print(told[-4000:] + '\nthe rows were not computed')
-        sys.exit(1)
-    built = sum(answer.startswith('built') for _, _, answer in rows)
-    modes = [sum(data[1] == mode for _, data, _ in rows) for mode in range(3)]
-    refusals = sorted({int(answer.split()[1]) for _, _, answer in rows if answer.startswith('refused')})
-    print(f'{len(rows)} images ({built} built; modes {modes}; refusals {refusals}), {len(bad)} differ, {time.time() - began:.0f} s')
-    if given.keep:
-        print(folder)
-    else:
-        shutil.rmtree(folder)
-    sys.exit(1 if bad or checked.returncode else 0)
+        sys.exit(told[-4000:] + f'\nthe rows were not computed: {folder}')
+    tally(rows)
+    print(f'{len(rows)} images, {len(bad)} differ, {time.time() - began:.0f} s')
+    shutil.rmtree(folder)
+    sys.exit(1 if bad else 0)
 
 
 main()

@@ -2,15 +2,17 @@
 --     length-table, getD-table      f 0, f 1, .. below n: how many, and which stands at i
 --     table-same                   the list hangs on f below n alone
 --     all-at, all-more, all-fails  what holds of each number holds of one; one number more; one of which it does not hold
+--     some-at, some-where, some-none     it holds of some number if of one, of which one, and of none
+--     flat-none, flat-one          lists of which none or one is not empty
 --     count-same                   the count hangs on f below n alone
 --     count-front, count-add       the first number apart, and the first m
 --     count-one                    f holds of one number more
 --     count-le                     there are n at most
 -- Assumes nothing.
 use mathlib.Core.Path.{_≡_, refl, sym, ap, _∙_}
-use mathlib.Core.Bool.{Bool, true, false, _&&_, and-false}
+use mathlib.Core.Bool.{Bool, true, false, _&&_, _||_, and-false, or-true, false≢true}
 use mathlib.Core.Logic.{_⊎_, inl, inr, ⊎-elim}
-use mathlib.Core.List.{List, [], _∷_, _++_}
+use mathlib.Core.List.{List, [], _∷_, _++_, append-nil}
 use Prim.Native.Nat.{ℕ, zero, suc, _+_, _≤_, _<_}
 use native.Mathlib.Nat.{add-zero, add-suc, eq-or-lt-of-le, le-of-suc-le-suc, not-suc-le-zero}
 use native.Mathlib.Numerals.{add-one}
@@ -18,7 +20,7 @@ use native.Mathlib.Omega.{arith}
 use lib.Dec.{T}
 use lib.ListN.{length, getD, length-append, List·getD-append}
 use lib.Seq.{getD-at}
-use Rattle.graph.specs.Fold.{all, count}
+use Rattle.graph.specs.Fold.{flat, some, all, count}
 use Rattle.image.specs.Image.{table}
 
 module _ {A : Type 0} where
@@ -44,6 +46,11 @@ module _ {A : Type 0} where
 pub both : (a b : Bool) → T (a && b) → T a × T b
 both true b h = (tt, h)
 
+-- a test, or not
+pub decided : (b : Bool) → (b ≡ true) ⊎ (b ≡ false)
+decided true = inl refl
+decided false = inr refl
+
 pub all-at : (f : ℕ → Bool) (n i : ℕ) → T (all f n) → i < n → T (f i)
 unfolding all
 all-at f zero i h lt = absurd (not-suc-le-zero lt)
@@ -67,19 +74,50 @@ all-fails f (suc n) i h out =
     (λ lt. rw (all-fails f n i lt out))
     (eq-or-lt-of-le (le-of-suc-le-suc h))
 
+pub some-at : (f : ℕ → Bool) (n i : ℕ) → i < n → f i ≡ true → some f n ≡ true
+unfolding some
+some-at f zero i h e = absurd (not-suc-le-zero h)
+some-at f (suc n) i h e =
+    ⊎-elim
+    (λ same. rw (rw same at e) (or-true (some f n)))
+    (λ lt. rw (some-at f n i lt e))
+    (eq-or-lt-of-le (le-of-suc-le-suc h))
+
+pub some-none : (f : ℕ → Bool) (n : ℕ) → some f n ≡ false → (i : ℕ) → i < n → f i ≡ false
+some-none f n none i h = ⊎-elim (λ e. absurd (false≢true (sym none ∙ some-at f n i h e))) (λ e. e) (decided (f i))
+
+pub some-where : (f : ℕ → Bool) (n : ℕ) → some f n ≡ true → (i : ℕ) × (i < n) × (f i ≡ true)
+unfolding some
+some-where f zero e = absurd (false≢true e)
+some-where f (suc n) e = go (some f n) refl (some-where f n) e
+  where
+    go : (b : Bool) → some f n ≡ b → (some f n ≡ true → (i : ℕ) × (i < n) × (f i ≡ true)) → (b || f n) ≡ true → (i : ℕ) × (i < suc n) × (f i ≡ true)
+    go true b rest e = let r = rest b in (r .0, omega (arith, r .1), r .2)
+    go false b rest e = (n, omega arith, e)
+
+module _ {A : Type 0} (f : ℕ → List A) where
+  pub flat-none : (n : ℕ) → ((i : ℕ) → i < n → f i ≡ []) → flat f n ≡ []
+  unfolding flat
+  flat-none zero none = refl
+  flat-none (suc n) none = rw (flat-none n (λ i h. none i (omega arith)), none n (omega arith))
+
+  pub flat-one : (n k : ℕ) → k < n → ((i : ℕ) → i < n → (i ≡ k → ⊥) → f i ≡ []) → flat f n ≡ f k
+  unfolding flat
+  flat-one zero k h none = absurd (not-suc-le-zero h)
+  flat-one (suc n) k h none =
+      ⊎-elim
+      (λ same. rw (flat-none n (λ i lt. none i (omega arith) (omega arith)), same))
+      (λ lt. rw (flat-one n k lt (λ i l. none i (omega arith)), none n (omega arith) (omega arith)) (append-nil (f k)))
+      (eq-or-lt-of-le (le-of-suc-le-suc h))
+
 -- ---- counts
 
--- f n, or not
-pub decided : (b : Bool) → (b ≡ true) ⊎ (b ≡ false)
-decided true = inl refl
-decided false = inr refl
-
 module _ (f : ℕ → Bool) (n : ℕ) where
-  count-yes : f n ≡ true → count f (suc n) ≡ suc (count f n)
+  pub count-yes : f n ≡ true → count f (suc n) ≡ suc (count f n)
   unfolding count
   count-yes e = rw e (omega arith)
 
-  count-no : f n ≡ false → count f (suc n) ≡ count f n
+  pub count-no : f n ≡ false → count f (suc n) ≡ count f n
   unfolding count
   count-no e = rw e (omega arith)
 

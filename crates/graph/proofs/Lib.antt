@@ -12,3 +12,5 @@ pub mod Rule21
 pub mod TableLaws
 pub mod TransferLaws
 pub mod EdgeLaws
+pub mod DealLaws
+pub mod CursorLaws

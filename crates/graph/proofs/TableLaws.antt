@@ -2,16 +2,20 @@
 --     length-entries, entry-is        the entries of a list of instructions
 --     size-is, address-is             the same of the records in the bytes, and of what is read there
 --     start-at, start-none            where an instruction starts, and where none does
+--     start-where                     the position at which it starts
+--     rises, before                   what rises step by step rises; the lower of two addresses comes first
 --     below-at, below-most            the position of a start in a table that rises, and a bound
 --     Between, go-right, go-left      a search by halving: where the address can only stand
 -- Assumes nothing.
-use mathlib.Core.Bool.{Bool, true, false, _||_, or-true}
+use mathlib.Core.Bool.{Bool, true, false, _||_, or-true, false≢true}
 use mathlib.Core.Path.{_≡_, refl, sym, ap, _∙_}
 use mathlib.Core.List.{List, [], _∷_, map}
+use mathlib.Core.Logic.{⊎-elim}
 use Prim.Native.Nat.{ℕ, zero, suc, _+_, _<_, _≤_}
+use native.Mathlib.Nat.{eq-or-lt-of-le, le-of-suc-le-suc}
 use native.Mathlib.Decide.{decLt, ℕ-discrete}
 use native.Mathlib.Omega.{arith}
-use borrow.Author.Tests.{eq-eqb, ne-eqb, lt-ltb, le-ltb}
+use borrow.Author.Tests.{eqb-true, eq-eqb, ne-eqb, lt-ltb, le-ltb}
 use lib.Dec.{eqb, ltb}
 use lib.ListN.{length, getD, length-map, List·getD-map}
 use Rattle.image.specs.Record.{instructionFrom}
@@ -50,6 +54,23 @@ unfolding isStart entryAt
 start-none [] a h = refl
 start-none (x ∷ t) a h = rw (ne-eqb (x .address) a (h zero (omega arith))) (start-none t a (λ k lt e. h (suc k) (omega arith) e))
 
+pub start-where : (t : List TableEntry) (a : ℕ) → isStart t a ≡ true → (k : ℕ) × (k < length t) × (entryAt t k .address ≡ a)
+unfolding isStart entryAt
+start-where [] a e = absurd (false≢true e)
+start-where (x ∷ t) a e = go (eqb (x .address) a) refl (start-where t a) e
+  where
+    go : (b : Bool) → eqb (x .address) a ≡ b → (isStart t a ≡ true → (k : ℕ) × (k < length t) × (entryAt t k .address ≡ a)) → (b || isStart t a) ≡ true
+        → (k : ℕ) × (k < suc (length t)) × (entryAt (x ∷ t) k .address ≡ a)
+    go true b rest e = (zero, omega arith, eqb-true (x .address) a b)
+    go false b rest e = let r = rest e in (suc (r .0), omega (arith, r .1), r .2)
+
+pub rises : (f : ℕ → ℕ) (n : ℕ) → ((i : ℕ) → suc i < n → f i < f (suc i)) → (i j : ℕ) → i < j → j < n → f i < f j
+rises f n step i zero h lt = absurd (omega arith)
+rises f n step i (suc j) h lt =
+    ⊎-elim (λ same. rw same (step j lt))
+    (λ less. omega (arith, rises f n step i j less (omega arith), step j lt))
+    (eq-or-lt-of-le (le-of-suc-le-suc h))
+
 below-none : (t : List TableEntry) (a : ℕ) → ((k : ℕ) → k < length t → a ≤ entryAt t k .address) → below t a ≡ 0
 unfolding below entryAt
 below-none [] a h = refl
@@ -80,7 +101,7 @@ Between t a lo hi = (k : ℕ) → k < length t → entryAt t k .address ≡ a �
 
 module _ (t : List TableEntry) (rising : Rising t) where
   -- of two places the lower address comes first
-  before : (i j : ℕ) → i < length t → entryAt t i .address < entryAt t j .address → i < j
+  pub before : (i j : ℕ) → i < length t → entryAt t i .address < entryAt t j .address → i < j
   before i j h lt =
       elim (decLt i j) [
         | yes a ↦ a

@@ -8,8 +8,9 @@ pub mod table;
 pub mod unresolved;
 
 ghost use mathlib.Core.Path.{_≡_};
-ghost use Prim.Native.Nat.{_<_, min};
-ghost use lib.ListN.{length, getD};
+ghost use Prim.Native.Nat.{_+_, _≤_, _<_, min};
+ghost use lib.ListN.{length, getD, take, drop};
+ghost use lib.Seq.{sets};
 ghost use Rattle.graph.specs.Words.{heldIn};
 ghost use Rattle.graph.specs.Stored.{entered, Stored, Emptied};
 ghost use Rattle.graph.specs.WellFormed.{withinLimits};
@@ -74,4 +75,25 @@ fn rows_in(g: &Words, count: usize, most: usize) -> usize
 {
     let n = g[count] as usize;
     if n < most { n } else { most }
+}
+
+// The n words from `at` on.
+fn row(g: &Words, at: usize, n: usize) -> &[u64]
+    requires { ⌜ at + n ≤ 43872 ⌝ }
+    ensures { λ r. ⌜ (now r ≡ take n (drop at (now (g .entry)))) × (length (now r) ≡ n) ⌝ }
+{
+    let all: &[u64] = g;
+    let end = at + n;
+    &all[at..end]
+}
+
+// The words of w, stored from `at` on.
+fn put_row(g: &mut Words, at: usize, w: &[u64])
+    requires { ⌜ at + length (now w) ≤ 43872 ⌝ }
+    ensures { λ _. ⌜ (length (now (g .entry)) ≡ 43872) × (now (g .exit) ≡ sets (now (g .entry)) at (now (w .entry))) ⌝ }
+{
+    whole(g);
+    for k in 0..w.len() {
+        g[at + k] = w[k];
+    }
 }

@@ -1,17 +1,24 @@
 -- Checks that are made in order.
 --     checks-more, checks-stop     one check more, where nothing was refused before it
---     then-left, then-right        what is clear in a row is clear by itself; unless-clear likewise
+--     then-left, then-right        what is clear in a row is clear by itself; unless-clear, field-clear, byte-clear likewise
+--     checks-each                  so is each of n checks
 --     place-next                   the place of the next record
 --     product                      a product of two numbers of 32 bits
 -- Assumes nothing.
-use mathlib.Core.Bool.{Bool, true, false}
+use mathlib.Core.Bool.{Bool, true, false, cond}
 use mathlib.Core.Path.{_≡_, refl, _∙_}
 use mathlib.Core.Logic.{⊎-elim}
+use mathlib.Core.List.{List}
 use Prim.Native.Nat.{ℕ, zero, suc, _+_, _*_, _<_, _≤_}
 use native.Mathlib.Nat.{le-trans, mul-le-mul-left, mul-le-mul-right, mul-suc, eq-or-lt-of-le, le-of-suc-le-suc}
 use native.Mathlib.Numerals.{add-one}
 use native.Mathlib.Omega.{arith}
-use Rattle.image.specs.Refusal.{Refusal, Check, clear, refused, _then_, unless, checks}
+use borrow.Author.Tests.{leb-true}
+use lib.Dec.{leb}
+use lib.ListN.{length}
+use Rattle.image.specs.Little.{le1}
+use Rattle.image.specs.Form.{bad, field, byte}
+use Rattle.image.specs.Refusal.{Refusal, refusal, Check, clear, refused, _then_, unless, checks}
 
 module _ (f : ℕ → Check) where
   pub checks-more : (n : ℕ) → checks f n ≡ clear → checks f (n + 1) ≡ f n
@@ -32,17 +39,30 @@ then-left (refused r) b h = h
 
 pub then-right : (a b : Check) → (a then b) ≡ clear → b ≡ clear
 then-right clear b h = h
-then-right (refused r) b h = absurd (never h)
-  where
-    never : refused r ≡ clear → ⊥
-    never e = let z : _≡_ {A = ℕ} 0 1 = cc in omega arith
+then-right (refused r) b h = absurd (let z : _≡_ {A = ℕ} 0 1 = cc in omega arith)
 
 pub unless-clear : (good : Bool) (r : Refusal) → unless good r ≡ clear → good ≡ true
 unless-clear true r h = refl
-unless-clear false r h = absurd (never h)
+unless-clear false r h = absurd (let z : _≡_ {A = ℕ} 0 1 = cc in omega arith)
+
+pub checks-each : (f : ℕ → Check) (n i : ℕ) → checks f n ≡ clear → i < n → f i ≡ clear
+unfolding checks
+checks-each f zero i h lt = absurd (omega arith)
+checks-each f (suc n) i h lt =
+    ⊎-elim (λ same. rw same (then-right (checks f n) (f n) h))
+    (λ less. checks-each f n i (then-left (checks f n) (f n) h) less)
+    (eq-or-lt-of-le (le-of-suc-le-suc lt))
+
+pub field-clear : (l : List ℕ) (at w : ℕ) (good : Bool) → field l at w good ≡ clear → good ≡ true
+unfolding field
+field-clear l at w good h = go (leb (at + w) (length l)) h
   where
-    never : refused r ≡ clear → ⊥
-    never e = let z : _≡_ {A = ℕ} 0 1 = cc in omega arith
+    go : (there : Bool) → cond there (bad at good) (refused (refusal 1 (length l) 0)) ≡ clear → good ≡ true
+    go true e = unless-clear good (refusal 1 at 0) e
+    go false e = absurd (let z : _≡_ {A = ℕ} 0 1 = cc in omega arith)
+
+pub byte-clear : (l : List ℕ) (at most : ℕ) → byte l at most ≡ clear → le1 l at ≤ most
+byte-clear l at most h = leb-true (le1 l at) most (field-clear l at 1 (leb (le1 l at) most) h)
 
 pub place-next : (base w i at : ℕ) → at ≡ base + w * i → at + w ≡ base + w * (i + 1)
 place-next base w i at e = rw (add-one i, mul-suc w i) (omega arith)

@@ -2,3 +2,4 @@ pub mod Past
 pub mod Checks
 pub mod Tables
 pub mod Sections
+pub mod Accepted

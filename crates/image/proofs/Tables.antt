@@ -1,6 +1,8 @@
 -- The table of f: which entry stands at i. The same of the records of a section.
 --     length-table, table-in, table-past
 --     length-records, records-in, records-past
+--     records-none                a section that counts no record has none
+--     records-all                 what holds of the record of zeros and of each in the section holds at every i
 -- Assumes nothing.
 use mathlib.Core.Path.{_≡_, refl, ap, _∙_}
 use mathlib.Core.Logic.{⊎-elim}
@@ -9,6 +11,7 @@ use Prim.Native.Nat.{ℕ, zero, suc, _+_, _<_, _≤_}
 use native.Mathlib.Nat.{eq-or-lt-of-le, le-of-suc-le-suc}
 use native.Mathlib.Numerals.{add-one}
 use native.Mathlib.Omega.{arith}
+use native.Mathlib.Decide.{decLt}
 use lib.ListN.{length, getD, length-append, List·getD-append, List·getD-eq-default}
 use lib.Seq.{getD-at}
 use Rattle.image.specs.Image.{table, placeIn, recordsIn}
@@ -36,6 +39,10 @@ module _ {A : Type 0} (from : List ℕ → ℕ → A) (l : List ℕ) (y : Sectio
   unfolding recordsIn
   length-records = length-table _ (from [] 0) (y .count)
 
+  pub records-none : y .count ≡ 0 → recordsIn from l y ≡ []
+  unfolding recordsIn table
+  records-none h = rw h
+
   pub records-in : (i : ℕ) → i < y .count → getD (recordsIn from l y) i (from [] 0) ≡ from l (placeIn y i)
   unfolding recordsIn
   records-in i h = table-in _ (from [] 0) (y .count) i h
@@ -43,3 +50,7 @@ module _ {A : Type 0} (from : List ℕ → ℕ → A) (l : List ℕ) (y : Sectio
   pub records-past : (i : ℕ) → y .count ≤ i → getD (recordsIn from l y) i (from [] 0) ≡ from [] 0
   unfolding recordsIn
   records-past i h = table-past _ (from [] 0) (y .count) i h
+
+  pub records-all : (P : A → Type 0) → P (from [] 0) → ((i : ℕ) → i < y .count → P (from l (placeIn y i))) → (i : ℕ) → P (getD (recordsIn from l y) i (from [] 0))
+  records-all P zeros each i =
+      elim (decLt i (y .count)) [ yes h ↦ rw (records-in i h) (each i h) | no h ↦ rw (records-past i (omega arith)) zeros ]

@@ -1,68 +1,92 @@
 -- The graph after the addition: its blocks, its edges, and what they lead to.
---     built-le, built-after        the built blocks stood before, and are the same afterwards
+--     built-up, built-down         the built blocks are the same afterwards
 --     old-block, image-block       the block at an old number, and where an instance has a block
 --     Edges, edges-split           an edge afterwards is an old one, a clone's, or a new unwind edge
 --     out-forth, out-back          the ordinary edges out of an instance are those of the part, moved
 use mathlib.Core.Path.{_≡_, refl, sym, _∙_, ap, subst}
 use mathlib.Core.Logic.{_⊎_, inl, inr}
-use mathlib.Core.Bool.{Bool, true, false, cond, false≢true}
+use mathlib.Core.Bool.{Bool, true, false, cond, _||_}
 use mathlib.Core.List.{List, [], _∷_, _++_, map, List·Memᴰ, List·Memᴰ·head, List·Memᴰ·tail, List·Memᴰ·append-cases, List·Memᴰ·eq-of-singleton, Memᴰ·append-left, Memᴰ·append-right, Memᴰ·cast}
 use mathlib.Core.Option.{Option, none, some}
 use Prim.Native.Nat.{ℕ, zero, suc, _+_, _-_, _≤_, _<_}
 use native.Mathlib.Omega.{arith}
-use borrow.Author.Tests.{eq-eqb, eqb-true}
-use lib.Dec.{eqb}
-use lib.ListN.{length, getD, List·getD-append}
+use native.Mathlib.Decide.{decLt}
+use borrow.Author.Tests.{eq-eqb, eqb-true, ltb-true}
+use lib.Dec.{eqb, ltb}
+use lib.ListN.{length, getD, length-append, List·getD-append}
 use lib.Seq.{getD-append-add}
 use Rattle.image.specs.Deal.{UnwindRoute}
 use Rattle.graph.specs.declared.record.Block.{Block}
 use Rattle.graph.specs.declared.record.Edge.{Edge}
-use Rattle.graph.specs.Graph.{Graph}
-use Rattle.graph.specs.Fold.{flat}
-use Rattle.unwind.specs.Lists.{joined, rank, at}
-use Rattle.unwind.specs.Blocks.{builtIn, built, blockAt, firstOf, lastOf}
-use Rattle.unwind.specs.Part.{ExceptionUnwind, funclets, outgoing}
+use Rattle.graph.specs.Graph.{Graph, block as blockAt}
+use Rattle.graph.specs.Fold.{flat, sum}
+use Rattle.graph.specs.Flow.{Kind}
+use Rattle.graph.specs.WellFormed.{filled, isBuilt}
+use Rattle.unwind.specs.Lists.{joined, rank}
+use Rattle.unwind.specs.Blocks.{firstOf, lastOf}
+use Rattle.unwind.specs.Part.{funclets, outgoing}
 use Rattle.unwind.specs.Trie.{Node}
 use Rattle.unwind.specs.Instance.{blocksOf, later, copied, base, place, moved, cloneBlocks, cloneEdge, cloneEdges}
 use Rattle.unwind.specs.Ways.{HopEnd, block, leave, Leap, leap, Way, wanted, routeEdge, edgeTo, routeEdges}
 use Rattle.unwind.specs.Add.{extended}
-use Rattle.unwind.specs.Walk.{_∈_}
-use Rattle.unwind.specs.Demand.{unfilled, Sound}
-use Rattle.unwind.proofs.Lists.{none-in, mem-keep, keep-mem, mem-joined, joined-mem, mem-map, map-mem, mem-flat, flat-mem, at-map, at-getD, at-rank, at-flat}
+use Rattle.unwind.specs.Walk.{_∈_, Built}
+use Rattle.unwind.proofs.Lists.{at, none-in, or-either, mem-keep, keep-mem, mem-joined, joined-mem, mem-map, map-mem, mem-flat, flat-mem, at-map, at-getD, at-rank, at-flat}
+use Rattle.unwind.proofs.Sound.{Sound}
 use Rattle.unwind.proofs.Instance.{first-or-later, blocks-lt, place-first, place-later, copied-later, mem-copied, place-apart, clone-owner, later-above, moved-first}
 
 -- ---- built blocks
 
-built-le′ : (n : ℕ) (bs : List Block) → builtIn n bs ≤ length bs
-unfolding builtIn
-built-le′ n [] = omega arith
-built-le′ zero (b ∷ bs) = omega arith
-built-le′ (suc n) (b ∷ bs) = omega (arith, built-le′ (suc n - b .count) bs)
+sum-same : (f f′ : ℕ → ℕ) (n : ℕ) → ((i : ℕ) → i < n → f i ≡ f′ i) → sum f n ≡ sum f′ n
+unfolding sum
+sum-same f f′ zero same = refl
+sum-same f f′ (suc n) same = omega (arith, sum-same f f′ n (λ i h. same i (omega arith)), same n (omega arith))
 
-pub built-le : (g : Graph) → built g ≤ length (g .blocks)
-unfolding built
-built-le g = built-le′ (length (g .table)) (g .blocks)
+sum-le : (f : ℕ → ℕ) (m n : ℕ) → m ≤ n → sum f m ≤ sum f n
+unfolding sum
+sum-le f m zero h = let e : m ≡ 0 = omega arith in rw e (omega arith)
+sum-le f m (suc n) h = go (decLt n m) (λ (k : m ≤ n). sum-le f m n k)
+  where
+    go : Dec (n < m) → (m ≤ n → sum f m ≤ sum f n) → sum f m ≤ sum f n + f n
+    go (yes k) below = let e : m ≡ suc n = omega arith in rw e (omega arith)
+    go (no k) below = omega (arith, below (omega arith))
 
-none-left : (n : ℕ) (bs : List Block) → n ≡ 0 → builtIn n bs ≡ 0
-unfolding builtIn
-none-left n [] e = refl
-none-left zero (b ∷ bs) e = refl
-none-left (suc n) (b ∷ bs) e = absurd (omega arith)
-
-built-more : (n : ℕ) (bs more : List Block) → unfilled n bs ≡ 0 → builtIn n (bs ++ more) ≡ builtIn n bs
-unfolding builtIn unfilled
-built-more n [] more e = none-left n more e
-built-more zero (b ∷ bs) more e = refl
-built-more (suc n) (b ∷ bs) more e = ap suc (built-more (suc n - b .count) bs more e)
+filled-le : (g : Graph) (m n : ℕ) → m ≤ n → filled g m ≤ filled g n
+unfolding filled
+filled-le g m n h = sum-le (λ (a : ℕ). blockAt g a .count) m n h
 
 module _ (g : Graph) (bs : List Block) (es : List Edge) where
-  pub built-after : Sound g → built (extended g bs es) ≡ built g
-  unfolding built extended
-  built-after s = built-more (length (g .table)) (g .blocks) bs (s .covered)
-
   pub old-block : (b : ℕ) → b < length (g .blocks) → blockAt (extended g bs es) b ≡ blockAt g b
-  unfolding blockAt extended
+  unfolding extended
   old-block b h = List·getD-append (g .blocks) bs _ b h
+
+  filled-after : (b : ℕ) → b ≤ length (g .blocks) → filled (extended g bs es) b ≡ filled g b
+  unfolding filled
+  filled-after b h = sum-same (λ (a : ℕ). blockAt (extended g bs es) a .count) (λ (a : ℕ). blockAt g a .count) b (λ a k. ap (λ (x : Block). x .count) (old-block a (omega arith)))
+
+  same-built : (b : ℕ) → b < length (g .blocks) → isBuilt (extended g bs es) b ≡ isBuilt g b
+  unfolding isBuilt extended
+  same-built b h = ap (λ (k : ℕ). eqb b 0 || ltb k (length (g .table))) (filled-after b (omega arith))
+
+  -- the built blocks are the same afterwards
+  pub built-up : (b : ℕ) → Built g b → Built (extended g bs es) b
+  unfolding extended
+  built-up b x =
+      let h : b < length (g .blocks) = x .exists in
+      record { exists = omega (arith, length-append (g .blocks) bs); original = same-built b h ∙ x .original }
+
+  pub built-down : Sound g → (b : ℕ) → Built (extended g bs es) b → Built g b
+  unfolding isBuilt extended
+  built-down s b x = go (decLt b (length (g .blocks)))
+    where
+      out : (length (g .blocks) ≤ b) → (eqb b 0 ≡ true) ⊎ (ltb (filled (extended g bs es) b) (length (g .table)) ≡ true) → ⊥
+      out h (inl e) = omega (arith, eqb-true b 0 e, s .some-block)
+      out h (inr e) =
+          omega (arith, ltb-true (filled (extended g bs es) b) (length (g .table)) e, s .covered,
+          filled-le (extended g bs es) (length (g .blocks)) b h, filled-after (length (g .blocks)) (omega arith))
+
+      go : Dec (b < length (g .blocks)) → Built g b
+      go (yes h) = record { exists = h; original = sym (same-built b h) ∙ x .original }
+      go (no h) = absurd (out (omega arith) (or-either (eqb b 0) _ (x .original)))
 
   pub same-first : (b c : ℕ) → blockAt (extended g bs es) b ≡ blockAt g c → firstOf (extended g bs es) b ≡ firstOf g c
   unfolding firstOf extended
@@ -74,28 +98,28 @@ module _ (g : Graph) (bs : List Block) (es : List Edge) where
 
 -- ---- the new edges
 
-edge-unwinds : (g : Graph) (seen : List Leap) (w : Way) (h : HopEnd) (d : Edge) → d ∈ edgeTo g seen w h → d .kind ≡ ExceptionUnwind
+edge-unwinds : (g : Graph) (seen : List Leap) (w : Way) (h : HopEnd) (d : Edge) → d ∈ edgeTo g seen w h → d .kind ≡ Kind.exceptionUnwind
 unfolding edgeTo routeEdge
 edge-unwinds g seen w leave d m = absurd (none-in m)
 edge-unwinds g seen w (block t) d m = go (wanted (w .source) t seen) m
   where
-    go : (x : Bool) → d ∈ cond x [] (routeEdge g (w .route) (w .source) t ∷ []) → d .kind ≡ ExceptionUnwind
+    go : (x : Bool) → d ∈ cond x [] (routeEdge g (w .route) (w .source) t ∷ []) → d .kind ≡ Kind.exceptionUnwind
     go true k = absurd (none-in k)
     go false k = ap (λ (y : Edge). y .kind) (List·Memᴰ·eq-of-singleton k)
 
-pub new-unwinds : (g : Graph) (seen : List Leap) (ws : List Way) (d : Edge) → d ∈ routeEdges g seen ws → d .kind ≡ ExceptionUnwind
+pub new-unwinds : (g : Graph) (seen : List Leap) (ws : List Way) (d : Edge) → d ∈ routeEdges g seen ws → d .kind ≡ Kind.exceptionUnwind
 unfolding routeEdges
 new-unwinds g seen [] d m = absurd (none-in m)
 new-unwinds g seen (w ∷ ws) d m = go (List·Memᴰ·append-cases (edgeTo g seen w (w .end)) m) (new-unwinds g (leap w ∷ seen) ws d)
   where
-    go : (d ∈ edgeTo g seen w (w .end)) ⊎ (d ∈ routeEdges g (leap w ∷ seen) ws) → (d ∈ routeEdges g (leap w ∷ seen) ws → d .kind ≡ ExceptionUnwind) → d .kind ≡ ExceptionUnwind
+    go : (d ∈ edgeTo g seen w (w .end)) ⊎ (d ∈ routeEdges g (leap w ∷ seen) ws) → (d ∈ routeEdges g (leap w ∷ seen) ws → d .kind ≡ Kind.exceptionUnwind) → d .kind ≡ Kind.exceptionUnwind
     go (inl k) below = edge-unwinds g seen w (w .end) d k
     go (inr k) below = below k
 
 -- ---- blocks and edges of instances
 
 -- the graph before, the routes, the nodes, and new edges that are all unwind edges
-module _ (g : Graph) (rs : List UnwindRoute) (z : List Node) (new : List Edge) (unwinds : (d : Edge) → d ∈ new → d .kind ≡ ExceptionUnwind) (sound : Sound g) where
+module _ (g : Graph) (rs : List UnwindRoute) (z : List Node) (new : List Edge) (unwinds : (d : Edge) → d ∈ new → d .kind ≡ Kind.exceptionUnwind) (sound : Sound g) where
   abbrev fs : List ℕ
   fs = funclets rs
 
@@ -104,7 +128,7 @@ module _ (g : Graph) (rs : List UnwindRoute) (z : List Node) (new : List Edge) (
   after = extended g (cloneBlocks g fs z) (cloneEdges g fs z ++ new)
 
   copy-block : (i b : ℕ) → i < length z → b ∈ blocksOf g fs z i → later g fs z i ≡ true → blockAt after (base g fs z i + rank b (blocksOf g fs z i)) ≡ blockAt g b
-  unfolding blockAt extended cloneBlocks base
+  unfolding extended cloneBlocks base
   copy-block i b h m l =
       let r : ℕ = rank b (blocksOf g fs z i) in
       let before : ℕ = length (flat (copied g fs z) i) in
@@ -127,7 +151,7 @@ module _ (g : Graph) (rs : List UnwindRoute) (z : List Node) (new : List Edge) (
   pub data Kin (d : Edge) : Type 0 where
     old : d ∈ g .edges → Kin d
     clone : (i b : ℕ) (d₀ : Edge) → i < length z → later g fs z i ≡ true → b ∈ blocksOf g fs z i → d₀ ∈ g .edges → d₀ .source ≡ b → d ≡ cloneEdge g fs z i d₀ → Kin d
-    unwind : d .kind ≡ ExceptionUnwind → Kin d
+    unwind : d .kind ≡ Kind.exceptionUnwind → Kin d
 
   abbrev copies : ℕ → List Edge
   copies i = joined (λ b. map (cloneEdge g fs z i) (outgoing g b)) (copied g fs z i)
@@ -161,7 +185,7 @@ module _ (g : Graph) (rs : List UnwindRoute) (z : List Node) (new : List Edge) (
     pub to : d .target ≡ moved g fs z i (d₀ .target)
 
   pub out-forth : (i b : ℕ) → b ∈ blocksOf g fs z i → (d : Edge) → d ∈ after .edges → d .source ≡ place g fs z i b
-      → (d .kind ≡ ExceptionUnwind → ⊥) → (d₀ : Edge) × Moves i b d d₀
+      → (d .kind ≡ Kind.exceptionUnwind → ⊥) → (d₀ : Edge) × Moves i b d d₀
   unfolding cloneEdge
   out-forth i b m d there s n = go (kin d there) (first-or-later g rs z i)
     where

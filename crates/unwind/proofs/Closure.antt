@@ -7,68 +7,73 @@
 use mathlib.Core.Path.{_≡_, refl, sym, _∙_, ap, subst}
 use mathlib.Core.Logic.{_⊎_, inl, inr}
 use mathlib.Core.Bool.{Bool, true, false, cond, not, _&&_, _||_, false≢true}
-use mathlib.Core.List.{List, [], _∷_, map, List·Memᴰ, List·Memᴰ·head, List·Memᴰ·tail, Memᴰ·cast}
+use mathlib.Core.List.{List, [], _∷_, map, List·Memᴰ, List·Memᴰ·head, List·Memᴰ·tail, List·Memᴰ·eq-of-singleton, Memᴰ·cast}
 use Prim.Native.Nat.{ℕ, zero, suc, _+_, _≤_, _<_}
 use native.Mathlib.Decide.{ℕ-discrete}
 use native.Mathlib.Omega.{arith}
-use borrow.Author.Tests.{eq-eqb, eqb-true, ltb-true, lt-ltb}
-use lib.Dec.{eqb, ltb}
-use lib.ListN.{length, length-append}
+use borrow.Author.Tests.{eq-eqb, eqb-true}
+use lib.Dec.{eqb}
+use lib.ListN.{length, getD, length-append}
 use Rattle.image.specs.Deal.{UnwindStep, funclet, call, UnwindPath, UnwindRoute}
 use Rattle.graph.specs.declared.record.Edge.{Edge}
 use Rattle.graph.specs.Graph.{Graph}
-use Rattle.unwind.specs.Lists.{keep, joined, upto, member, isEmpty}
-use Rattle.unwind.specs.Blocks.{built, firstOf, lastOf}
-use Rattle.unwind.specs.Part.{Return, Jump, Call, ExceptionUnwind, funcletsIn, funclets, barred, ordinary, outgoing, onward, round, rounds, part, returning}
+use Rattle.unwind.specs.Lists.{keep, joined, upto, isEmpty}
+use Rattle.graph.specs.Fold.{flat, among}
+use Rattle.graph.specs.Flow.{Flow, Kind}
+use Rattle.graph.specs.Route.{funcletOf, funclets as onPath}
+use Rattle.graph.specs.WellFormed.{isBuilt}
+use Rattle.unwind.specs.Blocks.{firstOf, lastOf}
+use Rattle.unwind.specs.Part.{funclets, barred, ordinary, outgoing, onward, round, rounds, part, returning}
 use Rattle.unwind.specs.Walk.{_∈_, Funclet, Begins, Other, Reach, start, step, Returning, by-return, by-jump}
-use Rattle.unwind.proofs.Lists.{and-both, and-true, or-either, or-left, or-right, not-so, so-not, none-in, mem-keep, keep-mem, mem-joined, joined-mem, mem-map, map-mem, mem-upto, upto-mem, mem-member, member-mem}
+use Rattle.unwind.proofs.Lists.{and-both, and-true, or-either, or-left, or-right, not-so, so-not, none-in, mem-keep, keep-mem, mem-joined, joined-mem, mem-map, map-mem, mem-upto, upto-mem, mem-flat, flat-mem, mem-at, at-lt, lt-at, at-getD, at-mem, mem-among, among-mem}
 
 -- ---- funclets
 
-in-steps : (a : ℕ) {s : List UnwindStep} → funclet a ∈ s → a ∈ funcletsIn s
-unfolding funcletsIn
-in-steps a (List·Memᴰ·head {x = funclet f} e) = let p : a ≡ f = cc in List·Memᴰ·head p
-in-steps a (List·Memᴰ·head {x = call c} e) = absurd (let z : _≡_ {A = ℕ} 0 1 = cc in omega arith)
-in-steps a (List·Memᴰ·tail {x = funclet f} m) = List·Memᴰ·tail (in-steps a m)
-in-steps a (List·Memᴰ·tail {x = call c} m) = in-steps a m
+on-path : (a : ℕ) (p : UnwindPath) → funclet a ∈ p .steps → a ∈ onPath p
+unfolding onPath
+on-path a p m =
+    let j = mem-at m in
+    let is : getD (p .steps) (j .0) (call 0) ≡ funclet a = at-getD (p .steps) (j .0) (call 0) (j .1) in
+    mem-flat (λ (k : ℕ). funcletOf (getD (p .steps) k (call 0))) (length (p .steps)) (j .0) (at-lt (p .steps) (j .0) (j .1)) (rw is (List·Memᴰ·head refl))
 
-steps-in : (a : ℕ) (s : List UnwindStep) → a ∈ funcletsIn s → funclet a ∈ s
-unfolding funcletsIn
-steps-in a [] m = absurd (none-in m)
-steps-in a (funclet f ∷ s) (List·Memᴰ·head e) = List·Memᴰ·head (ap funclet e)
-steps-in a (funclet f ∷ s) (List·Memᴰ·tail m) = List·Memᴰ·tail (steps-in a s m)
-steps-in a (call c ∷ s) m = List·Memᴰ·tail (steps-in a s m)
+path-on : (a : ℕ) (p : UnwindPath) → a ∈ onPath p → funclet a ∈ p .steps
+unfolding onPath
+path-on a p m =
+    let j = flat-mem (λ (k : ℕ). funcletOf (getD (p .steps) k (call 0))) (length (p .steps)) m in
+    let x = lt-at (p .steps) (j .0) (j .1) in
+    Memᴰ·cast (sym (go (getD (p .steps) (j .0) (call 0)) (j .2)) ∙ at-getD (p .steps) (j .0) (call 0) (x .1)) (at-mem (p .steps) (j .0) (x .1))
+  where
+    go : (s : UnwindStep) → a ∈ funcletOf s → s ≡ funclet a
+    go (funclet f) k = ap funclet (sym (List·Memᴰ·eq-of-singleton k))
+    go (call c) k = absurd (none-in k)
 
 module _ (rs : List UnwindRoute) where
-  abbrev of-path : UnwindPath → List ℕ
-  of-path p = funcletsIn (p .steps)
-
   abbrev of-route : UnwindRoute → List ℕ
-  of-route r = joined of-path (r .paths)
+  of-route r = joined onPath (r .paths)
 
   pub mem-funclets : (a : ℕ) → Funclet rs a → a ∈ funclets rs
   unfolding funclets
-  mem-funclets a x = mem-joined of-route (x .listed) (mem-joined of-path (x .written) (in-steps a (x .named)))
+  mem-funclets a x = mem-joined of-route (x .listed) (mem-joined onPath (x .written) (on-path a (x .path) (x .named)))
 
   pub funclets-mem : (a : ℕ) → a ∈ funclets rs → Funclet rs a
   unfolding funclets
   funclets-mem a m =
       let r = joined-mem of-route rs m in
-      let p = joined-mem of-path (r .0 .paths) (r .2) in
-      record { route = r .0; path = p .0; listed = r .1; written = p .1; named = steps-in a (p .0 .steps) (p .2) }
+      let p = joined-mem onPath (r .0 .paths) (r .2) in
+      record { route = r .0; path = p .0; listed = r .1; written = p .1; named = path-on a (p .0) (p .2) }
 
   -- ---- barriers
 
-  pub barred-other : (g : Graph) (f b : ℕ) → barred g (funclets rs) f b ≡ true → Other g rs f b
+  pub barred-other : (g : Graph) (f b : ℕ) → b < length (g .blocks) → barred g (funclets rs) f b ≡ true → Other g rs f b
   unfolding barred
-  barred-other g f b e =
-      let x = and-both (ltb b (built g) && member (firstOf g b .address) (funclets rs)) (not (eqb (firstOf g b .address) f)) e in
-      let y = and-both (ltb b (built g)) (member (firstOf g b .address) (funclets rs)) (x .0) in
+  barred-other g f b h e =
+      let x = and-both (isBuilt g b && among (funclets rs) (firstOf g b .address)) (not (eqb (firstOf g b .address) f)) e in
+      let y = and-both (isBuilt g b) (among (funclets rs) (firstOf g b .address)) (x .0) in
       record {
         funclet = firstOf g b .address;
-        named = funclets-mem _ (member-mem _ (funclets rs) (y .1));
+        named = funclets-mem _ (among-mem (funclets rs) _ (y .1));
         another = λ p. not-so _ (x .1) (eq-eqb _ f p);
-        begins = record { original = ltb-true b (built g) (y .0); address = refl };
+        begins = record { built = record { exists = h; original = y .0 }; address = refl };
       }
 
   pub other-barred : (g : Graph) (f b : ℕ) → Other g rs f b → barred g (funclets rs) f b ≡ true
@@ -76,16 +81,16 @@ module _ (rs : List UnwindRoute) where
   other-barred g f b o =
       let a : firstOf g b .address ≡ o .funclet = o .begins .address in
       and-true
-      (and-true (lt-ltb b (built g) (o .begins .original)) (rw a (mem-member (mem-funclets (o .funclet) (o .named)))))
+      (and-true (o .begins .built .original) (rw a (mem-among (mem-funclets (o .funclet) (o .named)))))
       (so-not _ (λ p. o .another (sym a ∙ eqb-true _ f p)))
 
-pub ordinary-kind : (d : Edge) → ordinary d ≡ true → (d .kind ≡ ExceptionUnwind → ⊥) × (d .kind ≡ Call → ⊥)
+pub ordinary-kind : (d : Edge) → ordinary d ≡ true → (d .kind ≡ Kind.exceptionUnwind → ⊥) × (d .kind ≡ Kind.call → ⊥)
 unfolding ordinary
 ordinary-kind d e =
-    let x = and-both (not (eqb (d .kind) ExceptionUnwind)) (not (eqb (d .kind) Call)) e in
+    let x = and-both (not (eqb (d .kind) Kind.exceptionUnwind)) (not (eqb (d .kind) Kind.call)) e in
     (λ p. not-so _ (x .0) (eq-eqb _ _ p), λ p. not-so _ (x .1) (eq-eqb _ _ p))
 
-pub kind-ordinary : (d : Edge) → (d .kind ≡ ExceptionUnwind → ⊥) → (d .kind ≡ Call → ⊥) → ordinary d ≡ true
+pub kind-ordinary : (d : Edge) → (d .kind ≡ Kind.exceptionUnwind → ⊥) → (d .kind ≡ Kind.call → ⊥) → ordinary d ≡ true
 unfolding ordinary
 kind-ordinary d u c = and-true (so-not _ (λ p. u (eqb-true _ _ p))) (so-not _ (λ p. c (eqb-true _ _ p)))
 
@@ -136,7 +141,7 @@ module _ (g : Graph) (rs : List UnwindRoute) (f e : ℕ) where
   all = upto (length (g .blocks))
 
   abbrev wants : List ℕ → ℕ → Bool
-  wants l b = eqb b e || member b l || member b (onward g fs f l)
+  wants l b = eqb b e || among l b || among (onward g fs f l) b
 
   abbrev nth : ℕ → List ℕ
   nth n = rounds g fs f e n
@@ -155,31 +160,31 @@ module _ (g : Graph) (rs : List UnwindRoute) (f e : ℕ) where
   onward-mem l c m =
       let k = keep-mem (λ (t : ℕ). not (barred g fs f t)) _ m in
       let d = map-mem (λ (d : Edge). d .target) _ (k .0) in
-      let x = keep-mem (λ (d : Edge). ordinary d && member (d .source) l) (g .edges) (d .1) in
-      let y = and-both (ordinary (d .0)) (member (d .0 .source) l) (x .1) in
-      record { edge = d .0; there = x .0; from = member-mem _ l (y .1); to = sym (d .2); follows = y .0; open′ = not-so _ (k .1) }
+      let x = keep-mem (λ (d : Edge). ordinary d && among l (d .source)) (g .edges) (d .1) in
+      let y = and-both (ordinary (d .0)) (among l (d .0 .source)) (x .1) in
+      record { edge = d .0; there = x .0; from = among-mem l _ (y .1); to = sym (d .2); follows = y .0; open′ = not-so _ (k .1) }
 
   mem-onward : (l : List ℕ) (c : ℕ) → Onward l c → c ∈ onward g fs f l
   unfolding onward
   mem-onward l c o =
       mem-keep (λ (t : ℕ). not (barred g fs f t))
-      (Memᴰ·cast (sym (o .to)) (mem-map (λ (d : Edge). d .target) (mem-keep (λ (d : Edge). ordinary d && member (d .source) l) (o .there) (and-true (o .follows) (mem-member (o .from))))))
+      (Memᴰ·cast (sym (o .to)) (mem-map (λ (d : Edge). d .target) (mem-keep (λ (d : Edge). ordinary d && among l (d .source)) (o .there) (and-true (o .follows) (mem-among (o .from))))))
       (so-not _ (o .open′))
 
   -- every block of a round is reached
   sound : (n b : ℕ) → b ∈ nth n → Reach g rs f e b
   unfolding rounds round
   sound zero b m = absurd (none-in m)
-  sound (suc n) b m = go (or-either (eqb b e || member b (nth n)) _ (keep-mem (wants (nth n)) all m .1)) (sound n)
+  sound (suc n) b m = go (or-either (eqb b e || among (nth n) b) _ (keep-mem (wants (nth n)) all m .1)) (sound n)
     where
-      near : (eqb b e ≡ true) ⊎ (member b (nth n) ≡ true) → ((c : ℕ) → c ∈ nth n → Reach g rs f e c) → Reach g rs f e b
+      near : (eqb b e ≡ true) ⊎ (among (nth n) b ≡ true) → ((c : ℕ) → c ∈ nth n → Reach g rs f e c) → Reach g rs f e b
       near (inl p) below = subst (Reach g rs f e) (sym (eqb-true b e p)) start
-      near (inr p) below = below b (member-mem b (nth n) p)
+      near (inr p) below = below b (among-mem (nth n) b p)
 
-      go : (eqb b e || member b (nth n) ≡ true) ⊎ (member b (onward g fs f (nth n)) ≡ true) → ((c : ℕ) → c ∈ nth n → Reach g rs f e c) → Reach g rs f e b
-      go (inl p) below = near (or-either (eqb b e) (member b (nth n)) p) below
+      go : (eqb b e || among (nth n) b ≡ true) ⊎ (among (onward g fs f (nth n)) b ≡ true) → ((c : ℕ) → c ∈ nth n → Reach g rs f e c) → Reach g rs f e b
+      go (inl p) below = near (or-either (eqb b e) (among (nth n) b) p) below
       go (inr p) below =
-          let o = onward-mem (nth n) b (member-mem b _ p) in
+          let o = onward-mem (nth n) b (among-mem _ b p) in
           let k = ordinary-kind (o .edge) (o .follows) in
           step (below _ (o .from)) (o .edge) (o .there) refl (o .to) (k .0) (k .1) (λ x. o .open′ (other-barred rs g f b x))
 
@@ -199,7 +204,7 @@ module _ (g : Graph) (rs : List UnwindRoute) (f e : ℕ) where
       go : (p : ℕ → Bool) → l ≡ keep p all → (keep (wants l) all ≡ l) ⊎ (length l < length (keep (wants l) all))
       go p is =
           subst (λ (t : List ℕ). (keep (wants l) all ≡ t) ⊎ (length t < length (keep (wants l) all))) (sym is)
-          (keep-more p (wants l) all (λ x m t. or-left _ (or-right (eqb x e) (mem-member (subst (λ (u : List ℕ). x ∈ u) (sym is) (mem-keep p m t))))))
+          (keep-more p (wants l) all (λ x m t. or-left _ (or-right (eqb x e) (mem-among (subst (λ (u : List ℕ). x ∈ u) (sym is) (mem-keep p m t))))))
 
   still-or-many : (n : ℕ) → (nth (suc n) ≡ nth n) ⊎ (n < length (nth (suc n)))
   unfolding rounds
@@ -244,15 +249,16 @@ module _ (g : Graph) (rs : List UnwindRoute) (f e : ℕ) where
     pub reach-part : {b : ℕ} → Reach g rs f e b → b ∈ part g fs f e
     reach-part start = taken e exists (or-left _ (or-left _ (eq-eqb e e refl)))
     reach-part (step {b = b} {c = c} r d there from to u k o) =
-        taken c (subst (λ (x : ℕ). x < length (g .blocks)) to (targets d there))
-        (or-right (eqb c e || member c (part g fs f e)) (mem-member (mem-onward (part g fs f e) c
+        let in-c : c < length (g .blocks) = subst (λ (x : ℕ). x < length (g .blocks)) to (targets d there) in
+        taken c in-c
+        (or-right (eqb c e || among (part g fs f e) c) (mem-among (mem-onward (part g fs f e) c
         (record {
           edge = d;
           there = there;
           from = Memᴰ·cast from (reach-part r);
           to = to;
           follows = kind-ordinary d u k;
-          open′ = λ x. o (barred-other rs g f c x);
+          open′ = λ x. o (barred-other rs g f c in-c x);
         }))))
 
 -- ---- returning blocks
@@ -277,23 +283,23 @@ module _ (g : Graph) (b : ℕ) where
 
   pub returning-is : returning g b ≡ true → Returning g b
   unfolding returning
-  returning-is e = go (or-either (eqb (lastOf g b .flow) Return) _ e)
+  returning-is e = go (or-either (eqb (lastOf g b .flow) Flow.return) _ e)
     where
-      kinds : isEmpty goes-on ≡ true → (d : Edge) → d ∈ g .edges → d .source ≡ b → (d .kind ≡ ExceptionUnwind) ⊎ (d .kind ≡ Call)
+      kinds : isEmpty goes-on ≡ true → (d : Edge) → d ∈ g .edges → d .source ≡ b → (d .kind ≡ Kind.exceptionUnwind) ⊎ (d .kind ≡ Kind.call)
       kinds none d m s =
-          elim (ℕ-discrete (d .kind) ExceptionUnwind) [
+          elim (ℕ-discrete (d .kind) Kind.exceptionUnwind) [
             | yes u ↦ inl u
-            | no u ↦ elim (ℕ-discrete (d .kind) Call) [ yes c ↦ inr c | no c ↦ absurd (is-empty goes-on none d (mem-goes-on d m s (kind-ordinary d u c))) ]
+            | no u ↦ elim (ℕ-discrete (d .kind) Kind.call) [ yes c ↦ inr c | no c ↦ absurd (is-empty goes-on none d (mem-goes-on d m s (kind-ordinary d u c))) ]
           ]
 
-      go : (eqb (lastOf g b .flow) Return ≡ true) ⊎ (eqb (lastOf g b .flow) Jump && isEmpty goes-on ≡ true) → Returning g b
+      go : (eqb (lastOf g b .flow) Flow.return ≡ true) ⊎ (eqb (lastOf g b .flow) Flow.jump && isEmpty goes-on ≡ true) → Returning g b
       go (inl p) = by-return (eqb-true _ _ p)
-      go (inr p) = let x = and-both (eqb (lastOf g b .flow) Jump) (isEmpty goes-on) p in by-jump (eqb-true _ _ (x .0)) (kinds (x .1))
+      go (inr p) = let x = and-both (eqb (lastOf g b .flow) Flow.jump) (isEmpty goes-on) p in by-jump (eqb-true _ _ (x .0)) (kinds (x .1))
 
   pub is-returning : Returning g b → returning g b ≡ true
   unfolding returning outgoing
   is-returning (by-return p) = or-left _ (eq-eqb _ _ p)
-  is-returning (by-jump p kinds) = or-right (eqb (lastOf g b .flow) Return) (and-true (eq-eqb _ _ p) (empty-is goes-on none))
+  is-returning (by-jump p kinds) = or-right (eqb (lastOf g b .flow) Flow.return) (and-true (eq-eqb _ _ p) (empty-is goes-on none))
     where
       none : (d : Edge) → d ∈ goes-on → ⊥
       none d m =

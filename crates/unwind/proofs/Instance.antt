@@ -20,14 +20,14 @@ use lib.Dec.{eqb}
 use lib.ListN.{length}
 use Rattle.image.specs.Deal.{UnwindRoute}
 use Rattle.graph.specs.Graph.{Graph}
-use Rattle.graph.specs.Fold.{flat, some as any}
-use Rattle.unwind.specs.Lists.{keep, member, rank, at}
+use Rattle.graph.specs.Fold.{flat, some as any, among}
+use Rattle.unwind.specs.Lists.{keep, rank}
 use Rattle.unwind.specs.Part.{funclets, part, returning}
 use Rattle.unwind.specs.Blocks.{blockOf}
 use Rattle.unwind.specs.Trie.{Node, nodeAt, sameFunclet}
 use Rattle.unwind.specs.Instance.{partOf, blocksOf, later, copied, base, place, moved, returnsOf}
 use Rattle.unwind.specs.Walk.{_∈_, Returning}
-use Rattle.unwind.proofs.Lists.{none-in, or-left, or-right, mem-keep, keep-mem, mem-map, map-mem, mem-member, member-mem, at-lt, at-rank, flat-suc, flat-le}
+use Rattle.unwind.proofs.Lists.{at, none-in, or-left, or-right, mem-keep, keep-mem, mem-map, map-mem, mem-among, among-mem, at-lt, at-rank, flat-suc, flat-le}
 use Rattle.unwind.proofs.Closure.{part-lt, returning-is, is-returning}
 
 any-true : (f : ℕ → Bool) (n i : ℕ) → i < n → f i ≡ true → any f n ≡ true
@@ -158,11 +158,11 @@ module _ (g : Graph) (rs : List UnwindRoute) (z : List Node) where
 
   pub moved-in : (i t : ℕ) → t ∈ blocks i → moved g (funclets rs) z i t ≡ put i t
   unfolding moved
-  moved-in i t m = rw (mem-member m)
+  moved-in i t m = rw (mem-among m)
 
   pub moved-first : (i t : ℕ) → is-later i ≡ false → moved g (funclets rs) z i t ≡ t
   unfolding moved
-  moved-first i t l = go (member t (blocks i))
+  moved-first i t l = go (among (blocks i) t)
     where
       go : (x : Bool) → cond x (put i t) t ≡ t
       go true = place-first i t l
@@ -171,10 +171,10 @@ module _ (g : Graph) (rs : List UnwindRoute) (z : List Node) where
   -- a target is in the part, or stays
   pub moved-either : (i t : ℕ) → (t ∈ blocks i) ⊎ (moved g (funclets rs) z i t ≡ t)
   unfolding moved
-  moved-either i t = go (member t (blocks i)) refl
+  moved-either i t = go (among (blocks i) t) refl
     where
-      go : (x : Bool) → member t (blocks i) ≡ x → (t ∈ blocks i) ⊎ (cond x (put i t) t ≡ t)
-      go true e = inl (member-mem t (blocks i) e)
+      go : (x : Bool) → among (blocks i) t ≡ x → (t ∈ blocks i) ⊎ (cond x (put i t) t ≡ t)
+      go true e = inl (among-mem (blocks i) t e)
       go false e = inr refl
 
   pub mem-returns : (i b : ℕ) → b ∈ blocks i → Returning g b → put i b ∈ returnsOf g (funclets rs) z i

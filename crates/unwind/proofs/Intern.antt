@@ -17,11 +17,10 @@ use borrow.Author.Tests.{eqb-true}
 use lib.Dec.{eqb, isEq}
 use lib.ListN.{length, length-append}
 use Rattle.image.specs.Deal.{UnwindStep, funclet, call, UnwindEnd, handler, UnwindPath, UnwindRoute}
-use Rattle.unwind.specs.Lists.{at}
 use Rattle.unwind.specs.Order.{Tagged, tagged, compareTagged, compareEnds, sorted, same}
 use Rattle.unwind.specs.Trie.{Node, Cut, over, enters, cut, endsOf, groups, rest, sameFunclet, sameNode, placeOf, Interned, created, create, Children, internEach, nodeOf, intern, longest, Tries, internRoutes, tries}
 use Rattle.unwind.specs.Walk.{_∈_, Funclet, Handler}
-use Rattle.unwind.proofs.Lists.{and-both, none-in, at-lt, lt-at, at-append, at-last}
+use Rattle.unwind.proofs.Lists.{at, and-both, none-in, at-lt, lt-at, at-append, at-last}
 use Rattle.unwind.proofs.Order.{mem-sorted, sorted-mem, same-eq}
 use Rattle.unwind.proofs.Trie.{_⊑_, ⊑-refl, ⊑-trans, Spelled, Says, Child, child-up, Leads, node-says}
 use Rattle.unwind.proofs.Paths.{path, steps-of, exact-key, exact-end, over-path, enters-path, mem-ends, ends-mem, mem-rest, rest-mem, mem-groups, groups-mem}

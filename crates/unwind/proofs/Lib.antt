@@ -3,7 +3,14 @@ pub mod Order
 pub mod Paths
 pub mod Trie
 pub mod Intern
+pub mod Sound
 pub mod Closure
 pub mod Instance
 pub mod After
 pub mod Parts
+pub mod Walks
+pub mod Hops
+pub mod Accepted
+pub mod Milder
+pub mod Owners
+pub mod Demand

@@ -5,8 +5,8 @@
 --     mem-map, map-mem             y ∈ map f l: y is f x for some x ∈ l
 --     mem-flat, flat-mem           y ∈ flat f n: y ∈ f i for some i < n
 --     mem-upto, upto-mem           i ∈ upto n: i < n
---     mem-member, member-mem       the test for numbers
---     at-append, at-last, at-lt, at-getD, at-mem, mem-at, at-map, lt-at     the element at a place
+--     mem-among, among-mem         the test for numbers
+--     at, at-append, at-last, at-lt, at-getD, at-mem, mem-at, at-map, lt-at     the element at a place
 --     at-rank                      x stands at its rank
 --     at-flat, flat-le             the places of the pieces of a flat list
 use mathlib.Core.Path.{_≡_, refl, sym, _∙_, ap, subst}
@@ -21,8 +21,8 @@ use native.Mathlib.Omega.{arith}
 use borrow.Author.Tests.{eq-eqb, eqb-true, ne-eqb}
 use lib.Dec.{eqb}
 use lib.ListN.{length, getD, length-append}
-use Rattle.graph.specs.Fold.{flat}
-use Rattle.unwind.specs.Lists.{keep, joined, upto, member, rank, at}
+use Rattle.graph.specs.Fold.{flat, among}
+use Rattle.unwind.specs.Lists.{keep, joined, upto, rank}
 use Rattle.unwind.specs.Walk.{_∈_}
 
 -- ---- tests
@@ -140,21 +140,26 @@ upto-mem {i} (suc n) m = go (List·Memᴰ·append-cases (upto n) m) (λ (k : i �
     go (inl k) below = let lt = below k in omega arith
     go (inr k) below = let e = List·Memᴰ·eq-of-singleton k in omega arith
 
-pub mem-member : {x : ℕ} {l : List ℕ} → x ∈ l → member x l ≡ true
-unfolding member
-mem-member {x} (List·Memᴰ·head {x = y} {xs = l} e) = or-left (member x l) (eq-eqb x y e)
-mem-member {x} (List·Memᴰ·tail {x = y} m) = or-right (eqb x y) (mem-member m)
+pub mem-among : {x : ℕ} {l : List ℕ} → x ∈ l → among l x ≡ true
+unfolding among
+mem-among {x} (List·Memᴰ·head {x = y} {xs = l} e) = or-left (among l x) (eq-eqb y x (sym e))
+mem-among {x} (List·Memᴰ·tail {x = y} m) = or-right (eqb y x) (mem-among m)
 
-pub member-mem : (x : ℕ) (l : List ℕ) → member x l ≡ true → x ∈ l
-unfolding member
-member-mem x [] e = absurd (false≢true e)
-member-mem x (y ∷ l) e = go (or-either (eqb x y) (member x l) e) (member-mem x l)
+pub among-mem : (l : List ℕ) (x : ℕ) → among l x ≡ true → x ∈ l
+unfolding among
+among-mem [] x e = absurd (false≢true e)
+among-mem (y ∷ l) x e = go (or-either (eqb y x) (among l x) e) (among-mem l x)
   where
-    go : (eqb x y ≡ true) ⊎ (member x l ≡ true) → (member x l ≡ true → x ∈ l) → x ∈ y ∷ l
-    go (inl p) below = List·Memᴰ·head (eqb-true x y p)
+    go : (eqb y x ≡ true) ⊎ (among l x ≡ true) → (among l x ≡ true → x ∈ l) → x ∈ y ∷ l
+    go (inl p) below = List·Memᴰ·head (sym (eqb-true y x p))
     go (inr p) below = List·Memᴰ·tail (below p)
 
 -- ---- places
+
+unfoldable pub at : {A : Type 0} → List A → ℕ → Option A
+at [] i = none
+at (x ∷ l) zero = some x
+at (x ∷ l) (suc i) = at l i
 
 module _ {A : Type 0} where
   pub at-lt : (l : List A) (i : ℕ) {x : A} → at l i ≡ some x → i < length l

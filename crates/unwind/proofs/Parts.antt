@@ -18,38 +18,41 @@ use Rattle.image.specs.Deal.{UnwindRoute}
 use Rattle.graph.specs.declared.record.TableEntry.{TableEntry}
 use Rattle.graph.specs.declared.record.Edge.{Edge}
 use Rattle.graph.specs.Graph.{Graph}
-use Rattle.unwind.specs.Blocks.{built, firstOf, lastOf, blockOf}
-use Rattle.unwind.specs.Part.{ExceptionUnwind, Call, funclets, part}
+use Rattle.graph.specs.Flow.{Kind}
+use Rattle.unwind.specs.Blocks.{firstOf, lastOf, blockOf}
+use Rattle.unwind.specs.Part.{funclets, part}
 use Rattle.unwind.specs.Trie.{Node, nodeAt}
 use Rattle.unwind.specs.Instance.{entryBlock, blocksOf, later, place, moved, entryOf, returnsOf, cloneBlocks, cloneEdges}
-use Rattle.unwind.specs.Walk.{_∈_, Begins, Other, Reach, start, step, Returning, by-return, by-jump}
-use Rattle.unwind.specs.Demand.{Sound}
+use Rattle.unwind.specs.Walk.{_∈_, Built, Begins, Other, Reach, start, step, Returning, by-return, by-jump}
+use Rattle.unwind.proofs.Sound.{Sound}
 use Rattle.unwind.proofs.Closure.{part-reach, reach-part}
 use Rattle.unwind.proofs.Instance.{first-or-later, blocks-lt, blocks-part, place-first, later-above, moved-in, moved-either, mem-returns, returns-mem}
-use Rattle.unwind.proofs.After.{built-le, built-after, old-block, same-first, same-last, after, image-block, out-forth, out-back}
+use Rattle.unwind.proofs.After.{built-up, built-down, old-block, same-first, same-last, after, image-block, out-forth, out-back}
 
-module _ (g : Graph) (rs : List UnwindRoute) (z : List Node) (new : List Edge) (unwinds : (d : Edge) → d ∈ new → d .kind ≡ ExceptionUnwind) (sound : Sound g) where
+module _ (g : Graph) (rs : List UnwindRoute) (z : List Node) (new : List Edge) (unwinds : (d : Edge) → d ∈ new → d .kind ≡ Kind.exceptionUnwind) (sound : Sound g) where
   abbrev fs : List ℕ
   fs = funclets rs
 
   abbrev g′ : Graph
   g′ = after g rs z new unwinds sound
 
-  same-built : built g′ ≡ built g
-  same-built = built-after g (cloneBlocks g fs z) (cloneEdges g fs z ++ new) sound
+  pub down : (b : ℕ) → Built g′ b → Built g b
+  down = built-down g (cloneBlocks g fs z) (cloneEdges g fs z ++ new) sound
+
+  pub up : (b : ℕ) → Built g b → Built g′ b
+  up = built-up g (cloneBlocks g fs z) (cloneEdges g fs z ++ new)
 
   pub old-first : (b : ℕ) → b < length (g .blocks) → firstOf g′ b ≡ firstOf g b
   old-first b h = same-first g (cloneBlocks g fs z) (cloneEdges g fs z ++ new) b b (old-block g (cloneBlocks g fs z) (cloneEdges g fs z ++ new) b h)
 
   pub begins-down : (a b : ℕ) → Begins g′ a b → Begins g a b
   begins-down a b x =
-      let h : b < built g = rw same-built at (x .original) in
-      record { original = h; address = ap (λ (t : TableEntry). t .address) (sym (old-first b (omega (arith, built-le g)))) ∙ x .address }
+      let h = down b (x .built) in
+      record { built = h; address = ap (λ (t : TableEntry). t .address) (sym (old-first b (h .exists))) ∙ x .address }
 
   pub begins-up : (a b : ℕ) → Begins g a b → Begins g′ a b
   begins-up a b x =
-      let h : b < built g = x .original in
-      record { original = rw same-built h; address = ap (λ (t : TableEntry). t .address) (old-first b (omega (arith, built-le g))) ∙ x .address }
+      record { built = up b (x .built); address = ap (λ (t : TableEntry). t .address) (old-first b (x .built .exists)) ∙ x .address }
 
   other-down : (f b : ℕ) → Other g′ rs f b → Other g rs f b
   other-down f b x = record { funclet = x .funclet; named = x .named; another = x .another; begins = begins-down _ b (x .begins) }
@@ -74,7 +77,7 @@ module _ (g : Graph) (rs : List UnwindRoute) (z : List Node) (new : List Edge) (
     pub part-in : {b : ℕ} → Reach g rs f entry b → b ∈ blocks
     part-in {b} r =
         subst (λ (l : List ℕ). b ∈ l) (sym (blocks-part g rs z i f enters))
-        (reach-part g rs f entry (sound .targets) (omega (arith, begins .original, built-le g)) r)
+        (reach-part g rs f entry (sound .targets) (begins .built .exists) r)
 
     pub part-forth : {y : ℕ} → Reach g′ rs f (put entry) y → (b : ℕ) × (b ∈ blocks) × (y ≡ put b)
     part-forth start = (entry, part-in start, refl)
@@ -97,7 +100,7 @@ module _ (g : Graph) (rs : List UnwindRoute) (z : List Node) (new : List Edge) (
     open′ c o x = go (first-or-later g rs z i)
       where
         go : (later g fs z i ≡ true) ⊎ (later g fs z i ≡ false) → ⊥
-        go (inl l) = omega (arith, other-down f (put c) x .begins .original, later-above g rs z i c l, built-le g)
+        go (inl l) = omega (arith, other-down f (put c) x .begins .built .exists, later-above g rs z i c l)
         go (inr l) = o (other-down f c (subst (Other g′ rs f) (place-first g rs z i c l) x))
 
     pub part-back : {b : ℕ} → Reach g rs f entry b → Reach g′ rs f (put entry) (put b)
@@ -128,9 +131,9 @@ module _ (g : Graph) (rs : List UnwindRoute) (z : List Node) (new : List Edge) (
     returning-up b m (by-return p) = by-return (ap (λ (t : TableEntry). t .flow) (image-last b m) ∙ p)
     returning-up b m (by-jump p kinds) = by-jump (ap (λ (t : TableEntry). t .flow) (image-last b m) ∙ p) kinds′
       where
-        kinds′ : (d : Edge) → d ∈ g′ .edges → d .source ≡ put b → (d .kind ≡ ExceptionUnwind) ⊎ (d .kind ≡ Call)
+        kinds′ : (d : Edge) → d ∈ g′ .edges → d .source ≡ put b → (d .kind ≡ Kind.exceptionUnwind) ⊎ (d .kind ≡ Kind.call)
         kinds′ d there from =
-            elim (ℕ-discrete (d .kind) ExceptionUnwind) [
+            elim (ℕ-discrete (d .kind) Kind.exceptionUnwind) [
               | yes e ↦ inl e
               | no n ↦
                   let out = out-forth g rs z new unwinds sound i b m d there from n in

@@ -1,62 +1,47 @@
 -- `add_unwind_routes`: the graph and the hops afterwards, or the refusal.
-use mathlib.Core.Bool.{Bool, true, false, cond, not, _&&_}
+use mathlib.Core.Bool.{cond, not, _&&_}
 use mathlib.Core.List.{List, [], _∷_, _++_}
 use mathlib.Core.Option.{Option, none, some}
 use Prim.Native.Nat.{ℕ}
 use lib.Dec.{leb}
 use lib.ListN.{length, getD}
-use Rattle.image.specs.Refusal.{Refusal, refusal, Check, clear, refused, _then_, unless}
-use Rattle.image.specs.Deal.{UnwindEnd, handler, propagate, resume, UnwindPath, UnwindRoute}
+use Rattle.image.specs.Refusal.{Refusal, refusal, Check, clear, _then_, unless}
+use Rattle.image.specs.Image.{RouteImage}
+use Rattle.image.specs.Read.{Reading, read, refusing, readRoutes}
+use Rattle.image.specs.Deal.{UnwindEnd, handler, propagate, resume, UnwindRoute, routesOf}
 use Rattle.graph.specs.declared.record.Block.{Block}
 use Rattle.graph.specs.declared.record.Edge.{Edge}
-use Rattle.graph.specs.Graph.{Graph}
-use Rattle.graph.specs.Fold.{some as any, checks}
+use Rattle.graph.specs.Graph.{Graph, Held}
+use Rattle.graph.specs.Fold.{checks}
 use Rattle.graph.specs.Table.{entryAt, rangeCheck}
+use Rattle.graph.specs.Route.{routeAt, resumesLate}
+use Rattle.graph.specs.WellFormed.{wellFormed}
 use Rattle.unwind.specs.Lists.{joined}
 use Rattle.unwind.specs.Order.{Tagged, tagged}
 use Rattle.unwind.specs.Blocks.{Leading, leads, inside, absent, leading, within}
-use Rattle.unwind.specs.Part.{funclets, funcletsIn}
+use Rattle.unwind.specs.Part.{funclets}
 use Rattle.unwind.specs.Trie.{Node, nodeAt, tries}
 use Rattle.unwind.specs.Instance.{cloneBlocks, cloneEdges}
 use Rattle.unwind.specs.Ways.{Hop, ways, hopsOf, routeEdges}
 
 -- '14 MissingRouteEntry', '17 RouteAddressNotBlockStart'
+unfoldable pub leadFound : ℕ → Leading → Check
+leadFound a (leads b) = clear
+leadFound a inside = Check.refused (refusal 17 a 0)
+leadFound a absent = Check.refused (refusal 14 a 0)
+
 unfoldable pub leadCheck : Graph → ℕ → Check
-leadCheck g a = found (leading g a)
-  where
-    found : Leading → Check
-    found (leads b) = clear
-    found inside = refused (refusal 17 a 0)
-    found absent = refused (refusal 14 a 0)
-
--- '15 ResumeAfterFunclet (route)'; '§Resume after any funclet step gives 15, also with calls between.'
-unfoldable pub resumesLate : UnwindPath → Bool
-resumesLate p = late (p .end) (funcletsIn (p .steps))
-  where
-    late : UnwindEnd → List ℕ → Bool
-    late (handler h) l = false
-    late propagate l = false
-    late resume [] = false
-    late resume (f ∷ l) = true
-
-unfoldable pub someLate : List UnwindPath → Bool
-someLate [] = false
-someLate (p ∷ ps) = cond (resumesLate p) true (someLate ps)
-
-unfoldable pub resumeCheck : ℕ → UnwindRoute → Check
-resumeCheck k r = unless (not (someLate (r .paths))) (refusal 15 k 0)
+leadCheck g a = leadFound a (leading g a)
 
 -- '17 RouteAddressNotBlockStart: per route after 15': each instruction of the range leads its block
 unfoldable pub rangeLeads : Graph → UnwindRoute → ℕ → Check
 rangeLeads g r p = cond (within r (entryAt (g .table) p .address)) (leadCheck g (entryAt (g .table) p .address)) clear
 
-unfoldable pub routeAt : List UnwindRoute → ℕ → UnwindRoute
-routeAt rs k = getD rs k (record { start = 0; end = 0; paths = [] })
-
+-- 'Per route: 10 to 12, 15 ResumeAfterFunclet (route)', then 17
 unfoldable pub routeCheck : Graph → List UnwindRoute → ℕ → Check
 routeCheck g rs k =
     rangeCheck (g .table) (routeAt rs k .start) (routeAt rs k .end)
-    then resumeCheck k (routeAt rs k)
+    then unless (not (resumesLate (routeAt rs k))) (refusal 15 k 0)
     then checks (rangeLeads g (routeAt rs k)) (length (g .table))
 
 -- 'then per trie node, funclet before ends, where 14 may come too'
@@ -113,13 +98,13 @@ sizeCheck a =
 
 pub data Outcome : Type 0 where
   added : Addition → Outcome
-  rejected : Refusal → Outcome
+  refused : Refusal → Outcome
 
 unfoldable pub outcome : Check → Addition → Outcome
 outcome clear a = added a
-outcome (refused r) a = rejected r
+outcome (Check.refused r) a = refused r
 
--- to a graph that 21 let pass, routes that are well formed
+-- routes that were read, added to a graph that 21 lets pass
 unfoldable pub addRoutesTo : Graph → List UnwindRoute → Outcome
 addRoutesTo g rs =
     outcome
@@ -127,3 +112,11 @@ addRoutesTo g rs =
     then checks (λ i. nodeCheck g (nodeAt (tries rs .nodes) i)) (length (tries rs .nodes))
     then sizeCheck (addition g rs))
     (addition g rs)
+
+unfoldable pub addRead : Graph → Reading RouteImage → Outcome
+addRead g (read m) = addRoutesTo g (routesOf m)
+addRead g (refusing r) = refused r
+
+-- '21 the graph is none .. Checked first, before 1 and 2 of a route image.'
+unfoldable pub addRoutes : Held → List ℕ → Outcome
+addRoutes h l = cond (wellFormed h) (addRead (h .graph) (readRoutes l)) (refused (refusal 21 0 0))

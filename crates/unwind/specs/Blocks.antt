@@ -1,35 +1,27 @@
 -- Built blocks, the block that an address starts, and the blocks that a route protects.
-use mathlib.Core.Bool.{Bool, true, false, cond, _&&_}
-use mathlib.Core.List.{List, [], _∷_}
+use mathlib.Core.Bool.{Bool, true, false, _&&_}
+use mathlib.Core.List.{List}
 use mathlib.Core.Option.{Option, none, some}
-use Prim.Native.Nat.{ℕ, zero, suc, _+_, _-_}
+use Prim.Native.Nat.{ℕ, _+_, _-_}
 use lib.Dec.{eqb, leb, ltb}
-use lib.ListN.{length, getD}
+use lib.ListN.{length}
 use Rattle.image.specs.Deal.{UnwindRoute}
-use Rattle.graph.specs.declared.record.Block.{Block}
 use Rattle.graph.specs.declared.record.TableEntry.{TableEntry}
-use Rattle.graph.specs.Graph.{Graph}
+use Rattle.graph.specs.Graph.{Graph, block}
 use Rattle.graph.specs.Table.{entryAt, isStart}
+use Rattle.graph.specs.WellFormed.{isBuilt}
 use Rattle.unwind.specs.Lists.{keep, upto, head}
 
--- 'built blocks cover the table in order, copies follow': how many blocks it takes to fill n instructions
-unfoldable pub builtIn : ℕ → List Block → ℕ
-builtIn n [] = 0
-builtIn zero (b ∷ bs) = 0
-builtIn (suc n) (b ∷ bs) = suc (builtIn (suc n - b .count) bs)
-
-unfoldable pub built : Graph → ℕ
-built g = builtIn (length (g .table)) (g .blocks)
-
-unfoldable pub blockAt : Graph → ℕ → Block
-blockAt g b = getD (g .blocks) b (record { first = 0; count = 0 })
+-- 'built blocks cover the table in order, copies follow'
+unfoldable pub builtBlocks : Graph → List ℕ
+builtBlocks g = keep (isBuilt g) (upto (length (g .blocks)))
 
 -- the first and the last instruction of a block
 unfoldable pub firstOf : Graph → ℕ → TableEntry
-firstOf g b = entryAt (g .table) (blockAt g b .first)
+firstOf g b = entryAt (g .table) (block g b .first)
 
 unfoldable pub lastOf : Graph → ℕ → TableEntry
-lastOf g b = entryAt (g .table) (blockAt g b .first + blockAt g b .count - 1)
+lastOf g b = entryAt (g .table) (block g b .first + block g b .count - 1)
 
 -- `leading_block`: 'the built block that begins there'; else an instruction may start there inside a block
 pub data Leading : Type 0 where
@@ -37,22 +29,22 @@ pub data Leading : Type 0 where
   inside : Leading
   absent : Leading
 
+unfoldable pub leadingBy : Option ℕ → Bool → Leading
+leadingBy (some b) s = leads b
+leadingBy none true = inside
+leadingBy none false = absent
+
 unfoldable pub leading : Graph → ℕ → Leading
-leading g a = answer (head (keep (λ b. eqb (firstOf g b .address) a) (upto (built g)))) (isStart (g .table) a)
-  where
-    answer : Option ℕ → Bool → Leading
-    answer (some b) s = leads b
-    answer none true = inside
-    answer none false = absent
+leading g a = leadingBy (head (keep (λ b. eqb (firstOf g b .address) a) (builtBlocks g))) (isStart (g .table) a)
 
 -- the block itself, where there is one
+unfoldable pub blockIn : Leading → ℕ
+blockIn (leads b) = b
+blockIn inside = 0
+blockIn absent = 0
+
 unfoldable pub blockOf : Graph → ℕ → ℕ
-blockOf g a = number (leading g a)
-  where
-    number : Leading → ℕ
-    number (leads b) = b
-    number inside = 0
-    number absent = 0
+blockOf g a = blockIn (leading g a)
 
 -- 'at or above the route's start and below its end'
 unfoldable pub within : UnwindRoute → ℕ → Bool
@@ -64,4 +56,4 @@ keepsEdge g b = eqb (firstOf g b .keeps) 1
 
 -- `protected_blocks` of one route: the built blocks that it covers and that keep their exception edge
 unfoldable pub guarded : Graph → UnwindRoute → List ℕ
-guarded g r = keep (λ b. within r (firstOf g b .address) && keepsEdge g b) (upto (built g))
+guarded g r = keep (λ b. within r (firstOf g b .address) && keepsEdge g b) (builtBlocks g)

@@ -6,10 +6,10 @@ use Prim.Native.Nat.{ℕ, _+_}
 use lib.ListN.{length}
 use Rattle.graph.specs.declared.record.Block.{Block}
 use Rattle.graph.specs.declared.record.Edge.{Edge}
-use Rattle.graph.specs.Graph.{Graph}
-use Rattle.graph.specs.Fold.{flat, some as any}
-use Rattle.unwind.specs.Lists.{keep, joined, member, rank}
-use Rattle.unwind.specs.Blocks.{blockOf, blockAt}
+use Rattle.graph.specs.Graph.{Graph, block}
+use Rattle.graph.specs.Fold.{flat, some as any, among}
+use Rattle.unwind.specs.Lists.{keep, joined, rank}
+use Rattle.unwind.specs.Blocks.{blockOf}
 use Rattle.unwind.specs.Part.{part, outgoing, returning}
 use Rattle.unwind.specs.Trie.{Node, nodeAt, sameFunclet}
 
@@ -45,7 +45,7 @@ module _ (g : Graph) (fs : List ℕ) (z : List Node) where
 
   -- 'targets inside the part moved'
   unfoldable pub moved : ℕ → ℕ → ℕ
-  moved i t = cond (member t (blocksOf i)) (place i t) t
+  moved i t = cond (among (blocksOf i) t) (place i t) t
 
   unfoldable pub entryOf : ℕ → ℕ
   entryOf i = place i (entryBlock g (nodeAt z i .funclet))
@@ -55,7 +55,7 @@ module _ (g : Graph) (fs : List ℕ) (z : List Node) where
 
   -- `clone_region`: copies of the blocks, and of every edge that goes out of them, in order
   unfoldable pub cloneBlocks : List Block
-  cloneBlocks = map (blockAt g) (flat copied (length z))
+  cloneBlocks = map (block g) (flat copied (length z))
 
   unfoldable pub cloneEdge : ℕ → Edge → Edge
   cloneEdge i e =

@@ -1,8 +1,8 @@
 -- Lists as the addition uses them.
-use mathlib.Core.Bool.{Bool, true, false, cond, _||_}
+use mathlib.Core.Bool.{Bool, true, false, cond}
 use mathlib.Core.List.{List, [], _∷_, _++_}
 use mathlib.Core.Option.{Option, none, some}
-use Prim.Native.Nat.{ℕ, zero, suc, max}
+use Prim.Native.Nat.{ℕ, zero, suc}
 use lib.Dec.{eqb}
 
 -- the elements of which f holds, in their order
@@ -20,11 +20,6 @@ unfoldable pub upto : ℕ → List ℕ
 upto zero = []
 upto (suc n) = upto n ++ (n ∷ [])
 
--- x stands in l
-unfoldable pub member : ℕ → List ℕ → Bool
-member x [] = false
-member x (y ∷ l) = eqb x y || member x l
-
 -- how many stand before x
 unfoldable pub rank : ℕ → List ℕ → ℕ
 rank x [] = 0
@@ -38,9 +33,3 @@ head (x ∷ l) = some x
 unfoldable pub isEmpty : {A : Type 0} → List A → Bool
 isEmpty [] = true
 isEmpty (x ∷ l) = false
-
--- the element at a place
-unfoldable pub at : {A : Type 0} → List A → ℕ → Option A
-at [] i = none
-at (x ∷ l) zero = some x
-at (x ∷ l) (suc i) = at l i

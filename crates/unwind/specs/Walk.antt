@@ -1,14 +1,17 @@
 -- Walks over the returned hops, as 'Building and unwinding' words them: a reading of its own, by relations, of a graph
 -- and the routes. No trie and no instance stands in it.
 use mathlib.Core.Path.{_≡_}
+use mathlib.Core.Bool.{true}
 use mathlib.Core.Logic.{_⊎_}
 use mathlib.Core.List.{List, [], _∷_, _++_, map, List·Memᴰ}
 use Prim.Native.Nat.{ℕ, _≤_, _<_}
+use lib.ListN.{length}
 use Rattle.image.specs.Deal.{UnwindStep, funclet, call, UnwindEnd, handler, propagate, resume, UnwindPath, UnwindRoute}
 use Rattle.graph.specs.declared.record.Edge.{Edge}
 use Rattle.graph.specs.Graph.{Graph}
-use Rattle.unwind.specs.Blocks.{built, firstOf, lastOf}
-use Rattle.unwind.specs.Part.{Return, Jump, Call, ExceptionUnwind}
+use Rattle.graph.specs.Flow.{Flow, Kind}
+use Rattle.graph.specs.WellFormed.{isBuilt}
+use Rattle.unwind.specs.Blocks.{firstOf, lastOf}
 use Rattle.unwind.specs.Ways.{HopEnd, block, leave, Hop}
 
 infix 40 _∈_
@@ -31,16 +34,21 @@ pub record Handler (rs : List UnwindRoute) (h : ℕ) : Type 0 where
   pub named : path .end ≡ handler h
 
 module _ (g : Graph) where
+  -- a block that was built, and no copy
+  pub record Built (b : ℕ) : Type 0 where
+    pub exists : b < length (g .blocks)
+    pub original : isBuilt g b ≡ true
+
   -- 'its entry is the built block that begins there'
   pub record Begins (a b : ℕ) : Type 0 where
-    pub original : b < built g
+    pub built : Built b
     pub address : firstOf g b .address ≡ a
 
   -- 'A returning block ends in Return, or in a Jump with no outgoing edge but those two kinds.'
   pub data Returning (b : ℕ) : Type 0 where
-    by-return : lastOf g b .flow ≡ Return → Returning b
-    by-jump : lastOf g b .flow ≡ Jump
-        → ((d : Edge) → d ∈ g .edges → d .source ≡ b → (d .kind ≡ ExceptionUnwind) ⊎ (d .kind ≡ Call)) → Returning b
+    by-return : lastOf g b .flow ≡ Flow.return → Returning b
+    by-jump : lastOf g b .flow ≡ Flow.jump
+        → ((d : Edge) → d ∈ g .edges → d .source ≡ b → (d .kind ≡ Kind.exceptionUnwind) ⊎ (d .kind ≡ Kind.call)) → Returning b
 
   -- 'A route covers a block whose first address is at or above the route's start and below its end'
   pub record Covers (r : UnwindRoute) (b : ℕ) : Type 0 where
@@ -61,11 +69,17 @@ module _ (g : Graph) where
     pub data Reach (f e : ℕ) : ℕ → Type 0 where
       start : Reach f e e
       step : {b c : ℕ} → Reach f e b → (d : Edge) → d ∈ g .edges → d .source ≡ b → d .target ≡ c
-          → (d .kind ≡ ExceptionUnwind → ⊥) → (d .kind ≡ Call → ⊥) → (Other f c → ⊥) → Reach f e c
+          → (d .kind ≡ Kind.exceptionUnwind → ⊥) → (d .kind ≡ Kind.call → ⊥) → (Other f c → ⊥) → Reach f e c
+
+    -- block b lies in the part of funclet f
+    pub record Part (f b : ℕ) : Type 0 where
+      pub entry : ℕ
+      pub begins : Begins f entry
+      pub reach : Reach f entry b
 
     -- a protected block that was built and keeps its exception edge
     pub record Guarded (b : ℕ) : Type 0 where
-      pub original : b < built g
+      pub built : Built b
       pub keeps : firstOf g b .keeps ≡ 1
       pub route : UnwindRoute
       pub listed : route ∈ rs

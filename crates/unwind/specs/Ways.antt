@@ -8,10 +8,11 @@ use Rattle.image.specs.Deal.{UnwindEnd, handler, propagate, resume, UnwindRoute
 use Rattle.graph.specs.declared.record.Edge.{Edge}
 use Rattle.graph.specs.Graph.{Graph}
 use Rattle.graph.specs.Fold.{flat}
+use Rattle.graph.specs.Flow.{Kind, Role}
 use Rattle.unwind.specs.Lists.{joined}
 use Rattle.unwind.specs.Order.{Tagged, tagged, compareTags, sorted, _and-then_}
 use Rattle.unwind.specs.Blocks.{firstOf, lastOf, blockOf, guarded}
-use Rattle.unwind.specs.Part.{ExceptionUnwind, funclets}
+use Rattle.unwind.specs.Part.{funclets}
 use Rattle.unwind.specs.Trie.{Node, nodeAt, Tries, tries}
 use Rattle.unwind.specs.Instance.{entryOf, returnsOf, cloneBlocks, cloneEdges}
 
@@ -92,9 +93,6 @@ hopsOf ws =
     map (λ k. record { source = k .source; end = k .end; calls = listsOf ws k }) (sorted compareLeaps (map leap ws))
 
 -- 'One call adds a source-target pair as an edge at most once; its route is the first to want it.'
-abbrev pub Route : ℕ
-Route = 10
-
 unfoldable pub wanted : ℕ → ℕ → List Leap → Bool
 wanted s t [] = false
 wanted s t (k ∷ l) = isEq (compareLeaps (record { source = s; end = block t }) k) || wanted s t l
@@ -105,8 +103,8 @@ routeEdge g r s t =
     record {
       source = s;
       target = t;
-      kind = ExceptionUnwind;
-      role = Route;
+      kind = Kind.exceptionUnwind;
+      role = Role.route;
       number = r;
       key = 0;
       «source_address» = lastOf g s .address;

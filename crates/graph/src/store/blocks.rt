@@ -1,13 +1,14 @@
 // Blocks.
 use crate::record::Block;
 use crate::store::Words;
+use crate::store::put_row;
+use crate::store::row;
 use crate::store::rows_in;
-use crate::store::whole;
 ghost use mathlib.Core.Path.{_≡_};
-ghost use Prim.Native.Nat.{_+_, _≤_};
+ghost use Prim.Native.Nat.{_≤_};
 ghost use lib.ListN.{length};
 ghost use Rattle.graph.specs.Graph.{block};
-ghost use Rattle.graph.specs.Words.{blockFrom, blockInto, heldIn};
+ghost use Rattle.graph.specs.Words.{blockOf, heldIn};
 ghost use Rattle.graph.specs.Stored.{withBlock, Stored};
 
 const COUNT: usize = 1;
@@ -28,7 +29,7 @@ pub fn block_at(g: &Words, i: usize) -> Block
     ensures { λ r. ⌜ r ≡ block (heldIn (now (g .entry)) .graph) i ⌝ }
 {
     if i < rows_in(g, COUNT, MOST) {
-        return read(g, BASE + 2 * i);
+        return read(row(g, BASE + 2 * i, 2));
     }
     Block { first: 0, count: 0 }
 }
@@ -39,26 +40,18 @@ pub fn add_block(g: &mut Words, r: Block)
 {
     let n = rows_in(g, COUNT, MOST);
     if n < MOST {
-        write(g, BASE + 2 * n, r);
+        let row = [r.first, r.count];
+        put_row(g, BASE + 2 * n, &row);
         g[COUNT] = (n + 1) as u64;
     }
 }
 
-fn read(g: &Words, at: usize) -> Block
-    requires { ⌜ at + 2 ≤ 43872 ⌝ }
-    ensures { λ r. ⌜ r ≡ blockFrom (now (g .entry)) at ⌝ }
+fn read(w: &[u64]) -> Block
+    requires { ⌜ 2 ≤ length (now w) ⌝ }
+    ensures { λ r. ⌜ r ≡ blockOf (now (w .entry)) ⌝ }
 {
     Block {
-        first: g[at],
-        count: g[at + 1],
+        first: w[0],
+        count: w[1],
     }
-}
-
-fn write(g: &mut Words, at: usize, r: Block)
-    requires { ⌜ at + 2 ≤ 43872 ⌝ }
-    ensures { λ _. ⌜ (length (now (g .entry)) ≡ 43872) × (now (g .exit) ≡ blockInto (now (g .entry)) at r) ⌝ }
-{
-    whole(g);
-    g[at] = r.first;
-    g[at + 1] = r.count;
 }

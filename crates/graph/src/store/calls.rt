@@ -1,13 +1,14 @@
 // Flattened calls.
 use crate::record::CallSite;
 use crate::store::Words;
+use crate::store::put_row;
+use crate::store::row;
 use crate::store::rows_in;
-use crate::store::whole;
 ghost use mathlib.Core.Path.{_≡_};
-ghost use Prim.Native.Nat.{_+_, _≤_};
+ghost use Prim.Native.Nat.{_≤_};
 ghost use lib.ListN.{length};
 ghost use Rattle.graph.specs.Graph.{callSite};
-ghost use Rattle.graph.specs.Words.{callFrom, callInto, heldIn};
+ghost use Rattle.graph.specs.Words.{callOf, heldIn};
 ghost use Rattle.graph.specs.Stored.{withCall, Stored};
 
 const COUNT: usize = 6;
@@ -28,7 +29,7 @@ pub fn call_at(g: &Words, i: usize) -> CallSite
     ensures { λ r. ⌜ r ≡ callSite (heldIn (now (g .entry)) .graph) i ⌝ }
 {
     if i < rows_in(g, COUNT, MOST) {
-        return read(g, BASE + 3 * i);
+        return read(row(g, BASE + 3 * i, 3));
     }
     CallSite {
         source: 0,
@@ -43,28 +44,19 @@ pub fn add_call(g: &mut Words, r: CallSite)
 {
     let n = rows_in(g, COUNT, MOST);
     if n < MOST {
-        write(g, BASE + 3 * n, r);
+        let row = [r.source, r.has_target, r.target];
+        put_row(g, BASE + 3 * n, &row);
         g[COUNT] = (n + 1) as u64;
     }
 }
 
-fn read(g: &Words, at: usize) -> CallSite
-    requires { ⌜ at + 3 ≤ 43872 ⌝ }
-    ensures { λ r. ⌜ r ≡ callFrom (now (g .entry)) at ⌝ }
+fn read(w: &[u64]) -> CallSite
+    requires { ⌜ 3 ≤ length (now w) ⌝ }
+    ensures { λ r. ⌜ r ≡ callOf (now (w .entry)) ⌝ }
 {
     CallSite {
-        source: g[at],
-        has_target: g[at + 1],
-        target: g[at + 2],
+        source: w[0],
+        has_target: w[1],
+        target: w[2],
     }
-}
-
-fn write(g: &mut Words, at: usize, r: CallSite)
-    requires { ⌜ at + 3 ≤ 43872 ⌝ }
-    ensures { λ _. ⌜ (length (now (g .entry)) ≡ 43872) × (now (g .exit) ≡ callInto (now (g .entry)) at r) ⌝ }
-{
-    whole(g);
-    g[at] = r.source;
-    g[at + 1] = r.has_target;
-    g[at + 2] = r.target;
 }

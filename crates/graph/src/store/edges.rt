@@ -1,13 +1,14 @@
 // Edges.
 use crate::record::Edge;
 use crate::store::Words;
+use crate::store::put_row;
+use crate::store::row;
 use crate::store::rows_in;
-use crate::store::whole;
 ghost use mathlib.Core.Path.{_≡_};
-ghost use Prim.Native.Nat.{_+_, _≤_};
+ghost use Prim.Native.Nat.{_≤_};
 ghost use lib.ListN.{length};
 ghost use Rattle.graph.specs.Graph.{edge};
-ghost use Rattle.graph.specs.Words.{edgeFrom, edgeInto, heldIn};
+ghost use Rattle.graph.specs.Words.{edgeOf, heldIn};
 ghost use Rattle.graph.specs.Stored.{withEdge, Stored};
 
 const COUNT: usize = 2;
@@ -28,7 +29,7 @@ pub fn edge_at(g: &Words, i: usize) -> Edge
     ensures { λ r. ⌜ r ≡ edge (heldIn (now (g .entry)) .graph) i ⌝ }
 {
     if i < rows_in(g, COUNT, MOST) {
-        return read(g, BASE + 8 * i);
+        return read(row(g, BASE + 8 * i, 8));
     }
     Edge {
         source: 0,
@@ -48,38 +49,33 @@ pub fn add_edge(g: &mut Words, r: Edge)
 {
     let n = rows_in(g, COUNT, MOST);
     if n < MOST {
-        write(g, BASE + 8 * n, r);
+        let row = [
+            r.source,
+            r.target,
+            r.kind,
+            r.role,
+            r.number,
+            r.key,
+            r.source_address,
+            r.target_address,
+        ];
+        put_row(g, BASE + 8 * n, &row);
         g[COUNT] = (n + 1) as u64;
     }
 }
 
-fn read(g: &Words, at: usize) -> Edge
-    requires { ⌜ at + 8 ≤ 43872 ⌝ }
-    ensures { λ r. ⌜ r ≡ edgeFrom (now (g .entry)) at ⌝ }
+fn read(w: &[u64]) -> Edge
+    requires { ⌜ 8 ≤ length (now w) ⌝ }
+    ensures { λ r. ⌜ r ≡ edgeOf (now (w .entry)) ⌝ }
 {
     Edge {
-        source: g[at],
-        target: g[at + 1],
-        kind: g[at + 2],
-        role: g[at + 3],
-        number: g[at + 4],
-        key: g[at + 5],
-        source_address: g[at + 6],
-        target_address: g[at + 7],
+        source: w[0],
+        target: w[1],
+        kind: w[2],
+        role: w[3],
+        number: w[4],
+        key: w[5],
+        source_address: w[6],
+        target_address: w[7],
     }
-}
-
-fn write(g: &mut Words, at: usize, r: Edge)
-    requires { ⌜ at + 8 ≤ 43872 ⌝ }
-    ensures { λ _. ⌜ (length (now (g .entry)) ≡ 43872) × (now (g .exit) ≡ edgeInto (now (g .entry)) at r) ⌝ }
-{
-    whole(g);
-    g[at] = r.source;
-    g[at + 1] = r.target;
-    g[at + 2] = r.kind;
-    g[at + 3] = r.role;
-    g[at + 4] = r.number;
-    g[at + 5] = r.key;
-    g[at + 6] = r.source_address;
-    g[at + 7] = r.target_address;
 }

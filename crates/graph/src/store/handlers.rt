@@ -1,13 +1,14 @@
 // Handlers, by their input index.
 use crate::record::HandlerRecord;
 use crate::store::Words;
+use crate::store::put_row;
+use crate::store::row;
 use crate::store::rows_in;
-use crate::store::whole;
 ghost use mathlib.Core.Path.{_≡_};
-ghost use Prim.Native.Nat.{_+_, _≤_};
+ghost use Prim.Native.Nat.{_≤_};
 ghost use lib.ListN.{length};
 ghost use Rattle.graph.specs.Graph.{handler};
-ghost use Rattle.graph.specs.Words.{handlerFrom, handlerInto, heldIn};
+ghost use Rattle.graph.specs.Words.{handlerOf, heldIn};
 ghost use Rattle.graph.specs.Stored.{withHandler, Stored};
 
 const COUNT: usize = 4;
@@ -28,7 +29,7 @@ pub fn handler_at(g: &Words, i: usize) -> HandlerRecord
     ensures { λ r. ⌜ r ≡ handler (heldIn (now (g .entry)) .graph) i ⌝ }
 {
     if i < rows_in(g, COUNT, MOST) {
-        return read(g, BASE + 5 * i);
+        return read(row(g, BASE + 5 * i, 5));
     }
     HandlerRecord {
         region: 0,
@@ -45,32 +46,21 @@ pub fn add_handler(g: &mut Words, r: HandlerRecord)
 {
     let n = rows_in(g, COUNT, MOST);
     if n < MOST {
-        write(g, BASE + 5 * n, r);
+        let row = [r.region, r.place, r.entry, r.kind, r.filter];
+        put_row(g, BASE + 5 * n, &row);
         g[COUNT] = (n + 1) as u64;
     }
 }
 
-fn read(g: &Words, at: usize) -> HandlerRecord
-    requires { ⌜ at + 5 ≤ 43872 ⌝ }
-    ensures { λ r. ⌜ r ≡ handlerFrom (now (g .entry)) at ⌝ }
+fn read(w: &[u64]) -> HandlerRecord
+    requires { ⌜ 5 ≤ length (now w) ⌝ }
+    ensures { λ r. ⌜ r ≡ handlerOf (now (w .entry)) ⌝ }
 {
     HandlerRecord {
-        region: g[at],
-        place: g[at + 1],
-        entry: g[at + 2],
-        kind: g[at + 3],
-        filter: g[at + 4],
+        region: w[0],
+        place: w[1],
+        entry: w[2],
+        kind: w[3],
+        filter: w[4],
     }
-}
-
-fn write(g: &mut Words, at: usize, r: HandlerRecord)
-    requires { ⌜ at + 5 ≤ 43872 ⌝ }
-    ensures { λ _. ⌜ (length (now (g .entry)) ≡ 43872) × (now (g .exit) ≡ handlerInto (now (g .entry)) at r) ⌝ }
-{
-    whole(g);
-    g[at] = r.region;
-    g[at + 1] = r.place;
-    g[at + 2] = r.entry;
-    g[at + 3] = r.kind;
-    g[at + 4] = r.filter;
 }

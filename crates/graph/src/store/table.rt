@@ -1,13 +1,14 @@
 // The instruction table.
 use crate::record::TableEntry;
 use crate::store::Words;
+use crate::store::put_row;
+use crate::store::row;
 use crate::store::rows_in;
-use crate::store::whole;
 ghost use mathlib.Core.Path.{_≡_};
-ghost use Prim.Native.Nat.{_+_, _≤_};
+ghost use Prim.Native.Nat.{_≤_};
 ghost use lib.ListN.{length};
 ghost use Rattle.graph.specs.Table.{entryAt};
-ghost use Rattle.graph.specs.Words.{entryFrom, entryInto, heldIn};
+ghost use Rattle.graph.specs.Words.{entryOf, heldIn};
 ghost use Rattle.graph.specs.Stored.{withEntry, Stored};
 
 const COUNT: usize = 0;
@@ -28,7 +29,7 @@ pub fn table_at(g: &Words, i: usize) -> TableEntry
     ensures { λ r. ⌜ r ≡ entryAt (heldIn (now (g .entry)) .graph .table) i ⌝ }
 {
     if i < rows_in(g, COUNT, MOST) {
-        return read(g, BASE + 5 * i);
+        return read(row(g, BASE + 5 * i, 5));
     }
     TableEntry {
         address: 0,
@@ -45,32 +46,21 @@ pub fn add_entry(g: &mut Words, r: TableEntry)
 {
     let n = rows_in(g, COUNT, MOST);
     if n < MOST {
-        write(g, BASE + 5 * n, r);
+        let row = [r.address, r.end, r.has_end, r.keeps, r.flow];
+        put_row(g, BASE + 5 * n, &row);
         g[COUNT] = (n + 1) as u64;
     }
 }
 
-fn read(g: &Words, at: usize) -> TableEntry
-    requires { ⌜ at + 5 ≤ 43872 ⌝ }
-    ensures { λ r. ⌜ r ≡ entryFrom (now (g .entry)) at ⌝ }
+fn read(w: &[u64]) -> TableEntry
+    requires { ⌜ 5 ≤ length (now w) ⌝ }
+    ensures { λ r. ⌜ r ≡ entryOf (now (w .entry)) ⌝ }
 {
     TableEntry {
-        address: g[at],
-        end: g[at + 1],
-        has_end: g[at + 2],
-        keeps: g[at + 3],
-        flow: g[at + 4],
+        address: w[0],
+        end: w[1],
+        has_end: w[2],
+        keeps: w[3],
+        flow: w[4],
     }
-}
-
-fn write(g: &mut Words, at: usize, r: TableEntry)
-    requires { ⌜ at + 5 ≤ 43872 ⌝ }
-    ensures { λ _. ⌜ (length (now (g .entry)) ≡ 43872) × (now (g .exit) ≡ entryInto (now (g .entry)) at r) ⌝ }
-{
-    whole(g);
-    g[at] = r.address;
-    g[at + 1] = r.end;
-    g[at + 2] = r.has_end;
-    g[at + 3] = r.keeps;
-    g[at + 4] = r.flow;
 }

@@ -1,13 +1,14 @@
 // Unresolved transfers.
 use crate::record::UnresolvedTransfer;
 use crate::store::Words;
+use crate::store::put_row;
+use crate::store::row;
 use crate::store::rows_in;
-use crate::store::whole;
 ghost use mathlib.Core.Path.{_≡_};
-ghost use Prim.Native.Nat.{_+_, _≤_};
+ghost use Prim.Native.Nat.{_≤_};
 ghost use lib.ListN.{length};
 ghost use Rattle.graph.specs.Graph.{unresolvedTransfer};
-ghost use Rattle.graph.specs.Words.{unresolvedFrom, unresolvedInto, heldIn};
+ghost use Rattle.graph.specs.Words.{unresolvedOf, heldIn};
 ghost use Rattle.graph.specs.Stored.{withUnresolved, Stored};
 
 const COUNT: usize = 5;
@@ -28,7 +29,7 @@ pub fn unresolved_at(g: &Words, i: usize) -> UnresolvedTransfer
     ensures { λ r. ⌜ r ≡ unresolvedTransfer (heldIn (now (g .entry)) .graph) i ⌝ }
 {
     if i < rows_in(g, COUNT, MOST) {
-        return read(g, BASE + 4 * i);
+        return read(row(g, BASE + 4 * i, 4));
     }
     UnresolvedTransfer {
         source: 0,
@@ -44,30 +45,20 @@ pub fn add_unresolved(g: &mut Words, r: UnresolvedTransfer)
 {
     let n = rows_in(g, COUNT, MOST);
     if n < MOST {
-        write(g, BASE + 4 * n, r);
+        let row = [r.source, r.target, r.role, r.case_index];
+        put_row(g, BASE + 4 * n, &row);
         g[COUNT] = (n + 1) as u64;
     }
 }
 
-fn read(g: &Words, at: usize) -> UnresolvedTransfer
-    requires { ⌜ at + 4 ≤ 43872 ⌝ }
-    ensures { λ r. ⌜ r ≡ unresolvedFrom (now (g .entry)) at ⌝ }
+fn read(w: &[u64]) -> UnresolvedTransfer
+    requires { ⌜ 4 ≤ length (now w) ⌝ }
+    ensures { λ r. ⌜ r ≡ unresolvedOf (now (w .entry)) ⌝ }
 {
     UnresolvedTransfer {
-        source: g[at],
-        target: g[at + 1],
-        role: g[at + 2],
-        case_index: g[at + 3],
+        source: w[0],
+        target: w[1],
+        role: w[2],
+        case_index: w[3],
     }
-}
-
-fn write(g: &mut Words, at: usize, r: UnresolvedTransfer)
-    requires { ⌜ at + 4 ≤ 43872 ⌝ }
-    ensures { λ _. ⌜ (length (now (g .entry)) ≡ 43872) × (now (g .exit) ≡ unresolvedInto (now (g .entry)) at r) ⌝ }
-{
-    whole(g);
-    g[at] = r.source;
-    g[at + 1] = r.target;
-    g[at + 2] = r.role;
-    g[at + 3] = r.case_index;
 }

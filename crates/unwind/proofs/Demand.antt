@@ -1,0 +1,261 @@
+-- Demand 3: an accepted addition has the laws of the walk theorem.
+--     guarded-up, in-guarded       the guarded blocks of a route, before and after
+--     turned, root, return         hops and ways
+--     laws                         the laws of the walk theorem
+--     demand3-milder               the theorem under the milder conditions
+--     demand3                      the hops spell the listed paths and nothing else
+use mathlib.Core.Path.{_≡_, refl, sym, _∙_, ap, subst}
+use mathlib.Core.Logic.{_⊎_, inl, inr}
+use mathlib.Core.Bool.{Bool, true, false, cond}
+use mathlib.Core.List.{List, [], _++_, List·Memᴰ·append-cases, Memᴰ·append-left, Memᴰ·append-right}
+use mathlib.Core.Option.{Option, none, some}
+use Prim.Native.Nat.{ℕ, _<_}
+use native.Mathlib.Omega.{arith}
+use lib.ListN.{length}
+use Rattle.image.specs.Refusal.{Check, clear, refusal, _then_}
+use Rattle.image.specs.Image.{RouteImage}
+use Rattle.image.specs.Read.{Reading, read, refusing, readRoutes}
+use Rattle.image.specs.Deal.{UnwindEnd, handler, UnwindRoute, routesOf}
+use Rattle.graph.specs.declared.record.TableEntry.{TableEntry}
+use Rattle.graph.specs.declared.record.Edge.{Edge}
+use Rattle.graph.specs.Graph.{Graph, Held}
+use Rattle.graph.specs.Flow.{Kind}
+use Rattle.graph.specs.WellFormed.{wellFormed}
+use Rattle.graph.specs.Fold.{flat, checks}
+use Rattle.unwind.specs.Order.{Tagged}
+use Rattle.unwind.specs.Blocks.{firstOf, blockOf, guarded}
+use Rattle.unwind.specs.Part.{funclets}
+use Rattle.unwind.specs.Trie.{Node, nodeAt, tries}
+use Rattle.unwind.specs.Instance.{partOf, blocksOf, later, place, entryOf, returnsOf, cloneBlocks, cloneEdges}
+use Rattle.unwind.specs.Ways.{HopEnd, Hop, Way, ways, nodeWays, routeWays, hopsOf, routeEdges}
+use Rattle.unwind.specs.Add.{extended, Addition, addition, nodeCheck, routeCheck, sizeCheck, Outcome, added, refused, outcome, addRoutesTo, addRead, addRoutes}
+use Rattle.unwind.specs.Walk.{_∈_, Funclet, Handler, Built, Begins, Reach, start, Part, Returning, Covers, Guarded, Takes}
+use Rattle.unwind.specs.Demand.{Conditions, Demand3, Demanded}
+use Rattle.unwind.proofs.Lists.{at, none-in, at-lt, lt-at, at-getD}
+use Rattle.unwind.proofs.Sound.{Sound, sound as well-formed}
+use Rattle.unwind.proofs.Intern.{Fits, Fit, tries-law}
+use Rattle.unwind.proofs.Instance.{first-or-later, blocks-lt, place-first, later-above, clone-owner, first-once, mem-returns, returns-mem}
+use Rattle.unwind.proofs.After.{new-unwinds}
+use Rattle.unwind.proofs.Parts
+use Rattle.unwind.proofs.Milder.{Milder, mild, reach-entry}
+use Rattle.unwind.proofs.Walks.{Turn, Fires, at-root, at-return, Root, Turned, Laws, exactly, ends}
+use Rattle.unwind.proofs.Hops
+use Rattle.unwind.proofs.Owners
+use Rattle.unwind.proofs.Accepted.{then-clear, check-at, funclet-begins, handler-begins, mem-guarded, guarded-mem}
+
+module _ (g : Graph) (rs : List UnwindRoute) (sound : Sound g) (milder : Milder g rs)
+    (ok : checks (λ i. nodeCheck g (nodeAt (tries rs .nodes) i)) (length (tries rs .nodes)) ≡ clear) where
+  abbrev z : List Node
+  z = tries rs .nodes
+
+  abbrev fs : List ℕ
+  fs = funclets rs
+
+  abbrev new : List Edge
+  new = Owners.new g rs sound milder ok
+
+  unwinds : (d : Edge) → d ∈ new → d .kind ≡ Kind.exceptionUnwind
+  unwinds = Owners.unwinds g rs sound milder ok
+
+  abbrev g′ : Graph
+  g′ = Owners.g′ g rs sound milder ok
+
+  abbrev hs : List Hop
+  hs = hopsOf (ways g rs)
+
+  abbrev returns : ℕ → List ℕ
+  returns = returnsOf g fs z
+
+  abbrev entry : ℕ → ℕ
+  entry = entryOf g fs z
+
+  -- ---- hops
+
+  abbrev Turned′ : ℕ → List ℕ → HopEnd → Type 0
+  Turned′ = Turned g′ rs hs z entry returns (blockOf g)
+
+  guarded-up : (u : UnwindRoute) (b : ℕ) → u ∈ rs → b ∈ guarded g u → Guarded g′ rs b × Covers g′ u b
+  guarded-up u b listed m =
+      let x = guarded-mem g u b m in
+      let h : Built g b = x .0 in
+      let s : firstOf g′ b ≡ firstOf g b = Parts.old-first g rs z new unwinds sound b (h .exists) in
+      let covers : Covers g′ u b = record { from = rw s (x .2 .from); before = rw s (x .2 .before) } in
+      (record {
+        built = Parts.up g rs z new unwinds sound b h;
+        keeps = ap (λ (t : TableEntry). t .keeps) s ∙ x .1;
+        route = u;
+        listed = listed;
+        covers = covers;
+      },
+      covers)
+
+  in-guarded : (u : UnwindRoute) (b : ℕ) → Covers g′ u b → Guarded g′ rs b → b ∈ guarded g u
+  in-guarded u b covers x =
+      let w = Owners.guarded-down g rs sound milder ok b x in
+      let s : firstOf g′ b ≡ firstOf g b = Parts.old-first g rs z new unwinds sound b (w .built .exists) in
+      mem-guarded g u b (w .built) (w .keeps) (record { from = rw s at (covers .from); before = rw s at (covers .before) })
+
+  abbrev Turn′ : ℕ → Node → List ℕ → HopEnd → Type 0
+  Turn′ = Turn g′ rs hs z entry returns (blockOf g)
+
+  -- the way of a node out of a block, as the hop has it
+  same-turn : {b b′ : ℕ} {n : Node} {c c′ : List ℕ} {e e′ : HopEnd} → b ≡ b′ → c ≡ c′ → e ≡ e′ → Turn′ b n c e → Turn′ b′ n c′ e′
+  same-turn {b} {b′} {n} {c} {c′} {e} {e′} p q r t =
+      subst (λ (x : HopEnd). Turn′ b′ n c′ x) r (subst (λ (x : List ℕ). Turn′ b′ n x e) q (subst (λ (x : ℕ). Turn′ x n c e) p t))
+
+  turned : (b : ℕ) (c : List ℕ) (e : HopEnd) → Takes g′ rs hs b c e → Turned′ b c e
+  turned b c e t = go (Hops.hop-way g′ rs (ways g rs) b c e t)
+    where
+      by-route : (x : Hops.Made (ways g rs) b c e) → Hops.OfRoute g g′ rs hs rs (x .way) → Turned′ b c e
+      by-route x o =
+          let k = Hops.way-turn g g′ rs hs (o .number) (o .block) (o .state) (x .way) (o .among) in
+          let same : o .block ≡ b = sym (k .0) ∙ x .from in
+          let up = guarded-up (o .route) (o .block) (o .listed) (o .inside) in
+          record {
+            node = o .node;
+            state = o .state;
+            here = o .here;
+            fires = at-root (o .route) (o .listed) (subst (Covers g′ (o .route)) same (up .1)) (subst (Guarded g′ rs) same (up .0)) (o .says);
+            turn = same-turn same (x .calls) (x .to) (k .1);
+          }
+
+      by-node : (x : Hops.Made (ways g rs) b c e) → Hops.OfNode g g′ rs hs (x .way) → Turned′ b c e
+      by-node x o =
+          let n = lt-at z (o .node) (o .inside) in
+          let k = Hops.way-turn g g′ rs hs (nodeAt z (o .node) .route) (o .block) (nodeAt z (o .node)) (x .way) (o .among) in
+          let same : o .block ≡ b = sym (k .0) ∙ x .from in
+          record {
+            node = o .node;
+            state = n .0;
+            here = n .1;
+            fires = at-return (subst (λ (v : ℕ). v ∈ returns (o .node)) same (o .return));
+            turn = subst (λ (v : Node). Turn′ b v c e) (Owners.node-at g rs sound milder ok (o .node) (n .0) (n .1)) (same-turn same (x .calls) (x .to) (k .1));
+          }
+
+      either : (x : Hops.Made (ways g rs) b c e) → (x .way ∈ routeWays g rs 0 rs (tries rs .roots)) ⊎ (x .way ∈ flat (nodeWays g rs) (length z)) → Turned′ b c e
+      either x (inl m) = by-route x (Hops.route-way g g′ rs hs 0 (tries-law rs .roots) (x .way) m)
+      either x (inr m) = by-node x (Hops.node-way g g′ rs hs (x .way) m)
+
+      go : Hops.Made (ways g rs) b c e → Turned′ b c e
+      go x = either x (Hops.ways-split g g′ rs hs (x .way) (x .among))
+
+  root : (u : UnwindRoute) (b : ℕ) → u ∈ rs → Covers g′ u b → Guarded g′ rs b → Root g′ rs hs z entry returns (blockOf g) u b
+  root u b listed covers x =
+      let r = Hops.way-route g g′ rs hs 0 (tries-law rs .roots) u listed in
+      record {
+        node = r .node;
+        state = r .state;
+        here = r .here;
+        says = r .says;
+        takes = λ c e t.
+            let m = Hops.turn-way g g′ rs hs (r .number) b (r .state) c e t in
+            Hops.way-hop g′ rs (ways g rs) b c e
+            (record {
+              way = m .way;
+              among = Hops.route-in g g′ rs hs (m .way) (r .all b (in-guarded u b covers x) (m .way) (m .among));
+              from = m .from;
+              calls = m .calls;
+              to = m .to;
+            });
+      }
+
+  return : (i : ℕ) (n : Node) (b : ℕ) → at z i ≡ some n → b ∈ returns i → (c : List ℕ) (e : HopEnd) → Turn′ b n c e → Takes g′ rs hs b c e
+  return i n b en k c e t =
+      let m = Hops.turn-way g g′ rs hs (n .route) b n c e t in
+      Hops.way-hop g′ rs (ways g rs) b c e
+      (record {
+        way = m .way;
+        among = Hops.node-in g g′ rs hs (m .way) (Hops.way-node g g′ rs hs i b n en k (m .way) (m .among));
+        from = m .from;
+        calls = m .calls;
+        to = m .to;
+      })
+
+  abbrev Fire : ℕ → ℕ → Node → Type 0
+  Fire = Fires g′ rs hs z entry returns (blockOf g)
+
+  onward : (b i : ℕ) (n : Node) (d : Tagged ℕ) → at z i ≡ some n → Fire b i n → d ∈ n .edges → entry (d .what) ≡ b → ⊥
+  onward b i n d en fires m e = go (tries-law rs .fits .fit i n en .child d m) fires
+    where
+      go : (m : Node) × (f : ℕ) × (at z (d .what) ≡ some m) × (m .funclet ≡ some f) → Fire b i n → ⊥
+      go k (at-root u _ _ guarded _) =
+          Owners.entry-guarded g rs sound milder ok (d .what) (k .1) (Owners.enters-at g rs sound milder ok (d .what) (k .0) (k .1) (k .2) (k .3)) (subst (Guarded g′ rs) (sym e) guarded)
+      go k (at-return r) =
+          let same : i ≡ d .what =
+              Owners.entry-return g rs sound milder ok i (d .what) (k .1) n (k .0) en (k .2)
+              (Owners.enters-at g rs sound milder ok (d .what) (k .0) (k .1) (k .2) (k .3)) (subst (λ (y : ℕ). y ∈ returns i) (sym e) r) in
+          let less = tries-law rs .fits .fit i n en .lower d m in
+          omega arith
+
+  landing : (b i : ℕ) (n : Node) (d : Tagged UnwindEnd) (h : ℕ) → at z i ≡ some n → Fire b i n → d ∈ n .ends → d .what ≡ handler h → blockOf g h ≡ b → ⊥
+  landing b i n d h en fires m e p = go (Owners.lands-at g rs sound milder ok i n d h en m e) fires
+    where
+      go : Owners.Lands g rs sound milder ok h → Fire b i n → ⊥
+      go l (at-root u _ _ guarded _) = Owners.landing-guarded g rs sound milder ok h l (subst (Guarded g′ rs) (sym p) guarded)
+      go l (at-return r) = Owners.landing-return g rs sound milder ok i h n en l (subst (λ (y : ℕ). y ∈ returns i) (sym p) r)
+
+  laws : Laws g′ rs hs z entry returns (blockOf g)
+  laws =
+      record {
+        fits = tries-law rs .fits;
+        turned = turned;
+        root = root;
+        return = return;
+        address = λ i n f en q. let x = Owners.enters-at g rs sound milder ok i n f en q in Parts.enter-address g rs z new unwinds sound i f (x .inside) (x .enters) (x .begins);
+        part = λ i n f y en q r ret. let x = Owners.enters-at g rs sound milder ok i n f en q in Parts.returns-forth g rs z new unwinds sound i f (x .inside) (x .enters) (x .begins) r ret;
+        reach = λ i n f y en q m. let x = Owners.enters-at g rs sound milder ok i n f en q in Parts.returns-back g rs z new unwinds sound i f (x .inside) (x .enters) (x .begins) y m;
+        some-return = Owners.some-return g rs sound milder ok;
+        owner = Owners.owner g rs sound milder ok;
+        unguarded = Owners.unguarded g rs sound milder ok;
+        onward = onward;
+        landing = landing;
+        lands = λ i n d h en m e. Owners.lands g rs sound milder ok h (Owners.lands-at g rs sound milder ok i n d h en m e);
+      }
+
+-- ---- demand 3
+
+outcome-added : (c : Check) (x a : Addition) → outcome c x ≡ added a → (c ≡ clear) × (x ≡ a)
+unfolding outcome
+outcome-added clear x a e = (refl, cc)
+outcome-added (Check.refused r) x a e = absurd (let q : _≡_ {A = ℕ} 0 1 = cc in omega arith)
+
+-- the addition's own nodes are checked where it is accepted
+accepted : (g : Graph) (rs : List UnwindRoute) (a : Addition) → addRoutesTo g rs ≡ added a
+    → (checks (λ i. nodeCheck g (nodeAt (tries rs .nodes) i)) (length (tries rs .nodes)) ≡ clear) × (addition g rs ≡ a)
+unfolding addRoutesTo
+accepted g rs a e =
+    let nodes : Check = checks (λ i. nodeCheck g (nodeAt (tries rs .nodes) i)) (length (tries rs .nodes)) in
+    let x = outcome-added (checks (routeCheck g rs) (length rs) then nodes then sizeCheck (addition g rs)) (addition g rs) a e in
+    let y = then-clear (checks (routeCheck g rs) (length rs) then nodes) (sizeCheck (addition g rs)) (x .0) in
+    (then-clear (checks (routeCheck g rs) (length rs)) nodes (y .0) .1, x .1)
+
+spells : (g : Graph) (rs : List UnwindRoute) → Sound g → Milder g rs
+    → checks (λ i. nodeCheck g (nodeAt (tries rs .nodes) i)) (length (tries rs .nodes)) ≡ clear → Demand3 rs (addition g rs)
+unfolding addition
+spells g rs sound milder ok =
+    let l = laws g rs sound milder ok in
+    record {
+      exactly = exactly _ _ _ _ _ _ _ l;
+      ends = λ b y guarded m. ends _ _ _ _ _ _ _ l b y m;
+    }
+
+pub demand3-milder : (g : Graph) (rs : List UnwindRoute) (a : Addition) → Sound g → Milder g rs → addRoutesTo g rs ≡ added a → Demand3 rs a
+demand3-milder g rs a sound milder e =
+    let x = accepted g rs a e in
+    subst (Demand3 rs) (x .1) (spells g rs sound milder (x .0))
+
+-- 21 lets the graph pass, and the routes that were read are added
+passed : (h : Held) (l : List ℕ) (m : RouteImage) (a : Addition) → readRoutes l ≡ read m → addRoutes h l ≡ added a
+    → (wellFormed h ≡ true) × (addRoutesTo (h .graph) (routesOf m) ≡ added a)
+unfolding addRoutes addRead
+passed h l m a r e = go (wellFormed h) refl (readRoutes l) r e
+  where
+    go : (b : Bool) → wellFormed h ≡ b → (x : Reading RouteImage) → x ≡ read m → cond b (addRead (h .graph) x) (refused (refusal 21 0 0)) ≡ added a
+        → (wellFormed h ≡ true) × (addRoutesTo (h .graph) (routesOf m) ≡ added a)
+    go true w x p q = (w, sym (ap (addRead (h .graph)) p) ∙ q)
+    go false w x p q = absurd (let z : _≡_ {A = ℕ} 0 1 = cc in omega arith)
+
+pub demand3 : Demanded
+demand3 h l m a r e conditions =
+    let x = passed h l m a r e in
+    demand3-milder (h .graph) (routesOf m) a (well-formed h (x .0)) (mild (h .graph) (routesOf m) conditions) (x .1)
