@@ -19,7 +19,7 @@ use Rattle.graph.specs.Flow.{From, fallsThrough}
 use Rattle.graph.specs.Transfer.{tableOf, size, addressAt, Transfer, hasTarget}
 use Rattle.graph.specs.Blocks.{blockOf, blockAt}
 use Rattle.graph.specs.Edges.{resolved, transferEdges, transferUnresolved}
-use Rattle.graph.specs.Emit.{Numbered, Resolves, edgeBetween, unresolvedAt}
+use Rattle.graph.specs.Emit.{Emitting, Resolves, edgeBetween, unresolvedFrom}
 use Rattle.graph.proofs.TableLaws.{length-entries}
 
 module _ (m : Image) (x : Transfer) where
@@ -33,7 +33,7 @@ module _ (m : Image) (x : Transfer) where
   resolved-not none = rw none
 
   module _ (p : ℕ) where
-    pub edge-found : (blocks : List ℕ) (k a b c : ℕ) (e : Edge) → Numbered m blocks → p < size m → Resolves m x (At k)
+    pub edge-found : (blocks : List ℕ) (k a b c : ℕ) (e : Edge) → Emitting m blocks → p < size m → Resolves m x (At k)
         → a ≡ addressAt m p → b ≡ getD blocks p 0 → c ≡ getD blocks k 0 → e ≡ edgeBetween b c a x → transferEdges m p x ≡ e ∷ []
     unfolding transferEdges blockAt
     edge-found blocks k a b c e n here r a-is b-is c-is e-is =
@@ -47,6 +47,6 @@ module _ (m : Image) (x : Transfer) where
     unfolding transferUnresolved
     unresolved-none e = rw (e, or-true (eqb (x .from) From.nowhere || fallsThrough (x .role)))
 
-    pub unresolved-of : resolved m x ≡ false → transferUnresolved m p x ≡ cond (eqb (x .from) From.nowhere || fallsThrough (x .role)) [] (unresolvedAt (addressAt m p) x ∷ [])
+    pub unresolved-of : resolved m x ≡ false → transferUnresolved m p x ≡ cond (eqb (x .from) From.nowhere || fallsThrough (x .role)) [] (unresolvedFrom (addressAt m p) x ∷ [])
     unfolding transferUnresolved
     unresolved-of e = rw (e, or-false (eqb (x .from) From.nowhere || fallsThrough (x .role)))

@@ -16,8 +16,8 @@ pub mod Leaders
 pub mod Cursor
 pub mod Blocks
 pub mod Edges
-pub mod Emit
 pub mod Regions
 pub mod Build
+pub mod Emit
 pub mod WellFormed
 pub mod Reached

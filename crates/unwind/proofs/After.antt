@@ -81,8 +81,13 @@ module _ (g : Graph) (bs : List Block) (es : List Edge) where
       out : (length (g .blocks) ≤ b) → (eqb b 0 ≡ true) ⊎ (ltb (filled (extended g bs es) b) (length (g .table)) ≡ true) → ⊥
       out h (inl e) = omega (arith, eqb-true b 0 e, s .some-block)
       out h (inr e) =
-          omega (arith, ltb-true (filled (extended g bs es) b) (length (g .table)) e, s .covered,
-          filled-le (extended g bs es) (length (g .blocks)) b h, filled-after (length (g .blocks)) (omega arith))
+          omega (
+            arith,
+            ltb-true (filled (extended g bs es) b) (length (g .table)) e,
+            s .covered,
+            filled-le (extended g bs es) (length (g .blocks)) b h,
+            filled-after (length (g .blocks)) (omega arith),
+          )
 
       go : Dec (b < length (g .blocks)) → Built g b
       go (yes h) = record { exists = h; original = sym (same-built b h) ∙ x .original }

@@ -79,15 +79,16 @@ module _ (g : Graph) (rs : List UnwindRoute) (sound : Sound g) (milder : Milder 
       let x = guarded-mem g u b m in
       let h : Built g b = x .0 in
       let s : firstOf g′ b ≡ firstOf g b = Parts.old-first g rs z new unwinds sound b (h .exists) in
-      let covers : Covers g′ u b = record { from = rw s (x .2 .from); before = rw s (x .2 .before) } in
-      (record {
-        built = Parts.up g rs z new unwinds sound b h;
-        keeps = ap (λ (t : TableEntry). t .keeps) s ∙ x .1;
-        route = u;
-        listed = listed;
-        covers = covers;
-      },
-      covers)
+      let covers : Covers g′ u b = record { from = rw s (x .2 .from); before = rw s (x .2 .before) } in (
+        record {
+          built = Parts.up g rs z new unwinds sound b h;
+          keeps = ap (λ (t : TableEntry). t .keeps) s ∙ x .1;
+          route = u;
+          listed = listed;
+          covers = covers;
+        },
+        covers,
+      )
 
   in-guarded : (u : UnwindRoute) (b : ℕ) → Covers g′ u b → Guarded g′ rs b → b ∈ guarded g u
   in-guarded u b covers x =
@@ -182,8 +183,8 @@ module _ (g : Graph) (rs : List UnwindRoute) (sound : Sound g) (milder : Milder 
           Owners.entry-guarded g rs sound milder ok (d .what) (k .1) (Owners.enters-at g rs sound milder ok (d .what) (k .0) (k .1) (k .2) (k .3)) (subst (Guarded g′ rs) (sym e) guarded)
       go k (at-return r) =
           let same : i ≡ d .what =
-              Owners.entry-return g rs sound milder ok i (d .what) (k .1) n (k .0) en (k .2)
-              (Owners.enters-at g rs sound milder ok (d .what) (k .0) (k .1) (k .2) (k .3)) (subst (λ (y : ℕ). y ∈ returns i) (sym e) r) in
+          Owners.entry-return g rs sound milder ok i (d .what) (k .1) n (k .0) en (k .2)
+          (Owners.enters-at g rs sound milder ok (d .what) (k .0) (k .1) (k .2) (k .3)) (subst (λ (y : ℕ). y ∈ returns i) (sym e) r) in
           let less = tries-law rs .fits .fit i n en .lower d m in
           omega arith
 

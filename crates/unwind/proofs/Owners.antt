@@ -163,9 +163,10 @@ module _ (g : Graph) (rs : List UnwindRoute) (sound : Sound g) (milder : Milder 
 
   -- the entry of a node is one of its blocks
   entry-in : (i f : ℕ) → Enters i f → (blockOf g f ∈ blocks i) × (entry i ≡ put i (blockOf g f))
-  entry-in i f x =
-      (Parts.part-in g rs z new unwinds sound i f (x .inside) (x .enters) (x .begins) start,
-      Parts.entry-is g rs z new unwinds sound i f (x .inside) (x .enters) (x .begins))
+  entry-in i f x = (
+    Parts.part-in g rs z new unwinds sound i f (x .inside) (x .enters) (x .begins) start,
+    Parts.entry-is g rs z new unwinds sound i f (x .inside) (x .enters) (x .begins),
+  )
 
   -- ---- the laws of ownership
 
@@ -175,7 +176,7 @@ module _ (g : Graph) (rs : List UnwindRoute) (sound : Sound g) (milder : Milder 
       let b = returns-mem g rs z j y q in
       one-owner i j n m (a .0) (b .0) en em (a .1) (b .1) (sym (a .3) ∙ b .3)
       (λ f f′ x x′ same.
-          milder .apart f f′ (b .0) (x .named) (x′ .named) (subst (Part g rs f) same (part-of i f (a .0) x (a .1))) (part-of j f′ (b .0) x′ (b .1)) (b .2))
+      milder .apart f f′ (b .0) (x .named) (x′ .named) (subst (Part g rs f) same (part-of i f (a .0) x (a .1))) (part-of j f′ (b .0) x′ (b .1)) (b .2))
 
   pub unguarded : (i : ℕ) (n : Node) (y : ℕ) → at z i ≡ some n → y ∈ returns i → Guarded g′ rs y → ⊥
   unguarded i n y en m x =
