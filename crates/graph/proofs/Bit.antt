@@ -13,7 +13,6 @@ use Prim.Native.Nat.{ℕ, zero, suc, _+_, _*_, _/_, _%_, _^_, _≤_, _<_, max, s
 use native.Mathlib.Nat.{one-mul, pow-suc, not-suc-le-zero}
 use native.Mathlib.Numerals.{one-add}
 use native.Mathlib.Omega.{arith}
-use borrow.Author.Tests.{eq-eqb, ne-eqb}
 use lib.Dec.{eqb, lit<}
 use lib.Pow.{shr-shr, shl-exact}
 use lib.Bits.{bitOr, bitXor, differ, or-step, xor-step}

@@ -1,18 +1,18 @@
 -- The cursor: what stands at a position of an image whose sources are starts.
---     cases-are, cases-length, case-is   the cases of the instruction at p stand from the cursor's case on
---     is-given                           the cursor's source is given for it, or none is
---     edges-are, edges-length, edge-is   that source's edges stand from the cursor's edge on
---     leads-edges, leads-flow            what `givenFor` says
---     cases-within, edges-within         the children of p stand within their sections
---     sources-most, edges-most           the cursor stays within them
---     visit-given, visit-next, visit-fits     a visit reads what is given, and the cursor behind it, which fits
+--     leads-edges, leads-flow                    what `givenFor` says
+--     addresses-rise                             the table rises
+--     is-given                                   the cursor's source is given for p, or none is
+--     edges-length, edges-within, edge-is        that source's edges stand from the cursor's edge on
+--     cases-length, cases-within, case-is        the cases of the instruction at p stand from the cursor's case on
+--     sources-most, edges-most                   the cursor stays within the sections
+--     visit-given, visit-next, visit-fits        a visit reads what is given, and the cursor behind it, which fits
 -- Assumes nothing.
 use mathlib.Core.Bool.{Bool, true, false, cond, _&&_, false≢true}
 use mathlib.Core.Path.{_≡_, refl, sym, ap, _∙_}
 use mathlib.Core.Logic.{_⊎_, ⊎-elim}
 use mathlib.Core.List.{List, [], _∷_}
 use Prim.Native.Nat.{ℕ, zero, suc, _+_, _<_, _≤_}
-use native.Mathlib.Nat.{le-of-suc-le-suc}
+use native.Mathlib.Nat.{eq-or-lt-of-le}
 use native.Mathlib.Numerals.{add-one}
 use native.Mathlib.Decide.{decLt, ℕ-discrete}
 use native.Mathlib.Omega.{arith}
@@ -22,6 +22,7 @@ use lib.ListN.{length, getD, take, drop}
 use Rattle.image.specs.Image.{Image}
 use Rattle.image.specs.Record.{instructionFrom, caseFrom, sourceFrom, edgeFrom}
 use Rattle.image.specs.Deal.{total, casesOf, givenOf}
+use Rattle.image.proofs.Deals.{dealt-at, dealt-in, length-dealt}
 use Rattle.image.specs.declared.record.Instruction.{Instruction}
 use Rattle.image.specs.declared.record.Case.{Case}
 use Rattle.image.specs.declared.record.GivenEdge.{GivenEdge}
@@ -32,9 +33,8 @@ use Rattle.graph.specs.Fold.{count}
 use Rattle.graph.specs.Table.{entryAt}
 use Rattle.graph.specs.Transfer.{tableOf, size, instructionAt, addressAt, casesAt, sourceAt, isGiven, givenAt, given}
 use Rattle.graph.specs.Cursor.{Sourced, casesBefore, sourcesBefore, edgesBefore, cursorAt, givenFor, givenHere, after}
-use Rattle.graph.proofs.DealLaws.{total-grows, deal-at, dealt-length, dealt-at}
 use Rattle.graph.proofs.FoldLaws.{decided, some-at, some-where, some-none, flat-none, flat-one, count-yes, count-no}
-use Rattle.graph.proofs.TableLaws.{length-entries, address-is, start-where, rises}
+use Rattle.graph.proofs.TableLaws.{length-entries, entry-address, start-has, rises}
 
 -- ---- what `givenFor` says
 
@@ -64,12 +64,8 @@ record Splits (m : Image) (p k : ℕ) : Type 0 where
 module _ (m : Image) (h : Sourced m) where
   -- ---- addresses
 
-  listed : (p : ℕ) → entryAt (tableOf m) p .address ≡ addressAt m p
-  unfolding instructionAt
-  listed p = address-is (m .instructions) p (instructionAt m p) refl
-
   pub addresses-rise : (p q : ℕ) → p < q → q < size m → addressAt m p < addressAt m q
-  addresses-rise p q lt hq = rw (listed p, listed q) at (h .rising p q lt (rw (length-entries (m .instructions)) hq))
+  addresses-rise p q lt hq = rw (entry-address m p, entry-address m q) at (h .rising p q lt (rw (length-entries (m .instructions)) hq))
 
   lower-first : (p q : ℕ) → p < size m → addressAt m p < addressAt m q → p < q
   lower-first p q hp lt =
@@ -92,8 +88,8 @@ module _ (m : Image) (h : Sourced m) where
   -- where a source stands
   stands : (s : ℕ) → s < length (m .sources) → (q : ℕ) × (q < size m) × (addressAt m q ≡ sourceAt m s .address)
   stands s hs =
-      let r = start-where (tableOf m) (sourceAt m s .address) (h .starts s hs) in
-      (r .0, rw (length-entries (m .instructions)) at (r .1), sym (listed (r .0)) ∙ r .2)
+      let r = start-has (tableOf m) (sourceAt m s .address) (h .starts s hs) in
+      (r .0, rw (length-entries (m .instructions)) at (r .1), sym (entry-address m (r .0)) ∙ r .2)
 
   -- ---- the source at a position
 
@@ -182,29 +178,30 @@ module _ (m : Image) (h : Sourced m) where
       source : (sourcesBefore m p < length (m .sources)) × (addressAt m p ≡ sourceAt m (sourcesBefore m p) .address)
       source = the-given p hp split yes′
 
-      source-within : edgesBefore m p + sourceAt m (sourcesBefore m p) .edges ≤ length (m .edges)
-      unfolding edgesBefore sourceAt total
-      source-within =
-          rw (h .accepted .edges-add) at (total-grows (λ s. sourceAt m s .edges) (suc (sourcesBefore m p)) (length (m .sources)) (source .0))
-
-      pub edges-are : givenAt m p ≡ take (sourceAt m (sourcesBefore m p) .edges) (drop (edgesBefore m p) (m .edges))
-      unfolding givenAt givenOf edgesBefore sourceAt
-      edges-are =
+      given-of : givenAt m p ≡ getD (givenOf m) (sourcesBefore m p) []
+      unfolding givenAt
+      given-of =
           flat-one _ (length (m .sources)) (sourcesBefore m p) (source .0)
           (λ i hi ne. rw (ne-eqb _ _ (λ e. ne (is-first p (sourcesBefore m p) i split hp hi (sym e)))))
           ∙ rw (eq-eqb _ _ (sym (source .1)))
-          (deal-at (λ s. s .edges) (sourceFrom [] 0) (m .sources) (m .edges) (sourcesBefore m p) (source .0))
 
       pub edges-length : length (givenAt m p) ≡ sourceAt m (sourcesBefore m p) .edges
-      edges-length = ap length edges-are ∙ dealt-length (m .edges) (edgesBefore m p) _ source-within
+      unfolding givenOf sourceAt
+      edges-length =
+          ap length given-of
+          ∙ length-dealt (λ s. s .edges) (sourceFrom [] 0) refl (m .sources) (m .edges) (h .accepted .edges-add) (sourcesBefore m p) (source .0)
 
       pub edges-within : edgesBefore m p + length (givenAt m p) ≤ length (m .edges)
-      edges-within = rw edges-length source-within
+      unfolding edgesBefore sourceAt
+      edges-within =
+          rw edges-length
+          (dealt-in (λ s. s .edges) (sourceFrom [] 0) refl (m .sources) (m .edges) (h .accepted .edges-add) (sourcesBefore m p) (source .0))
 
       pub edge-is : (k : ℕ) → k < length (givenAt m p) → given m p k ≡ getD (m .edges) (edgesBefore m p + k) (edgeFrom [] 0)
+      unfolding givenOf edgesBefore sourceAt
       edge-is k hk =
-          ap (λ (l : List GivenEdge). getD l k (edgeFrom [] 0)) edges-are
-          ∙ dealt-at (m .edges) (edgesBefore m p) _ k (edgeFrom [] 0) (rw edges-length at hk)
+          ap (λ (l : List GivenEdge). getD l k (edgeFrom [] 0)) given-of
+          ∙ dealt-at (λ s. s .edges) (sourceFrom [] 0) refl (m .sources) (m .edges) (sourcesBefore m p) k (edgeFrom [] 0) (rw edges-length at hk)
 
     pub given-here : givenHere (m .sources) (sourcesBefore m p) (addressAt m p) ≡ givenFor m p
     unfolding givenHere givenFor sourceAt
@@ -215,19 +212,17 @@ module _ (m : Image) (h : Sourced m) where
 
     -- ---- its cases
 
-    pub cases-within : casesBefore m p + instructionAt m p .cases ≤ length (m .cases)
-    unfolding casesBefore instructionAt total
-    cases-within = rw (h .accepted .cases-add) at (total-grows (λ q. instructionAt m q .cases) (suc p) (size m) hp)
-
-    pub cases-are : casesAt m p ≡ take (instructionAt m p .cases) (drop (casesBefore m p) (m .cases))
-    unfolding casesAt casesOf casesBefore instructionAt
-    cases-are = deal-at (λ i. i .cases) (instructionFrom [] 0) (m .instructions) (m .cases) p hp
-
     pub cases-length : length (casesAt m p) ≡ instructionAt m p .cases
-    cases-length = ap length cases-are ∙ dealt-length (m .cases) (casesBefore m p) _ cases-within
+    unfolding casesAt casesOf instructionAt
+    cases-length = length-dealt (λ i. i .cases) (instructionFrom [] 0) refl (m .instructions) (m .cases) (h .accepted .cases-add) p hp
+
+    pub cases-within : casesBefore m p + instructionAt m p .cases ≤ length (m .cases)
+    unfolding casesBefore instructionAt
+    cases-within = dealt-in (λ i. i .cases) (instructionFrom [] 0) refl (m .instructions) (m .cases) (h .accepted .cases-add) p hp
 
     pub case-is : (k : ℕ) → k < instructionAt m p .cases → getD (casesAt m p) k (caseFrom [] 0) ≡ getD (m .cases) (casesBefore m p + k) (caseFrom [] 0)
-    case-is k hk = ap (λ (l : List Case). getD l k (caseFrom [] 0)) cases-are ∙ dealt-at (m .cases) (casesBefore m p) _ k (caseFrom [] 0) hk
+    unfolding casesAt casesOf casesBefore instructionAt
+    case-is k hk = dealt-at (λ i. i .cases) (instructionFrom [] 0) refl (m .instructions) (m .cases) p k (caseFrom [] 0) hk
 
     -- ---- the cursor behind it
 
@@ -243,7 +238,10 @@ module _ (m : Image) (h : Sourced m) where
 
   pub edges-most : (p : ℕ) → p ≤ size m → edgesBefore m p ≤ length (m .edges)
   unfolding edgesBefore sourceAt
-  edges-most p hp = rw (h .accepted .edges-add) at (total-grows (λ s. sourceAt m s .edges) (sourcesBefore m p) (length (m .sources)) (sources-most p hp))
+  edges-most p hp =
+      ⊎-elim (λ all. rw all (omega (arith, h .accepted .edges-add)))
+      (λ less. omega (arith, dealt-in (λ s. s .edges) (sourceFrom [] 0) refl (m .sources) (m .edges) (h .accepted .edges-add) (sourcesBefore m p) less))
+      (eq-or-lt-of-le (sources-most p hp))
 
   -- what a visit reads, from the cursor and the instruction at hand
   module _ (p : ℕ) (hp : p < size m) (c : Cursor) (i : Instruction) (here : c ≡ cursorAt m p) (is : i ≡ instructionAt m p) where

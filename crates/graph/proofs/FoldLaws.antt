@@ -2,6 +2,7 @@
 --     length-table, getD-table      f 0, f 1, .. below n: how many, and which stands at i
 --     table-same                   the list hangs on f below n alone
 --     all-at, all-more, all-fails  what holds of each number holds of one; one number more; one of which it does not hold
+--     some-same, some-more         it hangs on f below n alone; one number more
 --     some-at, some-where, some-none     it holds of some number if of one, of which one, and of none
 --     flat-none, flat-one          lists of which none or one is not empty
 --     count-same                   the count hangs on f below n alone
@@ -73,6 +74,17 @@ all-fails f (suc n) i h out =
     (λ e. rw (rw e at out) (and-false (all f n)))
     (λ lt. rw (all-fails f n i lt out))
     (eq-or-lt-of-le (le-of-suc-le-suc h))
+
+-- ---- some
+
+pub some-same : (f g : ℕ → Bool) (n : ℕ) → ((i : ℕ) → i < n → f i ≡ g i) → some f n ≡ some g n
+unfolding some
+some-same f g zero same = refl
+some-same f g (suc n) same = rw (some-same f g n (λ i h. same i (omega arith)), same n (omega arith))
+
+pub some-more : (f : ℕ → Bool) (n : ℕ) → some f n ≡ false → f n ≡ false → some f (n + 1) ≡ false
+unfolding some
+some-more f n none out = rw (add-one, none) out
 
 pub some-at : (f : ℕ → Bool) (n i : ℕ) → i < n → f i ≡ true → some f n ≡ true
 unfolding some

@@ -10,7 +10,11 @@ pub mod Bit
 pub mod BlockLaws
 pub mod Rule21
 pub mod TableLaws
-pub mod TransferLaws
-pub mod EdgeLaws
-pub mod DealLaws
+pub mod DraftLaws
 pub mod CursorLaws
+pub mod CheckLaws
+pub mod RangeLaws
+pub mod RouteLaws
+pub mod TransferLaws
+pub mod SearchLaws
+pub mod EdgeLaws

@@ -1,11 +1,11 @@
 -- The records of a graph as rows of words, and what a row more does to the graph.
 --     XWords      a record's row
 --     X-is, X-past    record i of the graph, and the one past the last
---     X-count     how many there are
+--     X-count     how many there are; block-most, edge-most
 --     X-added     the graph with a row more is the graph with the record more
 -- for X of entry, block, edge, region, handler, unresolved, call.
 -- Assumes nothing.
-use mathlib.Core.Path.{_≡_, refl, sym, ap, _∙_}
+use mathlib.Core.Path.{_≡_, sym, ap, _∙_}
 use mathlib.Core.List.{List, [], _∷_}
 use Prim.Native.Nat.{ℕ, zero, suc, _+_, _*_, _<_, _≤_}
 use native.Mathlib.Numerals.{towards-suc}
@@ -22,7 +22,7 @@ use Rattle.graph.specs.declared.record.Region.{Region}
 use Rattle.graph.specs.declared.record.HandlerRecord.{HandlerRecord}
 use Rattle.graph.specs.declared.record.UnresolvedTransfer.{UnresolvedTransfer}
 use Rattle.graph.specs.declared.record.CallSite.{CallSite}
-use Rattle.graph.proofs.SectionLaws.{length-records, record-at, record-past}
+use Rattle.graph.proofs.SectionLaws.{size-most, length-records, record-at, record-past}
 use Rattle.graph.proofs.WordLaws.{Adds}
 
 -- ---- a record as a row
@@ -134,6 +134,12 @@ module _ (l : List ℕ) where
   pub call-past : (i : ℕ) → size callRows l ≤ i → getD (heldIn l .graph .calls) i (callOf []) ≡ callOf []
   unfolding heldIn
   call-past i h = record-past callRows callOf l i (callOf []) h
+
+  pub block-most : length (heldIn l .graph .blocks) ≤ 1024
+  block-most = omega (arith, block-count, size-most blockRows l)
+
+  pub edge-most : length (heldIn l .graph .edges) ≤ 4096
+  edge-most = omega (arith, edge-count, size-most edgeRows l)
 
 -- ---- a record more
 

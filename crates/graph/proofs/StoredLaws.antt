@@ -1,6 +1,8 @@
 -- Stores one after the other, and graphs that hold all their records: what a loop above the store cites.
 --     stored-none, stored-then     no store, and one behind another
+--     stored-onto                  a turn of a loop: what a leaf says of the words at hand, said of those at entry
 --     emptied-then                 stores into an emptied graph: which words are as they were before it was
+--     held-nothing                 the emptied graph
 --     whole, more-whole            a section that is not cut, and a record more
 --     X-more                       a graph with room, and a record more
 --     all-held                     within the limits nothing is cut
@@ -18,7 +20,7 @@ use Rattle.graph.specs.Section.{Section, size, records}
 use Rattle.graph.specs.Graph.{Graph, Held, held}
 use Rattle.graph.specs.WellFormed.{withinLimits}
 use Rattle.graph.specs.Words.{tableRows, blockRows, edgeRows, regionRows, handlerRows, unresolvedRows, callRows, entryOf, blockOf, edgeOf, regionOf, handlerOf, unresolvedOf, callOf, Part, part, holding, heldIn}
-use Rattle.graph.specs.Stored.{more, withEntry, withBlock, withEdge, withRegion, withHandler, withUnresolved, withCall, Untouched, Stored, Emptied}
+use Rattle.graph.specs.Stored.{more, nothing, withEntry, withBlock, withEdge, withRegion, withHandler, withUnresolved, withCall, Untouched, Stored, Emptied}
 use Rattle.graph.specs.declared.record.TableEntry.{TableEntry}
 use Rattle.graph.specs.declared.record.Block.{Block}
 use Rattle.graph.specs.declared.record.Edge.{Edge}
@@ -41,6 +43,11 @@ stored-then a b =
       kept = λ k u. b .kept k u ∙ a .kept k (b .uses k u);
     }
 
+pub stored-onto : {l m n : List ℕ} {h h′ : Held} (f : Held → Held) → Stored l m h → Stored m n (f (heldIn m)) → f h ≡ h′ → Stored l n h′
+stored-onto f a b is =
+    let c = stored-then a b in
+    record { holds = c .holds ∙ ap f (a .holds) ∙ is; uses = c .uses; kept = c .kept }
+
 pub emptied-then : {l m n : List ℕ} {h : Held} → Emptied l m → Stored m n h → Untouched l n
 emptied-then a b k u = b .kept k u ∙ a .kept k (b .uses k u)
 
@@ -48,6 +55,11 @@ emptied-then a b k u = b .kept k u ∙ a .kept k (b .uses k u)
 
 abbrev pub whole : {A : Type 0} → List A → Part A
 whole p = record { count = length p; list = p }
+
+-- a graph with no record, as `empty` leaves it
+pub held-nothing : nothing ≡ held (record { entry = 0; table = []; blocks = []; edges = []; regions = []; handlers = []; unresolved = []; calls = [] })
+unfolding held
+held-nothing = refl
 
 pub more-whole : {A : Type 0} (s : Section) (p : List A) (a : A) → length p < s .most → more s (whole p) a ≡ whole (p ++ (a ∷ []))
 unfolding more

@@ -1,9 +1,10 @@
 -- The table: starts and positions.
 --     length-entries, entry-is        the entries of a list of instructions
 --     size-is, address-is             the same of the records in the bytes, and of what is read there
+--     entry-address                   the same of an image
 --     start-at, start-none            where an instruction starts, and where none does
---     start-where                     the position at which it starts
---     rises, before                   what rises step by step rises; the lower of two addresses comes first
+--     start-has                       the place of a start
+--     rises                           what rises step by step rises
 --     below-at, below-most            the position of a start in a table that rises, and a bound
 --     Between, go-right, go-left      a search by halving: where the address can only stand
 -- Assumes nothing.
@@ -19,13 +20,13 @@ use borrow.Author.Tests.{eqb-true, eq-eqb, ne-eqb, lt-ltb, le-ltb}
 use lib.Dec.{eqb, ltb}
 use lib.ListN.{length, getD, length-map, List·getD-map}
 use Rattle.image.specs.Record.{instructionFrom}
-use Rattle.image.specs.Image.{recordsIn}
+use Rattle.image.specs.Image.{Image, recordsIn}
 use Rattle.image.specs.declared.section.Section.{Section}
 use Rattle.image.proofs.Tables.{length-records}
 use Rattle.image.specs.declared.record.Instruction.{Instruction}
 use Rattle.graph.specs.declared.record.TableEntry.{TableEntry}
 use Rattle.graph.specs.Table.{entryAt, isStart, below}
-use Rattle.graph.specs.Transfer.{tableEntry, entriesOf}
+use Rattle.graph.specs.Transfer.{tableEntry, entriesOf, tableOf, instructionAt, addressAt}
 use Rattle.graph.specs.Lookup.{Rising}
 
 pub length-entries : (is : List Instruction) → length (entriesOf is) ≡ length is
@@ -43,6 +44,10 @@ pub address-is : (is : List Instruction) (p : ℕ) (i : Instruction) → i ≡ g
 unfolding tableEntry
 address-is is p i e = ap (λ (x : TableEntry). x .address) (entry-is is p) ∙ ap (λ (x : Instruction). x .address) (sym e)
 
+pub entry-address : (m : Image) (p : ℕ) → entryAt (tableOf m) p .address ≡ addressAt m p
+unfolding instructionAt
+entry-address m p = address-is (m .instructions) p (instructionAt m p) refl
+
 pub start-at : (t : List TableEntry) (a k : ℕ) → k < length t → entryAt t k .address ≡ a → isStart t a ≡ true
 unfolding isStart entryAt
 start-at [] a k h e = absurd (omega arith)
@@ -54,15 +59,15 @@ unfolding isStart entryAt
 start-none [] a h = refl
 start-none (x ∷ t) a h = rw (ne-eqb (x .address) a (h zero (omega arith))) (start-none t a (λ k lt e. h (suc k) (omega arith) e))
 
-pub start-where : (t : List TableEntry) (a : ℕ) → isStart t a ≡ true → (k : ℕ) × (k < length t) × (entryAt t k .address ≡ a)
+pub start-has : (t : List TableEntry) (a : ℕ) → isStart t a ≡ true → (k : ℕ) × (k < length t) × (entryAt t k .address ≡ a)
 unfolding isStart entryAt
-start-where [] a e = absurd (false≢true e)
-start-where (x ∷ t) a e = go (eqb (x .address) a) refl (start-where t a) e
+start-has [] a e = absurd (false≢true e)
+start-has (x ∷ t) a e = go (eqb (x .address) a) refl e (start-has t a)
   where
-    go : (b : Bool) → eqb (x .address) a ≡ b → (isStart t a ≡ true → (k : ℕ) × (k < length t) × (entryAt t k .address ≡ a)) → (b || isStart t a) ≡ true
-        → (k : ℕ) × (k < suc (length t)) × (entryAt (x ∷ t) k .address ≡ a)
-    go true b rest e = (zero, omega arith, eqb-true (x .address) a b)
-    go false b rest e = let r = rest e in (suc (r .0), omega (arith, r .1), r .2)
+    go : (b : Bool) → eqb (x .address) a ≡ b → (b || isStart t a) ≡ true
+        → (isStart t a ≡ true → (k : ℕ) × (k < length t) × (entryAt t k .address ≡ a)) → (k : ℕ) × (k < suc (length t)) × (entryAt (x ∷ t) k .address ≡ a)
+    go true same _ _ = (zero, omega arith, eqb-true (x .address) a same)
+    go false _ later has = let found = has later in (suc (found .0), omega (arith, found .1), found .2)
 
 pub rises : (f : ℕ → ℕ) (n : ℕ) → ((i : ℕ) → suc i < n → f i < f (suc i)) → (i j : ℕ) → i < j → j < n → f i < f j
 rises f n step i zero h lt = absurd (omega arith)
@@ -101,7 +106,7 @@ Between t a lo hi = (k : ℕ) → k < length t → entryAt t k .address ≡ a �
 
 module _ (t : List TableEntry) (rising : Rising t) where
   -- of two places the lower address comes first
-  pub before : (i j : ℕ) → i < length t → entryAt t i .address < entryAt t j .address → i < j
+  before : (i j : ℕ) → i < length t → entryAt t i .address < entryAt t j .address → i < j
   before i j h lt =
       elim (decLt i j) [
         | yes a ↦ a

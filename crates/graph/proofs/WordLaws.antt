@@ -1,24 +1,28 @@
--- What the store's functions do to the graph that the words hold. Above these laws no proof names a word.
+-- What the store's functions do to the words, section by section. Above these laws no proof names a word.
+--     laid, apart                   each section is behind the header and within the words, and apart from every other
+--     Adds                          one row more in section i, and every other section and unused word as it was
+--     adds-row, adds-none           a row is written and counted; there is no room
+--     entry-set, emptied            the header
 -- Assumes nothing.
-use mathlib.Core.Path.{_≡_, refl, sym, ap, _∙_}
-use mathlib.Core.Bool.{Bool, true, false, cond, not, _&&_, _||_}
-use mathlib.Core.Logic.{_⊎_, inl, inr, ⊎-elim}
-use mathlib.Core.List.{List, [], _∷_, _++_}
-use Prim.Native.Nat.{ℕ, zero, suc, _+_, _*_, _<_, _≤_, min}
-use native.Mathlib.Nat.{add-zero, mul-le-mul-left, min-eq-left}
+use mathlib.Core.Path.{_≡_, refl, ap, _∙_}
+use mathlib.Core.Bool.{Bool, true, false, not, _&&_, _||_}
+use mathlib.Core.Logic.{_⊎_, inl, inr}
+use mathlib.Core.List.{List, [], _∷_}
+use Prim.Native.Nat.{ℕ, _+_, _<_, _≤_}
+use native.Mathlib.Nat.{mul-le-mul-left}
 use native.Mathlib.Decide.{ℕ-discrete, decLt}
 use native.Mathlib.Omega.{arith}
 use borrow.Author.Tests.{lt-ltb, le-ltb, eqb-true, leb-true}
-use lib.Dec.{T, eqb, leb, ltb, eqb→eq, leb→le, ltb→lt, eqb-refl, T-not, lit<, lit≤}
-use lib.ListN.{length, getD, take, drop, set}
+use lib.Dec.{T, eqb, leb, ltb, eqb→eq, leb→le, ltb→lt, eqb-refl, T-not}
+use lib.ListN.{length, getD, set}
 use lib.Seq.{sets, sets-eq, getD-set-same, getD-set-other}
 use Rattle.image.specs.Image.{table}
 use Rattle.graph.specs.Fold.{all}
-use Rattle.graph.specs.Section.{Section, place, size, records, Beside}
-use Rattle.graph.specs.Words.{section, Part, part, entryOf, blockOf, edgeOf, regionOf, handlerOf, unresolvedOf, callOf, holding, heldIn}
-use Rattle.graph.specs.Stored.{more, entered, nothing, Unused, Untouched, Stored, Emptied}
+use Rattle.graph.specs.Section.{Section, place, size, records}
+use Rattle.graph.specs.Words.{section, part, entryOf, blockOf, edgeOf, regionOf, handlerOf, unresolvedOf, callOf, holding, heldIn}
+use Rattle.graph.specs.Stored.{more, entered, Unused, Untouched, Stored, Emptied}
 use Rattle.graph.proofs.FoldLaws.{both, all-at}
-use Rattle.graph.proofs.SectionLaws.{Apart, push, size-most, count-push, size-push, records-push, word-sets, word-push, Away, count-away, records-away, count-push-other, records-push-other}
+use Rattle.graph.proofs.SectionLaws.{Apart, push, count-push, size-push, records-push, word-sets, word-push, Away, count-away, records-away, count-push-other, records-push-other}
 
 -- ---- the sections: each within the words behind its count, and apart from every other, by one test
 

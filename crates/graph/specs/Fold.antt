@@ -4,6 +4,7 @@ use mathlib.Core.List.{List, [], _∷_, _++_}
 use Prim.Native.Nat.{ℕ, zero, suc, _+_}
 use lib.Dec.{eqb}
 use Rattle.image.specs.Refusal.{Check, clear, _then_}
+unfoldable pub use Rattle.image.specs.Refusal.{checks}
 
 -- f 0, f 1, .. below n, one behind the other
 unfoldable pub flat : {A : Type 0} → (ℕ → List A) → ℕ → List A
@@ -18,11 +19,6 @@ some f (suc n) = some f n || f n
 unfoldable pub all : (ℕ → Bool) → ℕ → Bool
 all f zero = true
 all f (suc n) = all f n && f n
-
--- the first refusal among those of 0, 1, .. below n
-unfoldable pub checks : (ℕ → Check) → ℕ → Check
-checks f zero = clear
-checks f (suc n) = checks f n then f n
 
 -- of how many numbers below n f holds
 unfoldable pub count : (ℕ → Bool) → ℕ → ℕ

@@ -17,7 +17,10 @@ pub mod Cursor
 pub mod Blocks
 pub mod Edges
 pub mod Regions
+pub mod Drafts
 pub mod Build
 pub mod Emit
+pub mod Ranges
 pub mod WellFormed
 pub mod Reached
+pub mod Search

@@ -4,10 +4,18 @@ use mathlib.Core.Path.{_≡_}
 use mathlib.Core.List.{List}
 use Prim.Native.Nat.{ℕ, _<_}
 use lib.ListN.{length}
+use Rattle.image.specs.Record.{instructionFrom}
+use Rattle.image.specs.Image.{recordsIn}
+use Rattle.image.specs.declared.section.Section.{Section}
 use Rattle.graph.specs.declared.record.TableEntry.{TableEntry}
 use Rattle.graph.specs.declared.lookup.Found.{Found}
 use Rattle.graph.specs.declared.lookup.Found.the-variants.{At, Nothing}
 use Rattle.graph.specs.Table.{entryAt, isStart, below}
+use Rattle.graph.specs.Transfer.{entriesOf}
+
+-- the table whose instructions stand in a section
+abbrev pub entriesIn : List ℕ → Section → List TableEntry
+entriesIn l y = entriesOf (recordsIn instructionFrom l y)
 
 abbrev pub Rising : List TableEntry → Type 0
 Rising t = (i j : ℕ) → i < j → j < length t → entryAt t i .address < entryAt t j .address

@@ -3,7 +3,9 @@ use mathlib.Core.Bool.{Bool, true, false, not, _&&_}
 use mathlib.Core.List.{List, [], _∷_, _++_}
 use Prim.Native.Nat.{ℕ}
 use lib.ListN.{length, getD}
-use Rattle.image.specs.Deal.{UnwindStep, funclet, call, UnwindEnd, handler, propagate, resume, UnwindPath, UnwindRoute}
+use Rattle.image.specs.Record.{routeFrom, pathFrom}
+use Rattle.image.specs.Image.{RouteImage}
+use Rattle.image.specs.Deal.{total, UnwindStep, funclet, call, UnwindEnd, handler, propagate, resume, UnwindPath, UnwindRoute, pathsOf}
 use Rattle.image.specs.Refusal.{Check, refusal, _then_, unless}
 use Rattle.graph.specs.declared.record.TableEntry.{TableEntry}
 use Rattle.graph.specs.Fold.{flat, some, checkEach}
@@ -48,3 +50,14 @@ routeCheck t rs r =
     rangeCheck t (routeAt rs r .start) (routeAt rs r .end)
     then unless (not (resumesLate (routeAt rs r))) (refusal 15 r 0)
     then checkEach (λ a. unless (isStart t a) (refusal 14 a 0)) (entries (routeAt rs r))
+
+-- Where the children of a route stand: how many paths come before its own, and how many steps before those of a path.
+unfoldable pub pathsBefore : RouteImage → ℕ → ℕ
+pathsBefore m r = total (λ q. getD (m .routes) q (routeFrom [] 0) .paths) r
+
+unfoldable pub stepsBefore : RouteImage → ℕ → ℕ
+stepsBefore m p = total (λ q. getD (m .paths) q (pathFrom [] 0) .steps) p
+
+-- the path at a place among all
+abbrev pub pathIn : RouteImage → ℕ → UnwindPath
+pathIn m p = getD (pathsOf m) p (record { steps = []; end = propagate })

@@ -1,9 +1,14 @@
 // The control flow graph of a sequence: its store, the three builds, its own rule (21) and what is reached.
 pub mod blockset;
 mod cursor;
+mod drafts;
 mod edges;
 pub mod error;
 mod lookup;
+mod ranges;
+pub mod reach;
 pub mod record;
+mod resume;
+mod route;
 pub mod store;
 mod transfer;

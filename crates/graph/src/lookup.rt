@@ -1,10 +1,7 @@
 // Address look-up: the position of the instruction that starts at an address.
 use image::access::instruction_at;
 use image::section::Section;
-ghost use Rattle.image.specs.Image.{recordsIn};
-ghost use Rattle.image.specs.Record.{instructionFrom};
-ghost use Rattle.graph.specs.Transfer.{entriesOf};
-ghost use Rattle.graph.specs.Lookup.{Rising, Finds};
+ghost use Rattle.graph.specs.Lookup.{entriesIn, Rising, Finds};
 
 pub enum Found {
     At(usize),
@@ -13,8 +10,8 @@ pub enum Found {
 
 // By halving a table whose addresses rise.
 pub fn find(s: &[u8], y: Section, a: u64) -> Found
-    requires { ⌜ Rising (entriesOf (recordsIn instructionFrom (now s) y)) ⌝ }
-    ensures { λ r. ⌜ Finds (entriesOf (recordsIn instructionFrom (now (s .entry)) y)) a r ⌝ }
+    requires { ⌜ Rising (entriesIn (now s) y) ⌝ }
+    ensures { λ r. ⌜ Finds (entriesIn (now (s .entry)) y) a r ⌝ }
 {
     let mut lo = 0;
     let mut hi = y.count as usize;

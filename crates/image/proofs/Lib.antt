@@ -3,3 +3,4 @@ pub mod Checks
 pub mod Tables
 pub mod Sections
 pub mod Accepted
+pub mod Deals

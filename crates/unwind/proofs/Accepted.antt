@@ -3,11 +3,11 @@
 --     then-clear, check-at         every check of a clear row is clear
 --     funclet-begins, handler-begins      the addresses of a node
 --     mem-guarded, guarded-mem     the guarded blocks of a route
-use mathlib.Core.Path.{_≡_, refl, sym, _∙_, ap, subst}
+use mathlib.Core.Path.{_≡_, refl, sym, _∙_, ap}
 use mathlib.Core.Bool.{Bool, true, false, _&&_}
-use mathlib.Core.List.{List, [], _∷_, List·Memᴰ, List·Memᴰ·head, List·Memᴰ·tail}
+use mathlib.Core.List.{List, [], _∷_, List·Memᴰ·head}
 use mathlib.Core.Option.{Option, none, some}
-use Prim.Native.Nat.{ℕ, zero, suc, _<_, _≤_}
+use Prim.Native.Nat.{ℕ, zero, suc, _<_}
 use native.Mathlib.Nat.{not-suc-le-zero}
 use native.Mathlib.Decide.{decLt}
 use native.Mathlib.Omega.{arith}
@@ -15,17 +15,17 @@ use borrow.Author.Tests.{eqb-true, eq-eqb, leb-true, le-leb, ltb-true, lt-ltb}
 use lib.Dec.{eqb, leb, ltb}
 use lib.ListN.{length, getD}
 use Rattle.image.specs.Refusal.{Check, clear, refused, _then_}
-use Rattle.image.specs.Deal.{UnwindEnd, handler, propagate, resume, UnwindRoute}
+use Rattle.image.specs.Deal.{UnwindEnd, handler, propagate, UnwindRoute}
 use Rattle.graph.specs.Graph.{Graph}
 use Rattle.graph.specs.Fold.{checks}
 use Rattle.graph.specs.Table.{isStart}
 use Rattle.graph.specs.WellFormed.{isBuilt}
 use Rattle.unwind.specs.Lists.{keep, upto, head}
 use Rattle.unwind.specs.Order.{Tagged, tagged}
-use Rattle.unwind.specs.Blocks.{builtBlocks, firstOf, Leading, leads, inside, absent, leadingBy, leading, blockIn, blockOf, within, keepsEdge, guarded}
+use Rattle.unwind.specs.Blocks.{builtBlocks, firstOf, leadingBy, leading, blockIn, blockOf, within, keepsEdge, guarded}
 use Rattle.unwind.specs.Trie.{Node}
 use Rattle.unwind.specs.Add.{leadFound, leadCheck, funcletCheck, endCheck, nodeCheck}
-use Rattle.unwind.specs.Walk.{_∈_, Built, Begins, Covers, Guarded}
+use Rattle.unwind.specs.Walk.{_∈_, Built, Begins, Covers}
 use Rattle.unwind.proofs.Lists.{at, and-both, and-true, mem-keep, keep-mem, mem-upto, upto-mem, mem-at, at-lt, at-getD}
 
 -- ---- checks

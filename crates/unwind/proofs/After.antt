@@ -1,14 +1,16 @@
 -- The graph after the addition: its blocks, its edges, and what they lead to.
 --     built-up, built-down         the built blocks are the same afterwards
 --     old-block, image-block       the block at an old number, and where an instance has a block
---     Edges, edges-split           an edge afterwards is an old one, a clone's, or a new unwind edge
+--     same-first, same-last        blocks with the same run have the same first and last instruction
+--     new-unwinds                  the new edges are all unwind edges
+--     Kin, kin                     an edge afterwards is an old one, a clone's, or an unwind edge
 --     out-forth, out-back          the ordinary edges out of an instance are those of the part, moved
 use mathlib.Core.Path.{_≡_, refl, sym, _∙_, ap, subst}
 use mathlib.Core.Logic.{_⊎_, inl, inr}
 use mathlib.Core.Bool.{Bool, true, false, cond, _||_}
-use mathlib.Core.List.{List, [], _∷_, _++_, map, List·Memᴰ, List·Memᴰ·head, List·Memᴰ·tail, List·Memᴰ·append-cases, List·Memᴰ·eq-of-singleton, Memᴰ·append-left, Memᴰ·append-right, Memᴰ·cast}
-use mathlib.Core.Option.{Option, none, some}
-use Prim.Native.Nat.{ℕ, zero, suc, _+_, _-_, _≤_, _<_}
+use mathlib.Core.List.{List, [], _∷_, _++_, map, List·Memᴰ·append-cases, List·Memᴰ·eq-of-singleton, Memᴰ·append-left, Memᴰ·append-right}
+use mathlib.Core.Option.{some}
+use Prim.Native.Nat.{ℕ, zero, suc, _+_, _≤_, _<_}
 use native.Mathlib.Omega.{arith}
 use native.Mathlib.Decide.{decLt}
 use borrow.Author.Tests.{eq-eqb, eqb-true, ltb-true}

@@ -7,8 +7,8 @@
 use mathlib.Core.Path.{_≡_, refl, sym, _∙_, ap, subst}
 use mathlib.Core.Logic.{_⊎_, inl, inr}
 use mathlib.Core.Bool.{Bool, true, false, cond, not, _&&_, _||_, false≢true}
-use mathlib.Core.List.{List, [], _∷_, map, List·Memᴰ, List·Memᴰ·head, List·Memᴰ·tail, List·Memᴰ·eq-of-singleton, Memᴰ·cast}
-use Prim.Native.Nat.{ℕ, zero, suc, _+_, _≤_, _<_}
+use mathlib.Core.List.{List, [], _∷_, List·Memᴰ·head, List·Memᴰ·tail, List·Memᴰ·eq-of-singleton, Memᴰ·cast}
+use Prim.Native.Nat.{ℕ, zero, suc, _≤_, _<_}
 use native.Mathlib.Decide.{ℕ-discrete}
 use native.Mathlib.Omega.{arith}
 use borrow.Author.Tests.{eq-eqb, eqb-true}
@@ -18,13 +18,13 @@ use Rattle.image.specs.Deal.{UnwindStep, funclet, call, UnwindPath, UnwindRoute
 use Rattle.graph.specs.declared.record.Edge.{Edge}
 use Rattle.graph.specs.Graph.{Graph}
 use Rattle.unwind.specs.Lists.{keep, joined, upto, isEmpty}
-use Rattle.graph.specs.Fold.{flat, among}
+use Rattle.graph.specs.Fold.{among}
 use Rattle.graph.specs.Flow.{Flow, Kind}
 use Rattle.graph.specs.Route.{funcletOf, funclets as onPath}
 use Rattle.graph.specs.WellFormed.{isBuilt}
 use Rattle.unwind.specs.Blocks.{firstOf, lastOf}
 use Rattle.unwind.specs.Part.{funclets, barred, ordinary, outgoing, onward, round, rounds, part, returning}
-use Rattle.unwind.specs.Walk.{_∈_, Funclet, Begins, Other, Reach, start, step, Returning, by-return, by-jump}
+use Rattle.unwind.specs.Walk.{_∈_, Funclet, Other, Reach, start, step, Returning, by-return, by-jump}
 use Rattle.unwind.proofs.Lists.{and-both, and-true, or-either, or-left, or-right, not-so, so-not, none-in, mem-keep, keep-mem, mem-joined, joined-mem, mem-map, map-mem, mem-upto, upto-mem, mem-flat, flat-mem, mem-at, at-lt, lt-at, at-getD, at-mem, mem-among, among-mem}
 
 -- ---- funclets

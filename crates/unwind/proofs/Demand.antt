@@ -7,14 +7,14 @@
 use mathlib.Core.Path.{_≡_, refl, sym, _∙_, ap, subst}
 use mathlib.Core.Logic.{_⊎_, inl, inr}
 use mathlib.Core.Bool.{Bool, true, false, cond}
-use mathlib.Core.List.{List, [], _++_, List·Memᴰ·append-cases, Memᴰ·append-left, Memᴰ·append-right}
-use mathlib.Core.Option.{Option, none, some}
-use Prim.Native.Nat.{ℕ, _<_}
+use mathlib.Core.List.{List}
+use mathlib.Core.Option.{some}
+use Prim.Native.Nat.{ℕ}
 use native.Mathlib.Omega.{arith}
 use lib.ListN.{length}
 use Rattle.image.specs.Refusal.{Check, clear, refusal, _then_}
 use Rattle.image.specs.Image.{RouteImage}
-use Rattle.image.specs.Read.{Reading, read, refusing, readRoutes}
+use Rattle.image.specs.Read.{Reading, read, readRoutes}
 use Rattle.image.specs.Deal.{UnwindEnd, handler, UnwindRoute, routesOf}
 use Rattle.graph.specs.declared.record.TableEntry.{TableEntry}
 use Rattle.graph.specs.declared.record.Edge.{Edge}
@@ -26,22 +26,20 @@ use Rattle.unwind.specs.Order.{Tagged}
 use Rattle.unwind.specs.Blocks.{firstOf, blockOf, guarded}
 use Rattle.unwind.specs.Part.{funclets}
 use Rattle.unwind.specs.Trie.{Node, nodeAt, tries}
-use Rattle.unwind.specs.Instance.{partOf, blocksOf, later, place, entryOf, returnsOf, cloneBlocks, cloneEdges}
-use Rattle.unwind.specs.Ways.{HopEnd, Hop, Way, ways, nodeWays, routeWays, hopsOf, routeEdges}
-use Rattle.unwind.specs.Add.{extended, Addition, addition, nodeCheck, routeCheck, sizeCheck, Outcome, added, refused, outcome, addRoutesTo, addRead, addRoutes}
-use Rattle.unwind.specs.Walk.{_∈_, Funclet, Handler, Built, Begins, Reach, start, Part, Returning, Covers, Guarded, Takes}
-use Rattle.unwind.specs.Demand.{Conditions, Demand3, Demanded}
-use Rattle.unwind.proofs.Lists.{at, none-in, at-lt, lt-at, at-getD}
+use Rattle.unwind.specs.Instance.{entryOf, returnsOf}
+use Rattle.unwind.specs.Ways.{HopEnd, Hop, ways, nodeWays, routeWays, hopsOf}
+use Rattle.unwind.specs.Add.{Addition, addition, nodeCheck, routeCheck, sizeCheck, added, refused, outcome, addRoutesTo, addRead, addRoutes}
+use Rattle.unwind.specs.Walk.{_∈_, Built, Covers, Guarded, Takes}
+use Rattle.unwind.specs.Demand.{Demand3, Demanded}
+use Rattle.unwind.proofs.Lists.{at, lt-at}
 use Rattle.unwind.proofs.Sound.{Sound, sound as well-formed}
-use Rattle.unwind.proofs.Intern.{Fits, Fit, tries-law}
-use Rattle.unwind.proofs.Instance.{first-or-later, blocks-lt, place-first, later-above, clone-owner, first-once, mem-returns, returns-mem}
-use Rattle.unwind.proofs.After.{new-unwinds}
+use Rattle.unwind.proofs.Intern.{tries-law}
 use Rattle.unwind.proofs.Parts
-use Rattle.unwind.proofs.Milder.{Milder, mild, reach-entry}
+use Rattle.unwind.proofs.Milder.{Milder, mild}
 use Rattle.unwind.proofs.Walks.{Turn, Fires, at-root, at-return, Root, Turned, Laws, exactly, ends}
 use Rattle.unwind.proofs.Hops
 use Rattle.unwind.proofs.Owners
-use Rattle.unwind.proofs.Accepted.{then-clear, check-at, funclet-begins, handler-begins, mem-guarded, guarded-mem}
+use Rattle.unwind.proofs.Accepted.{then-clear, mem-guarded, guarded-mem}
 
 module _ (g : Graph) (rs : List UnwindRoute) (sound : Sound g) (milder : Milder g rs)
     (ok : checks (λ i. nodeCheck g (nodeAt (tries rs .nodes) i)) (length (tries rs .nodes)) ≡ clear) where

@@ -7,8 +7,8 @@
 use mathlib.Core.Path.{_≡_, refl, sym, _∙_, ap, subst}
 use mathlib.Core.Logic.{_⊎_, inl, inr}
 use mathlib.Core.Bool.{Bool, true, false, cond}
-use mathlib.Core.List.{List, [], _∷_, _++_, map, List·Memᴰ, List·Memᴰ·head, List·Memᴰ·tail, List·Memᴰ·append-cases, List·Memᴰ·eq-of-singleton, Memᴰ·append-left, Memᴰ·append-right, Memᴰ·cast}
-use mathlib.Core.Option.{Option, none, some}
+use mathlib.Core.List.{List, [], _∷_, map, List·Memᴰ·head, List·Memᴰ·tail, List·Memᴰ·append-cases, List·Memᴰ·eq-of-singleton, Memᴰ·append-left, Memᴰ·append-right, Memᴰ·cast}
+use mathlib.Core.Option.{some}
 use Prim.Native.Nat.{ℕ, suc, _<_}
 use lib.Dec.{isEq}
 use lib.ListN.{length}
@@ -21,7 +21,7 @@ use Rattle.unwind.specs.Blocks.{blockOf, guarded}
 use Rattle.unwind.specs.Part.{funclets}
 use Rattle.unwind.specs.Trie.{Node, nodeAt, tries}
 use Rattle.unwind.specs.Instance.{entryOf, returnsOf}
-use Rattle.unwind.specs.Ways.{HopEnd, block, leave, Hop, Way, endAt, waysFrom, routeWays, nodeWays, ways, Leap, leap, compareLeaps, listsOf, hopsOf}
+use Rattle.unwind.specs.Ways.{HopEnd, block, Hop, Way, endAt, waysFrom, routeWays, nodeWays, ways, Leap, leap, compareLeaps, listsOf, hopsOf}
 use Rattle.unwind.specs.Walk.{_∈_, Takes}
 use Rattle.unwind.proofs.Lists.{at, none-in, mem-joined, joined-mem, mem-map, map-mem, mem-flat, flat-mem, at-lt, at-getD}
 use Rattle.unwind.proofs.Order.{exact-tags, exact-leaps, mem-sorted, sorted-mem}

@@ -1,27 +1,28 @@
 -- Instances: original and clone are one notion, the image of a part under `place`.
---     blocks-lt                    the blocks of a part stood before
+--     blocks-lt, blocks-part       the blocks of a node: those of a part, which stood before
+--     copied-later, mem-copied     the blocks that a node copies
 --     place-first, place-later     where an original and a clone has a block
 --     place-apart                  within a node, different blocks have different places
 --     clone-owner                  a clone's block is no other node's
 --     first-once                   of the nodes of one funclet, one uses the original blocks
---     moved-in, moved-first        moved targets
+--     later-above                  a clone's blocks come behind those that stood
+--     moved-in, moved-first, moved-either     moved targets
 --     mem-returns, returns-mem     the returning blocks of an instance
-use mathlib.Core.Path.{_≡_, refl, sym, _∙_, ap, subst}
+use mathlib.Core.Path.{_≡_, refl, sym, _∙_, ap}
 use mathlib.Core.Logic.{_⊎_, inl, inr}
 use mathlib.Core.Bool.{Bool, true, false, cond, _||_, false≢true}
-use mathlib.Core.List.{List, [], _∷_, map, List·Memᴰ}
+use mathlib.Core.List.{List, []}
 use mathlib.Core.Option.{Option, none, some}
 use Prim.Native.Nat.{ℕ, zero, suc, _+_, _≤_, _<_}
 use native.Mathlib.Nat.{not-suc-le-zero}
-use native.Mathlib.Decide.{decLt, ℕ-discrete}
+use native.Mathlib.Decide.{decLt}
 use native.Mathlib.Omega.{arith}
 use borrow.Author.Tests.{eq-eqb}
-use lib.Dec.{eqb}
 use lib.ListN.{length}
 use Rattle.image.specs.Deal.{UnwindRoute}
 use Rattle.graph.specs.Graph.{Graph}
-use Rattle.graph.specs.Fold.{flat, some as any, among}
-use Rattle.unwind.specs.Lists.{keep, rank}
+use Rattle.graph.specs.Fold.{some as any, among}
+use Rattle.unwind.specs.Lists.{rank}
 use Rattle.unwind.specs.Part.{funclets, part, returning}
 use Rattle.unwind.specs.Blocks.{blockOf}
 use Rattle.unwind.specs.Trie.{Node, nodeAt, sameFunclet}

@@ -5,25 +5,23 @@
 --     Interns, create-law, intern-law     interning
 --     Rooted, tries-law            all routes: the root of each spells its paths
 use mathlib.Core.Path.{_≡_, refl, sym, _∙_, ap, subst}
-use mathlib.Core.Logic.{_↔_, _⊎_, inl, inr}
 use mathlib.Core.Bool.{Bool, true, false, cond, _&&_, false≢true}
-use mathlib.Core.List.{List, [], _∷_, _++_, map, List·Memᴰ, List·Memᴰ·head, List·Memᴰ·tail, Memᴰ·cast, Memᴰ·append-left, Memᴰ·append-right}
+use mathlib.Core.List.{List, [], _∷_, _++_, map, List·Memᴰ·head, List·Memᴰ·tail, Memᴰ·append-right}
 use mathlib.Core.Option.{Option, none, some, Option·map, Option·none-ne-some}
-use Prim.Native.Nat.{ℕ, zero, suc, max, compare, _+_, _≤_, _<_}
+use Prim.Native.Nat.{ℕ, zero, suc, compare, _≤_, _<_}
 use native.Mathlib.Nat.{le-of-suc-le-suc}
 use native.Mathlib.Decide.{decLt}
 use native.Mathlib.Omega.{arith}
 use borrow.Author.Tests.{eqb-true}
-use lib.Dec.{eqb, isEq}
 use lib.ListN.{length, length-append}
-use Rattle.image.specs.Deal.{UnwindStep, funclet, call, UnwindEnd, handler, UnwindPath, UnwindRoute}
+use Rattle.image.specs.Deal.{funclet, call, UnwindEnd, handler, UnwindPath, UnwindRoute}
 use Rattle.unwind.specs.Order.{Tagged, tagged, compareTagged, compareEnds, sorted, same}
-use Rattle.unwind.specs.Trie.{Node, Cut, over, enters, cut, endsOf, groups, rest, sameFunclet, sameNode, placeOf, Interned, created, create, Children, internEach, nodeOf, intern, longest, Tries, internRoutes, tries}
+use Rattle.unwind.specs.Trie.{Node, enters, groups, rest, sameFunclet, sameNode, placeOf, Interned, created, create, Children, internEach, nodeOf, intern, longest, Tries, internRoutes, tries}
 use Rattle.unwind.specs.Walk.{_∈_, Funclet, Handler}
 use Rattle.unwind.proofs.Lists.{at, and-both, none-in, at-lt, lt-at, at-append, at-last}
-use Rattle.unwind.proofs.Order.{mem-sorted, sorted-mem, same-eq}
+use Rattle.unwind.proofs.Order.{sorted-mem, same-eq}
 use Rattle.unwind.proofs.Trie.{_⊑_, ⊑-refl, ⊑-trans, Spelled, Says, Child, child-up, Leads, node-says}
-use Rattle.unwind.proofs.Paths.{path, steps-of, exact-key, exact-end, over-path, enters-path, mem-ends, ends-mem, mem-rest, rest-mem, mem-groups, groups-mem}
+use Rattle.unwind.proofs.Paths.{path, exact-key, exact-end, ends-mem, rest-mem, groups-mem}
 
 -- ---- what holds of every node
 

@@ -6,14 +6,14 @@
 --     mem-flat, flat-mem           y ∈ flat f n: y ∈ f i for some i < n
 --     mem-upto, upto-mem           i ∈ upto n: i < n
 --     mem-among, among-mem         the test for numbers
---     at, at-append, at-last, at-lt, at-getD, at-mem, mem-at, at-map, lt-at     the element at a place
+--     at, at-append, at-behind, at-last, at-lt, lt-at, at-getD, at-mem, mem-at, at-map     the element at a place
 --     at-rank                      x stands at its rank
---     at-flat, flat-le             the places of the pieces of a flat list
+--     flat-suc, flat-le, at-flat   the places of the pieces of a flat list
 use mathlib.Core.Path.{_≡_, refl, sym, _∙_, ap, subst}
 use mathlib.Core.Logic.{_⊎_, inl, inr}
-use mathlib.Core.Bool.{Bool, true, false, cond, not, _&&_, _||_, true≢false, false≢true}
-use mathlib.Core.List.{List, [], _∷_, _++_, map, List·Memᴰ, List·Memᴰ·head, List·Memᴰ·tail, List·Memᴰ·not-nil, List·Memᴰ·cases-cons, List·Memᴰ·append-cases, List·Memᴰ·eq-of-singleton, Memᴰ·append-left, Memᴰ·append-right, Memᴰ·cast}
-use mathlib.Core.Option.{Option, none, some, Option·map, Option·none-ne-some}
+use mathlib.Core.Bool.{Bool, true, false, cond, not, _&&_, _||_, false≢true}
+use mathlib.Core.List.{List, [], _∷_, _++_, map, List·Memᴰ·head, List·Memᴰ·tail, List·Memᴰ·not-nil, List·Memᴰ·append-cases, List·Memᴰ·eq-of-singleton, Memᴰ·append-left, Memᴰ·append-right}
+use mathlib.Core.Option.{Option, none, some, Option·none-ne-some}
 use Prim.Native.Nat.{ℕ, zero, suc, _+_, _≤_, _<_}
 use native.Mathlib.Nat.{not-suc-le-zero, le-of-suc-le-suc}
 use native.Mathlib.Decide.{decLt, ℕ-discrete}

@@ -3,16 +3,16 @@
 --     exact-number, exact-tags, exact-ends, exact-tagged, exact-hop-ends, exact-leaps
 --     mem-sorted, sorted-mem       the members of a sorted list are those of the list
 --     same-eq                      lists that are found equal are equal
-use mathlib.Core.Path.{_≡_, refl, sym, _∙_, ap, subst}
+use mathlib.Core.Path.{_≡_, refl, _∙_, ap}
 use mathlib.Core.Logic.{_⊎_, inl, inr}
-use mathlib.Core.Bool.{Bool, true, false, cond, _&&_, false≢true}
-use mathlib.Core.List.{List, [], _∷_, _++_, List·Memᴰ, List·Memᴰ·head, List·Memᴰ·tail, Memᴰ·cast}
+use mathlib.Core.Bool.{true, false≢true}
+use mathlib.Core.List.{List, [], _∷_, List·Memᴰ·head, List·Memᴰ·tail}
 use Prim.Native.Nat.{ℕ, compare, Ordering, Ordering·lt, Ordering·eq, Ordering·gt}
 use borrow.Author.Tests.{eq-eqb, eqb-true}
-use lib.Dec.{isEq, eqb}
+use lib.Dec.{isEq}
 use Rattle.image.specs.Deal.{UnwindEnd, handler, propagate, resume}
-use Rattle.unwind.specs.Order.{placed, put, sorted, _and-then_, compareTags, compareEnds, Tagged, compareTagged, same}
-use Rattle.unwind.specs.Ways.{HopEnd, block, leave, compareHopEnds, Leap, compareLeaps}
+use Rattle.unwind.specs.Order.{placed, put, sorted, _and-then_, compareTags, compareEnds, compareTagged, same}
+use Rattle.unwind.specs.Ways.{HopEnd, block, leave, compareHopEnds, compareLeaps}
 use Rattle.unwind.specs.Walk.{_∈_}
 use Rattle.unwind.proofs.Lists.{and-both, none-in}
 

@@ -7,10 +7,10 @@
 --     returns-forth, returns-back  where a walk that entered the instance goes on
 use mathlib.Core.Path.{_≡_, refl, sym, _∙_, ap, subst}
 use mathlib.Core.Logic.{_⊎_, inl, inr}
-use mathlib.Core.Bool.{Bool, true, false}
+use mathlib.Core.Bool.{true, false}
 use mathlib.Core.List.{List, _++_}
-use mathlib.Core.Option.{Option, none, some}
-use Prim.Native.Nat.{ℕ, _≤_, _<_}
+use mathlib.Core.Option.{some}
+use Prim.Native.Nat.{ℕ, _<_}
 use native.Mathlib.Decide.{ℕ-discrete}
 use native.Mathlib.Omega.{arith}
 use lib.ListN.{length}
@@ -20,13 +20,13 @@ use Rattle.graph.specs.declared.record.Edge.{Edge}
 use Rattle.graph.specs.Graph.{Graph}
 use Rattle.graph.specs.Flow.{Kind}
 use Rattle.unwind.specs.Blocks.{firstOf, lastOf, blockOf}
-use Rattle.unwind.specs.Part.{funclets, part}
+use Rattle.unwind.specs.Part.{funclets}
 use Rattle.unwind.specs.Trie.{Node, nodeAt}
 use Rattle.unwind.specs.Instance.{entryBlock, blocksOf, later, place, moved, entryOf, returnsOf, cloneBlocks, cloneEdges}
 use Rattle.unwind.specs.Walk.{_∈_, Built, Begins, Other, Reach, start, step, Returning, by-return, by-jump}
 use Rattle.unwind.proofs.Sound.{Sound}
 use Rattle.unwind.proofs.Closure.{part-reach, reach-part}
-use Rattle.unwind.proofs.Instance.{first-or-later, blocks-lt, blocks-part, place-first, later-above, moved-in, moved-either, mem-returns, returns-mem}
+use Rattle.unwind.proofs.Instance.{first-or-later, blocks-part, place-first, later-above, moved-in, moved-either, mem-returns, returns-mem}
 use Rattle.unwind.proofs.After.{built-up, built-down, old-block, same-first, same-last, after, image-block, out-forth, out-back}
 
 module _ (g : Graph) (rs : List UnwindRoute) (z : List Node) (new : List Edge) (unwinds : (d : Edge) → d ∈ new → d .kind ≡ Kind.exceptionUnwind) (sound : Sound g) where

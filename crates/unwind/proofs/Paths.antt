@@ -4,13 +4,12 @@
 --     mem-rest, rest-mem           q ∈ rest k ps: the path of k's calls, k's funclet and q is one of ps
 --     mem-groups, groups-mem       k ∈ groups ps: something is left in its group
 use mathlib.Core.Path.{_≡_, refl, sym, _∙_, ap}
-use mathlib.Core.Bool.{Bool, true, false, cond, false≢true}
-use mathlib.Core.List.{List, [], _∷_, _++_, map, List·Memᴰ, List·Memᴰ·head, List·Memᴰ·tail, Memᴰ·cast}
+use mathlib.Core.Bool.{Bool, true, false, cond}
+use mathlib.Core.List.{List, [], _∷_, _++_, map, List·Memᴰ·head, List·Memᴰ·tail, Memᴰ·cast}
 use Prim.Native.Nat.{ℕ, compare}
 use lib.Dec.{isEq}
 use Rattle.image.specs.Deal.{UnwindStep, funclet, call, UnwindEnd, UnwindPath}
-use Rattle.unwind.specs.Lists.{joined}
-use Rattle.unwind.specs.Order.{Tagged, tagged, compareTagged, compareEnds, sorted}
+use Rattle.unwind.specs.Order.{Tagged, tagged, compareTagged, compareEnds}
 use Rattle.unwind.specs.Trie.{Cut, over, enters, behind, cut, endOn, endsOf, groupOn, groups, restOn, rest}
 use Rattle.unwind.specs.Walk.{_∈_}
 use Rattle.unwind.proofs.Lists.{none-in, mem-joined, joined-mem}

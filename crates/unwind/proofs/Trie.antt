@@ -5,21 +5,16 @@
 --     node-says                    a node with such edges, and the ends of the paths, spells the paths
 use mathlib.Core.Path.{_≡_, refl, sym, _∙_, ap, subst}
 use mathlib.Core.Logic.{_↔_}
-use mathlib.Core.List.{List, [], _∷_, _++_, map, List·Memᴰ, List·Memᴰ·head, List·Memᴰ·tail, Memᴰ·cast, Memᴰ·append-left, Memᴰ·append-right}
-use mathlib.Core.Option.{Option, none, some, Option·map, Option·none-ne-some}
-use Prim.Native.Nat.{ℕ, zero, suc, max, compare, _+_, _≤_, _<_}
-use native.Mathlib.Decide.{decLt}
-use native.Mathlib.Omega.{arith}
-use borrow.Author.Tests.{eqb-true}
-use lib.Dec.{eqb, isEq}
-use lib.ListN.{length, length-append}
-use Rattle.image.specs.Deal.{UnwindStep, funclet, call, UnwindEnd, handler, UnwindPath, UnwindRoute}
-use Rattle.unwind.specs.Order.{Tagged, tagged, compareTagged, compareEnds, sorted, same}
-use Rattle.unwind.specs.Trie.{Node, Cut, over, enters, cut, endsOf, groups, rest, sameFunclet, sameNode, placeOf, Interned, created, create, Children, internEach, nodeOf, intern, longest, Tries, internRoutes, tries}
-use Rattle.unwind.specs.Walk.{_∈_, Funclet, Handler}
-use Rattle.unwind.proofs.Lists.{at, and-both, none-in, at-lt, lt-at, at-append, at-last}
-use Rattle.unwind.proofs.Order.{mem-sorted, sorted-mem, same-eq}
-use Rattle.unwind.proofs.Paths.{path, steps-of, exact-key, exact-end, over-path, enters-path, mem-ends, ends-mem, mem-rest, rest-mem, mem-groups, groups-mem}
+use mathlib.Core.List.{List, map, Memᴰ·cast}
+use mathlib.Core.Option.{some}
+use Prim.Native.Nat.{ℕ, compare}
+use Rattle.image.specs.Deal.{UnwindStep, funclet, call, UnwindEnd, UnwindPath}
+use Rattle.unwind.specs.Order.{Tagged, tagged, compareTagged, sorted}
+use Rattle.unwind.specs.Trie.{Node, Cut, over, enters, cut, endsOf, groups, rest}
+use Rattle.unwind.specs.Walk.{_∈_}
+use Rattle.unwind.proofs.Lists.{at}
+use Rattle.unwind.proofs.Order.{mem-sorted, sorted-mem}
+use Rattle.unwind.proofs.Paths.{path, steps-of, exact-key, over-path, enters-path, mem-ends, ends-mem, mem-rest, rest-mem, mem-groups}
 
 infix 40 _⊑_
 pub record _⊑_ (t z : List Node) : Type 0 where

@@ -4,12 +4,12 @@
 --     Laws                         what an engine of unwinding must give
 --     spell-walk                   what a node spells, some walk from a block that fires it spells
 --     walk-spell                   what a walk spells, the node that its block fires spells
---     walks                        demand 3
+--     exactly, ends                demand 3
 use mathlib.Core.Path.{_≡_, refl, sym, _∙_, ap, subst}
-use mathlib.Core.Logic.{_↔_, _⊎_, inl, inr}
-use mathlib.Core.List.{List, [], _∷_, _++_, map}
-use mathlib.Core.Option.{Option, none, some}
-use Prim.Native.Nat.{ℕ, _<_}
+use mathlib.Core.Logic.{_↔_}
+use mathlib.Core.List.{List, map}
+use mathlib.Core.Option.{some}
+use Prim.Native.Nat.{ℕ}
 use native.Mathlib.Omega.{arith}
 use Rattle.image.specs.Deal.{UnwindStep, funclet, call, UnwindEnd, handler, propagate, resume, UnwindPath, UnwindRoute}
 use Rattle.graph.specs.Graph.{Graph}

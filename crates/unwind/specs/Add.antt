@@ -1,6 +1,6 @@
 -- `add_unwind_routes`: the graph and the hops afterwards, or the refusal.
 use mathlib.Core.Bool.{cond, not, _&&_}
-use mathlib.Core.List.{List, [], _∷_, _++_}
+use mathlib.Core.List.{List, [], _++_}
 use mathlib.Core.Option.{Option, none, some}
 use Prim.Native.Nat.{ℕ}
 use lib.Dec.{leb}
@@ -17,7 +17,7 @@ use Rattle.graph.specs.Table.{entryAt, rangeCheck}
 use Rattle.graph.specs.Route.{routeAt, resumesLate}
 use Rattle.graph.specs.WellFormed.{wellFormed}
 use Rattle.unwind.specs.Lists.{joined}
-use Rattle.unwind.specs.Order.{Tagged, tagged}
+use Rattle.unwind.specs.Order.{tagged}
 use Rattle.unwind.specs.Blocks.{Leading, leads, inside, absent, leading, within}
 use Rattle.unwind.specs.Part.{funclets}
 use Rattle.unwind.specs.Trie.{Node, nodeAt, tries}
@@ -67,16 +67,7 @@ pub record Addition : Type 0 where
 -- the graph with more blocks and edges
 unfoldable pub extended : Graph → List Block → List Edge → Graph
 extended g bs es =
-    record {
-      entry = g .entry;
-      table = g .table;
-      blocks = g .blocks ++ bs;
-      edges = g .edges ++ es;
-      regions = g .regions;
-      handlers = g .handlers;
-      unresolved = g .unresolved;
-      calls = g .calls;
-    }
+    record { entry = g .entry; table = g .table; blocks = g .blocks ++ bs; edges = g .edges ++ es; regions = g .regions; handlers = g .handlers; unresolved = g .unresolved; calls = g .calls }
 
 unfoldable pub addition : Graph → List UnwindRoute → Addition
 addition g rs =

@@ -1,6 +1,6 @@
 -- 'The first node of a funclet uses the original blocks, each later one a clone.'
-use mathlib.Core.Bool.{Bool, true, false, cond}
-use mathlib.Core.List.{List, [], _∷_, map}
+use mathlib.Core.Bool.{Bool, cond}
+use mathlib.Core.List.{List, [], map}
 use mathlib.Core.Option.{Option, none, some}
 use Prim.Native.Nat.{ℕ, _+_}
 use lib.ListN.{length}
@@ -59,16 +59,7 @@ module _ (g : Graph) (fs : List ℕ) (z : List Node) where
 
   unfoldable pub cloneEdge : ℕ → Edge → Edge
   cloneEdge i e =
-      record {
-        source = place i (e .source);
-        target = moved i (e .target);
-        kind = e .kind;
-        role = e .role;
-        number = e .number;
-        key = e .key;
-        «source_address» = e .«source_address»;
-        «target_address» = e .«target_address»;
-      }
+      record { source = place i (e .source); target = moved i (e .target); kind = e .kind; role = e .role; number = e .number; key = e .key; «source_address» = e .«source_address»; «target_address» = e .«target_address» }
 
   unfoldable pub cloneEdges : List Edge
   cloneEdges = flat (λ i. joined (λ b. map (cloneEdge i) (outgoing g b)) (copied i)) (length z)

@@ -1,20 +1,20 @@
 -- `Emitter`: the ways out of protected blocks and returning blocks, the edges that they add, and the hops.
-use mathlib.Core.Bool.{Bool, true, false, cond, _&&_, _||_}
+use mathlib.Core.Bool.{Bool, false, cond, _||_}
 use mathlib.Core.List.{List, [], _∷_, _++_, map}
 use Prim.Native.Nat.{ℕ, suc, compare, Ordering, Ordering·lt, Ordering·eq, Ordering·gt}
-use lib.Dec.{eqb, isEq}
-use lib.ListN.{length, getD}
+use lib.Dec.{isEq}
+use lib.ListN.{length}
 use Rattle.image.specs.Deal.{UnwindEnd, handler, propagate, resume, UnwindRoute}
 use Rattle.graph.specs.declared.record.Edge.{Edge}
 use Rattle.graph.specs.Graph.{Graph}
 use Rattle.graph.specs.Fold.{flat}
 use Rattle.graph.specs.Flow.{Kind, Role}
 use Rattle.unwind.specs.Lists.{joined}
-use Rattle.unwind.specs.Order.{Tagged, tagged, compareTags, sorted, _and-then_}
+use Rattle.unwind.specs.Order.{compareTags, sorted, _and-then_}
 use Rattle.unwind.specs.Blocks.{firstOf, lastOf, blockOf, guarded}
 use Rattle.unwind.specs.Part.{funclets}
-use Rattle.unwind.specs.Trie.{Node, nodeAt, Tries, tries}
-use Rattle.unwind.specs.Instance.{entryOf, returnsOf, cloneBlocks, cloneEdges}
+use Rattle.unwind.specs.Trie.{Node, nodeAt, tries}
+use Rattle.unwind.specs.Instance.{entryOf, returnsOf}
 
 -- where a hop goes: to a block, or out of the function
 pub data HopEnd : Type 0 where
@@ -100,16 +100,7 @@ wanted s t (k ∷ l) = isEq (compareLeaps (record { source = s; end = block t })
 -- the graph is the one with the copies in it: an edge carries the last address of its source and the first of its target
 unfoldable pub routeEdge : Graph → ℕ → ℕ → ℕ → Edge
 routeEdge g r s t =
-    record {
-      source = s;
-      target = t;
-      kind = Kind.exceptionUnwind;
-      role = Role.route;
-      number = r;
-      key = 0;
-      «source_address» = lastOf g s .address;
-      «target_address» = firstOf g t .address;
-    }
+    record { source = s; target = t; kind = Kind.exceptionUnwind; role = Role.route; number = r; key = 0; «source_address» = lastOf g s .address; «target_address» = firstOf g t .address }
 
 unfoldable pub edgeTo : Graph → List Leap → Way → HopEnd → List Edge
 edgeTo g seen w (block t) = cond (wanted (w .source) t seen) [] (routeEdge g (w .route) (w .source) t ∷ [])

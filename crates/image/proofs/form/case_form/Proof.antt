@@ -1,3 +1,4 @@
+-- Each check goes on from the one before. Assumes nothing.
 use borrow.Author.Needs.{needs}
 use Rattle.image.proofs.form.case_form.Statement.{statement}
 use Rattle.image.proofs.form.case_form.Tie as tie
@@ -12,7 +13,7 @@ check-used8-requires : tie.Need-check-used8-requires
 check-used8-requires c κs = search needs
 
 returns : tie.Need-returns
-returns c = cc
+returns c = rw (c .check-used8 .ensures, c .before .check-used4 .ensures)
 
 pub case-form-spec : {M : Type 1} → statement M
 case-form-spec =

@@ -10,7 +10,7 @@ check-field-requires : tie.Need-check-field-requires
 check-field-requires c κs = search needs
 
 returns : tie.Need-returns
-returns c = cc
+returns c = rw (c .check-field .ensures, c .before .byte-at .ensures .0)
 
 pub check-byte-spec : {M : Type 1} → statement M
 check-byte-spec = tie.close (tie.spec byte-at-requires check-field-requires returns)

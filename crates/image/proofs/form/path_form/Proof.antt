@@ -1,3 +1,4 @@
+-- Each check goes on from the one before. Assumes nothing.
 use borrow.Author.Needs.{needs}
 use Rattle.image.proofs.form.path_form.Statement.{statement}
 use Rattle.image.proofs.form.path_form.Tie as tie
@@ -21,7 +22,7 @@ check-used4-requires : tie.Need-check-used4-requires
 check-used4-requires c κs = search needs
 
 returns : tie.Need-returns
-returns c = cc
+returns c = rw (c .check-used4 .ensures, c .before .check-used8 .ensures, c .before .before .check-byte .ensures, c .before .before .before .byte-at .ensures .0)
 
 pub path-form-spec : {M : Type 1} → statement M
 path-form-spec =

@@ -1,3 +1,4 @@
+-- Each check goes on from the one before. Assumes nothing.
 use borrow.Author.Needs.{needs}
 use Rattle.image.proofs.form.route_form.Statement.{statement}
 use Rattle.image.proofs.form.route_form.Tie as tie
@@ -18,7 +19,7 @@ check-used4-requires : tie.Need-check-used4-requires
 check-used4-requires c κs = search needs
 
 returns : tie.Need-returns
-returns c = cc
+returns c = rw (c .check-used4 .ensures, c .before .check-used82 .ensures, c .before .before .check-used8 .ensures)
 
 pub route-form-spec : {M : Type 1} → statement M
 route-form-spec =

@@ -1,3 +1,4 @@
+-- Each check goes on from the one before. Assumes nothing.
 use borrow.Author.Needs.{needs}
 use Rattle.image.proofs.form.source_form.Statement.{statement}
 use Rattle.image.proofs.form.source_form.Tie as tie
@@ -12,7 +13,7 @@ check-used4-requires : tie.Need-check-used4-requires
 check-used4-requires c κs = search needs
 
 returns : tie.Need-returns
-returns c = cc
+returns c = rw (c .check-used4 .ensures, c .before .check-rising .ensures)
 
 pub source-form-spec : {M : Type 1} → statement M
 source-form-spec =
