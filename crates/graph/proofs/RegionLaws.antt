@@ -8,6 +8,9 @@
 --     draft-below                     a draft is a handler
 --     range-known, range-never        the blocks of a range that was checked, and no refusal of one that passed
 --     entry-clear                     a handler that passed has an entry
+--     regions-none, handlers-none     a graph with no region, or no handler, before the first store
+--     regions-more, handlers-more     a graph with so many of them, and one more
+--     regions-whole, regions-keep, both             a graph with its regions, and with its handlers behind them
 -- Assumes nothing.
 use mathlib.Core.Path.{_≡_, refl, sym, ap, ap₂, _∙_}
 use mathlib.Core.Bool.{Bool, true, false, cond, not, _&&_}
@@ -21,7 +24,7 @@ use lib.Dec.{eqb, leb}
 use lib.ListN.{length, getD, drop, replicate, drop-of-length-le}
 use lib.Seq.{drop-cons}
 use Rattle.image.specs.Refusal.{clear, refusal, unless}
-use Rattle.image.specs.Image.{Image}
+use Rattle.image.specs.Image.{Image, table}
 use Rattle.image.specs.declared.record.Handler.{Handler}
 use Rattle.image.proofs.Checks.{then-left, then-right, unless-clear}
 use Rattle.graph.specs.Fold.{count}
@@ -38,8 +41,15 @@ use Rattle.graph.specs.Ranges.{Ranges}
 use Rattle.graph.specs.Leaders.{handlerAt}
 use Rattle.graph.specs.Build.{handlerCheck}
 use Rattle.graph.specs.BlockSet.{including}
+use Rattle.graph.specs.Graph.{Graph, Held, held}
+use Rattle.graph.specs.Words.{heldIn}
+use Rattle.graph.specs.Stored.{withRegion, withHandler, Stored}
+use Rattle.graph.specs.declared.record.Region.{Region}
+use Rattle.graph.specs.declared.record.HandlerRecord.{HandlerRecord}
+use Rattle.graph.specs.Drafts.{Whole, withRegions, withHandlers}
 use Rattle.graph.specs.Regions.{sameRange, contains, span, place, isDraft, draftsBelow, drafts, draft, smaller, parentBelow, setBelow, regionIn}
-use Rattle.graph.proofs.FoldLaws.{count-same}
+use Rattle.graph.proofs.FoldLaws.{length-table, count-same}
+use Rattle.graph.proofs.StoredLaws.{stored-then, region-more, handler-more}
 use Rattle.graph.proofs.TableLaws.{length-entries}
 
 eqb-sym : (a b : ℕ) → eqb a b ≡ eqb b a
@@ -148,3 +158,33 @@ module _ (m : Image) where
     pub entry-clear : isStart (tableOf m) (handlerAt m h .entry) ≡ true
     unfolding handlerCheck
     entry-clear = unless-clear _ (refusal 13 (handlerAt m h .entry) 0) (then-right (rangeCheck (tableOf m) (handlerAt m h .start) (handlerAt m h .end)) (unless (isStart (tableOf m) (handlerAt m h .entry)) (refusal 13 (handlerAt m h .entry) 0)) passed)
+
+module _ (l : List ℕ) (whole : Whole l) where
+  pub regions-none : heldIn l .graph .regions ≡ [] → Stored l l (held (withRegions (heldIn l .graph) []))
+  regions-none none = record { holds = whole ∙ ap (λ (rs : List Region). held (withRegions (heldIn l .graph) rs)) none; uses = λ k u. u; kept = λ k u. refl }
+
+  pub handlers-none : heldIn l .graph .handlers ≡ [] → Stored l l (held (withHandlers (heldIn l .graph) []))
+  handlers-none none = record { holds = whole ∙ ap (λ (hs : List HandlerRecord). held (withHandlers (heldIn l .graph) hs)) none; uses = λ k u. u; kept = λ k u. refl }
+
+module _ {l k : List ℕ} (rs : List Region) (stored : Stored l k (held (withRegions (heldIn l .graph) rs))) where
+  graph-is : heldIn k .graph ≡ withRegions (heldIn l .graph) rs
+  unfolding held
+  graph-is = ap (λ (h : Held). h .graph) (stored .holds)
+
+  pub regions-whole : Whole k
+  regions-whole = stored .holds ∙ ap held (sym graph-is)
+
+  pub regions-keep : heldIn l .graph .handlers ≡ [] → heldIn k .graph .handlers ≡ []
+  regions-keep none = ap (λ (x : Graph). x .handlers) graph-is ∙ none
+
+  pub both : {n : List ℕ} (hs : List HandlerRecord) → Stored k n (held (withHandlers (heldIn k .graph) hs)) → Stored l n (held (withHandlers (withRegions (heldIn l .graph) rs) hs))
+  both hs then = rw graph-is at (stored-then stored then)
+
+module _ (g : Graph) where
+  pub regions-more : (f : ℕ → Region) (r : ℕ) (x : Region) → r < 32 → x ≡ f r → withRegion (held (withRegions g (table f r))) x ≡ held (withRegions g (table f (r + 1)))
+  unfolding table
+  regions-more f r x h e = region-more (withRegions g (table f r)) x (rw (length-table f r) h) ∙ rw (e, add-one r)
+
+  pub handlers-more : (f : ℕ → HandlerRecord) (i : ℕ) (x : HandlerRecord) → i < 32 → x ≡ f i → withHandler (held (withHandlers g (table f i))) x ≡ held (withHandlers g (table f (i + 1)))
+  unfolding table
+  handlers-more f i x h e = handler-more (withHandlers g (table f i)) x (rw (length-table f i) h) ∙ rw (e, add-one i)

@@ -7,9 +7,12 @@ use Rattle.image.specs.Refusal.{clear}
 use Rattle.image.specs.Image.{Image}
 use Rattle.graph.specs.declared.drafts.Drafts.{Drafts}
 use Rattle.graph.specs.declared.regions.Parent.{Parent}
-use Rattle.graph.specs.declared.regions.Parent.the-variants.{Region, Nothing}
+use Rattle.graph.specs.declared.regions.Parent.the-variants.{At, Nothing}
+use Rattle.graph.specs.declared.record.Region.{Region}
+use Rattle.graph.specs.declared.record.HandlerRecord.{HandlerRecord}
+use Rattle.graph.specs.Graph.{Graph, held}
+use Rattle.graph.specs.Words.{heldIn}
 use Rattle.graph.specs.Fold.{checks}
-use Rattle.graph.specs.Table.{codeEnd}
 use Rattle.graph.specs.Transfer.{tableOf}
 use Rattle.graph.specs.Emit.{Numbered}
 use Rattle.graph.specs.Build.{tableCheck, handlerCheck}
@@ -37,13 +40,25 @@ pub record Placed (m : Image) (d : Drafts) (h j : ℕ) : Type 0 where
 
 -- a list of one region, or of none
 abbrev pub parentIn : Parent → List ℕ
-parentIn (Region k) = k ∷ []
+parentIn (At k) = k ∷ []
 parentIn Nothing = []
 
--- the checks of the table and of the handlers have passed, and the code's end and the blocks are known
-pub record Handled (m : Image) (end : ℕ) (blocks : List ℕ) : Type 0 where
+-- the checks of the table and of the handlers have passed, and the numbers of the blocks are known
+pub record Handled (m : Image) (blocks : List ℕ) : Type 0 where
   pub few : length (m .handlers) ≤ 32
   pub table : tableCheck (tableOf m) ≡ clear
   pub passed : checks (handlerCheck m) (length (m .handlers)) ≡ clear
-  pub ends : end ≡ codeEnd (tableOf m)
   pub numbered : Numbered m blocks
+
+-- words that hold a graph of which nothing is cut
+abbrev pub Whole : List ℕ → Type 0
+Whole l = heldIn l ≡ held (heldIn l .graph)
+
+-- a graph with these regions, or these handlers, for its own
+abbrev pub withRegions : Graph → List Region → Graph
+withRegions g rs =
+    record { entry = g .entry; table = g .table; blocks = g .blocks; edges = g .edges; regions = rs; handlers = g .handlers; unresolved = g .unresolved; calls = g .calls }
+
+abbrev pub withHandlers : Graph → List HandlerRecord → Graph
+withHandlers g hs =
+    record { entry = g .entry; table = g .table; blocks = g .blocks; edges = g .edges; regions = g .regions; handlers = hs; unresolved = g .unresolved; calls = g .calls }

@@ -2,6 +2,7 @@
 use crate::blockset::put_in;
 use crate::drafts::Drafts;
 use crate::drafts::draft_at;
+use crate::drafts::drafts_of;
 use crate::drafts::handler;
 use crate::drafts::same_range;
 use crate::drafts::span;
@@ -12,6 +13,9 @@ use crate::ranges::Ranged;
 use crate::ranges::range_check;
 use crate::record::HandlerRecord;
 use crate::record::Region;
+use crate::store::Words;
+use crate::store::handlers::add_handler;
+use crate::store::regions::add_region;
 use image::record::Handler;
 use image::section::Layout;
 ghost use mathlib.Core.Bool.{cond, not, true, _&&_};
@@ -22,30 +26,60 @@ ghost use lib.Dec.{eqb, leb};
 ghost use lib.ListN.{length, getD};
 ghost use Rattle.image.specs.Refusal.{clear};
 ghost use Rattle.image.specs.Image.{imageIn};
+ghost use Rattle.graph.specs.Graph.{held};
+ghost use Rattle.graph.specs.Words.{heldIn};
+ghost use Rattle.graph.specs.Stored.{Stored};
 ghost use Rattle.graph.specs.Fold.{count};
-ghost use Rattle.graph.specs.Table.{isStart};
+ghost use Rattle.graph.specs.Table.{isStart, codeEnd};
 ghost use Rattle.graph.specs.Transfer.{tableOf};
 ghost use Rattle.graph.specs.Blocks.{blockOf, blockAt};
 ghost use Rattle.graph.specs.Build.{handlerCheck};
 ghost use Rattle.graph.specs.Edges.{rangeFirst, rangeSize};
 ghost use Rattle.graph.specs.Emit.{Numbered};
-ghost use Rattle.graph.specs.Regions.{sameRange, drafts, smaller, parentBelow, setBelow, regionAt, regionIn, handlerRecord};
-ghost use Rattle.graph.specs.Drafts.{Drafted, parentIn, Handled};
+ghost use Rattle.graph.specs.Regions.{sameRange, drafts, smaller, parentBelow, setBelow, regionAt, regionsOf, regionIn, handlerRecord, handlersOf};
+ghost use Rattle.graph.specs.Drafts.{Drafted, parentIn, Handled, Whole, withRegions, withHandlers};
 
 pub enum Parent {
-    Region(usize),
+    At(usize),
     Nothing,
 }
 
-fn region_of(
-    s: &[u8],
-    y: Layout,
-    code_end: u64,
-    blocks: &[u16; 512],
-    d: Drafts,
-    r: usize,
-) -> Region
-    requires { ⌜ Handled (imageIn (now s) y) «code_end» (now blocks) ⌝ }
+// The regions and the handlers of the image, in a graph that has none.
+pub fn add_regions(g: &mut Words, s: &[u8], y: Layout, code_end: u64, blocks: &[u16; 512])
+    requires { ⌜ Handled (imageIn (now s) y) (now blocks) × («code_end» ≡ codeEnd (tableOf (imageIn (now s) y))) ⌝ }
+    requires { ⌜ Whole (now g) × (heldIn (now g) .graph .regions ≡ []) × (heldIn (now g) .graph .handlers ≡ []) ⌝ }
+    ensures { λ _. ⌜ Stored (now (g .entry)) (now (g .exit)) (held (withHandlers (withRegions (heldIn (now (g .entry)) .graph) (regionsOf (imageIn (now (s .entry)) y))) (handlersOf (imageIn (now (s .entry)) y)))) ⌝ }
+{
+    let d = drafts_of(s, y);
+    store_regions(g, s, y, code_end, blocks, d);
+    store_handlers(g, s, y, blocks, d);
+}
+
+fn store_regions(g: &mut Words, s: &[u8], y: Layout, code_end: u64, blocks: &[u16; 512], d: Drafts)
+    requires { ⌜ Handled (imageIn (now s) y) (now blocks) × («code_end» ≡ codeEnd (tableOf (imageIn (now s) y))) ⌝ }
+    requires { ⌜ Drafted d (drafts (imageIn (now s) y)) ⌝ }
+    requires { ⌜ Whole (now g) × (heldIn (now g) .graph .regions ≡ []) ⌝ }
+    ensures { λ _. ⌜ Stored (now (g .entry)) (now (g .exit)) (held (withRegions (heldIn (now (g .entry)) .graph) (regionsOf (imageIn (now (s .entry)) y)))) ⌝ }
+{
+    let count = d.count;
+    for r in 0..count {
+        add_region(g, region_of(s, y, code_end, blocks, d, r));
+    }
+}
+
+fn store_handlers(g: &mut Words, s: &[u8], y: Layout, blocks: &[u16; 512], d: Drafts)
+    requires { ⌜ Handled (imageIn (now s) y) (now blocks) × Drafted d (drafts (imageIn (now s) y)) ⌝ }
+    requires { ⌜ Whole (now g) × (heldIn (now g) .graph .handlers ≡ []) ⌝ }
+    ensures { λ _. ⌜ Stored (now (g .entry)) (now (g .exit)) (held (withHandlers (heldIn (now (g .entry)) .graph) (handlersOf (imageIn (now (s .entry)) y)))) ⌝ }
+{
+    let n = y.code.handlers.count as usize;
+    for h in 0..n {
+        add_handler(g, handler_record(s, y, blocks, d, h));
+    }
+}
+
+fn region_of(s: &[u8], y: Layout, code_end: u64, blocks: &[u16; 512], d: Drafts, r: usize) -> Region
+    requires { ⌜ Handled (imageIn (now s) y) (now blocks) × («code_end» ≡ codeEnd (tableOf (imageIn (now s) y))) ⌝ }
     requires { ⌜ Drafted d (drafts (imageIn (now s) y)) × (r < d .count) ⌝ }
     ensures { λ n. ⌜ n ≡ regionAt (imageIn (now (s .entry)) y) r ⌝ }
 {
@@ -67,7 +101,7 @@ fn has_parent(p: Parent) -> u64
     ensures { λ r. ⌜ r ≡ length (parentIn p) ⌝ }
 {
     match p {
-        Parent::Region(_) => 1,
+        Parent::At(_) => 1,
         Parent::Nothing => 0,
     }
 }
@@ -76,7 +110,7 @@ fn parent_number(p: Parent) -> u64
     ensures { λ r. ⌜ r ≡ getD (parentIn p) 0 0 ⌝ }
 {
     match p {
-        Parent::Region(k) => k as u64,
+        Parent::At(k) => k as u64,
         Parent::Nothing => 0,
     }
 }
@@ -102,11 +136,11 @@ fn nearer(p: Parent, s: &[u8], y: Layout, d: Drafts, k: usize) -> Parent
     requires { ⌜ Drafted d (drafts (imageIn (now s) y)) ⌝ }
     ensures { λ r. ⌜ parentIn r ≡ cond (smaller (imageIn (now (s .entry)) y) (parentIn p) k) (k ∷ []) (parentIn p) ⌝ }
 {
-    let Parent::Region(j) = p else {
-        return Parent::Region(k);
+    let Parent::At(j) = p else {
+        return Parent::At(k);
     };
     if span(s, y, draft_at(d, k)) < span(s, y, draft_at(d, j)) {
-        return Parent::Region(k);
+        return Parent::At(k);
     }
     p
 }
@@ -137,7 +171,8 @@ fn same_ranges(s: &[u8], y: Layout, h: usize, n: usize) -> u64
 
 // The blocks that handler h protects.
 fn protected_by(s: &[u8], y: Layout, code_end: u64, blocks: &[u16; 512], h: usize) -> [u64; 16]
-    requires { ⌜ Handled (imageIn (now s) y) «code_end» (now blocks) × (handlerCheck (imageIn (now s) y) h ≡ clear) ⌝ }
+    requires { ⌜ Handled (imageIn (now s) y) (now blocks) × («code_end» ≡ codeEnd (tableOf (imageIn (now s) y))) ⌝ }
+    requires { ⌜ handlerCheck (imageIn (now s) y) h ≡ clear ⌝ }
     ensures { λ r. ⌜ r ≡ setBelow (λ i. blockOf (imageIn (now (s .entry)) y) (rangeFirst (imageIn (now (s .entry)) y) h + i)) (rangeSize (imageIn (now (s .entry)) y) h) ⌝ }
 {
     let own = handler(s, y, h);

@@ -9,10 +9,6 @@ use native.Mathlib.Omega.{arith}
 use borrow.Author.Needs.{needs}
 use Rattle.graph.proofs.regions.blocks_between.Statement.{statement}
 use Rattle.graph.proofs.regions.blocks_between.Tie as tie
-use Rattle.graph.proofs.regions.blocks_between.Reads as reads
-use Rattle.graph.proofs.regions.blocks_between.Lts as lts
-use Rattle.graph.proofs.blockset.put_in.Reads as put-in-reads
-use Rattle.graph.proofs.edges.block_of.Reads as block-of-reads
 
 abbrev Inv-loop : tie.InvT-loop
 Inv-loop blocks first past set₀ p₀ set p = (first ≤ p) × (p ≤ past) × (set ≡ setBelow (λ i. getD blocks (first + i) 0) (p - first))
@@ -20,34 +16,15 @@ Inv-loop blocks first past set₀ p₀ set p = (first ≤ p) × (p ≤ past) × 
 abbrev μ-loop : tie.MeasureT-loop
 μ-loop blocks first past set₀ p₀ set p = past - p
 
--- src/regions.rt:159:5
 loop-holds : tie.Need-loop-holds Inv-loop μ-loop
 loop-holds c = (search needs, search needs, set-none (λ q. getD (c .args .blocks .now) q 0) (c .args .first))
 
--- src/regions.rt:160:26
-block-of-requires : tie.Need-block-of-requires Inv-loop μ-loop
-block-of-requires c κs = search needs
-
--- src/regions.rt:160:9
-put-in-requires : tie.Need-put-in-requires Inv-loop μ-loop
-put-in-requires c κs = search needs
-
--- src/regions.rt:159:9
-add-p : tie.Need-add-p Inv-loop μ-loop
-add-p c = search needs
-
--- src/regions.rt:159:5
-loop-less : tie.Need-loop-less Inv-loop μ-loop
-loop-less c = search needs
-
--- src/regions.rt:159:5
 loop-again : tie.Need-loop-again Inv-loop μ-loop
 loop-again c =
     let a = c .before .before .before .before .before .args in
     let top = c .before .before .before .before .loop in
     (search needs, search needs, c .put-in .ensures ∙ ap₂ including (top .inv .2) (c .before .block-of .ensures) ∙ set-more (λ q. getD (a .blocks .now) q 0) (a .first) (top .p) (top .inv .0))
 
--- src/regions.rt:154:1
 returns : tie.Need-returns Inv-loop μ-loop
 returns c =
     let all : c .before .loop .p ≡ c .before .before .args .past = omega arith in
@@ -60,9 +37,9 @@ blocks-between-spec =
     Inv-loop
     μ-loop
     loop-holds
-    block-of-requires
-    put-in-requires
-    add-p
-    loop-less
+    (λ c κs. search needs)
+    (λ c κs. search needs)
+    (λ c. search needs)
+    (λ c. search needs)
     loop-again
     returns)

@@ -8,41 +8,11 @@ use native.Mathlib.Omega.{arith}
 use borrow.Author.Needs.{needs}
 use Rattle.graph.proofs.regions.nearer.Statement.{statement}
 use Rattle.graph.proofs.regions.nearer.Tie as tie
-use Rattle.graph.proofs.regions.nearer.Reads as reads
-use Rattle.graph.proofs.regions.nearer.Lts as lts
-use Rattle.graph.proofs.drafts.draft_at.Reads as draft-at-reads
-use Rattle.graph.proofs.drafts.span.Reads as span-reads
 
--- src/regions.rt:105:24
-enum-known-p : tie.Need-enum-known-p
-enum-known-p c = search needs
-
--- src/regions.rt:106:9
-enum-told : tie.Need-enum-told
-enum-told c = search needs
-
--- src/regions.rt:106:9
 returns : tie.Need-returns
 unfolding smaller
 returns c = rw (c .enum-told .given .1)
 
--- src/regions.rt:108:19
-draft-at-requires : tie.Need-draft-at-requires
-draft-at-requires c κs = search needs
-
--- src/regions.rt:108:8
-span-requires : tie.Need-span-requires
-span-requires c κs = search needs
-
--- src/regions.rt:108:48
-draft-at-requires-2 : tie.Need-draft-at-requires-2
-draft-at-requires-2 c κs = search needs
-
--- src/regions.rt:108:37
-span-requires-2 : tie.Need-span-requires-2
-span-requires-2 c κs = search needs
-
--- src/regions.rt:109:9
 returns-2 : tie.Need-returns-2
 unfolding smaller
 returns-2 c =
@@ -54,7 +24,6 @@ returns-2 c =
     let old = c .before .span2 .ensures ∙ ap (span m) (c .before .before .draft-at2 .ensures ∙ drafted-at (start .pre) j) in
     rw (c .before .before .before .before .before .before .p .given .1, lt-ltb (span m (draft m (a .k))) (span m (draft m j)) (omega arith))
 
--- src/regions.rt:101:1
 returns-3 : tie.Need-returns-3
 unfolding smaller
 returns-3 c =
@@ -70,12 +39,12 @@ pub nearer-spec : {M : Type 1} → statement M
 nearer-spec =
     tie.close
     (tie.spec
-    enum-known-p
-    enum-told
+    (λ c. search needs)
+    (λ c. search needs)
     returns
-    draft-at-requires
-    span-requires
-    draft-at-requires-2
-    span-requires-2
+    (λ c κs. search needs)
+    (λ c κs. search needs)
+    (λ c κs. search needs)
+    (λ c κs. search needs)
     returns-2
     returns-3)

@@ -15,12 +15,6 @@ use native.Mathlib.Omega.{arith}
 use borrow.Author.Needs.{needs}
 use Rattle.graph.proofs.regions.parent_of.Statement.{statement}
 use Rattle.graph.proofs.regions.parent_of.Tie as tie
-use Rattle.graph.proofs.regions.parent_of.Reads as reads
-use Rattle.graph.proofs.regions.parent_of.Lts as lts
-use Rattle.graph.proofs.drafts.draft_at.Reads as draft-at-reads
-use Rattle.graph.proofs.drafts.handler.Reads as handler-reads
-use Rattle.graph.proofs.regions.contains.Reads as contains-reads
-use Rattle.graph.proofs.regions.nearer.Reads as nearer-reads
 
 abbrev Inv-loop : tie.InvT-loop
 Inv-loop s y d r own count parent₀ k₀ parent k = (k ≤ d .count) × (parentIn parent ≡ parentBelow (imageIn s y) r k)
@@ -28,44 +22,10 @@ Inv-loop s y d r own count parent₀ k₀ parent k = (k ≤ d .count) × (parent
 abbrev μ-loop : tie.MeasureT-loop
 μ-loop s y d r own count parent₀ k₀ parent k = d .count - k
 
--- src/regions.rt:89:29
-draft-at-requires : tie.Need-draft-at-requires Inv-loop μ-loop
-draft-at-requires c κs = search needs
-
--- src/regions.rt:89:9
-handler-requires : tie.Need-handler-requires Inv-loop μ-loop
-handler-requires c κs = search needs
-
--- src/regions.rt:92:5
 loop-holds : tie.Need-loop-holds Inv-loop μ-loop
 unfolding parentBelow
 loop-holds c = (search needs, refl)
 
--- src/regions.rt:93:35
-draft-at-requires-2 : tie.Need-draft-at-requires-2 Inv-loop μ-loop
-draft-at-requires-2 c κs = search needs
-
--- src/regions.rt:93:21
-handler-requires-2 : tie.Need-handler-requires-2 Inv-loop μ-loop
-handler-requires-2 c κs = search needs
-
--- src/regions.rt:93:12
-contains-requires : tie.Need-contains-requires Inv-loop μ-loop
-contains-requires c κs = search needs
-
--- src/regions.rt:94:13
-nearer-requires : tie.Need-nearer-requires Inv-loop μ-loop
-nearer-requires c κs = search needs
-
--- src/regions.rt:92:9
-add-k : tie.Need-add-k Inv-loop μ-loop
-add-k c = search needs
-
--- src/regions.rt:92:5
-loop-less : tie.Need-loop-less Inv-loop μ-loop
-loop-less c = search needs
-
--- src/regions.rt:92:5
 loop-again : tie.Need-loop-again Inv-loop μ-loop
 loop-again c =
     let start = c .before .before .before .before .before .before .before .before .before in
@@ -80,7 +40,6 @@ loop-again c =
     (λ w. (search needs, ap parentIn (w .1) ∙ top .inv .1 ∙ sym (parent-out m (a .r) (top .k) (sym is ∙ w .0 .left))))
     (c .if1 .came)
 
--- src/regions.rt:85:1
 returns : tie.Need-returns Inv-loop μ-loop
 returns c =
     let start = c .before .before .before .before .before in
@@ -94,14 +53,14 @@ parent-of-spec =
     (tie.spec
     Inv-loop
     μ-loop
-    draft-at-requires
-    handler-requires
+    (λ c κs. search needs)
+    (λ c κs. search needs)
     loop-holds
-    draft-at-requires-2
-    handler-requires-2
-    contains-requires
-    nearer-requires
-    add-k
-    loop-less
+    (λ c κs. search needs)
+    (λ c κs. search needs)
+    (λ c κs. search needs)
+    (λ c κs. search needs)
+    (λ c. search needs)
+    (λ c. search needs)
     loop-again
     returns)

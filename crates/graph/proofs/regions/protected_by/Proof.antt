@@ -7,36 +7,13 @@ use native.Mathlib.Omega.{arith}
 use borrow.Author.Needs.{needs}
 use Rattle.graph.proofs.regions.protected_by.Statement.{statement}
 use Rattle.graph.proofs.regions.protected_by.Tie as tie
-use Rattle.graph.proofs.regions.protected_by.Reads as reads
-use Rattle.graph.proofs.regions.protected_by.Lts as lts
-use Rattle.graph.proofs.drafts.handler.Reads as handler-reads
-use Rattle.graph.proofs.ranges.range_check.Reads as range-check-reads
-use Rattle.graph.proofs.regions.blocks_between.Reads as blocks-between-reads
 
--- src/regions.rt:143:9
-handler-requires : tie.Need-handler-requires
-handler-requires c κs = search needs
-
--- src/regions.rt:146:9
-range-check-requires : tie.Need-range-check-requires
-range-check-requires c κs = search needs
-
--- src/regions.rt:147:29
-enum-known-range : tie.Need-enum-known-range
-enum-known-range c = search needs
-
--- src/regions.rt:148:9
-enum-told : tie.Need-enum-told
-enum-told c = search needs
-
--- src/regions.rt:148:9
 returns : tie.Need-returns
 returns c =
     let start = c .before .before .before .before .before in
     let a = start .args in
     absurd (range-never (imageIn (a .s .now) (a .y)) (a .h) (start .pre .1) _ (c .enum-told .given .0 .0) (c .before .before .before .handler .ensures) (rw (c .enum-told .given .1) at (c .before .before .range-check .ensures)))
 
--- src/regions.rt:150:5
 blocks-between-requires : tie.Need-blocks-between-requires
 blocks-between-requires c κs =
     let start = c .before .before .before .before .before .before in
@@ -44,22 +21,21 @@ blocks-between-requires c κs =
     let size = length-entries (imageIn (start .args .s .now) (start .args .y) .instructions) in
     (omega arith, omega arith)
 
--- src/regions.rt:139:1
 returns-2 : tie.Need-returns-2
 returns-2 c =
     let start = c .before .before .before .before .before .before .before in
     let a = start .args in
     let range = rw (c .before .before .range .given .1) at (c .before .before .before .before .range-check .ensures) in
-    c .blocks-between .ensures ∙ range-known (imageIn (a .s .now) (a .y)) (a .blocks .now) (a .h) _ _ _ (start .pre .0 .numbered) (c .before .before .before .before .before .handler .ensures) range
+    c .blocks-between .ensures ∙ range-known (imageIn (a .s .now) (a .y)) (a .blocks .now) (a .h) _ _ _ (start .pre .0 .0 .numbered) (c .before .before .before .before .before .handler .ensures) range
 
 pub protected-by-spec : {M : Type 1} → statement M
 protected-by-spec =
     tie.close
     (tie.spec
-    handler-requires
-    range-check-requires
-    enum-known-range
-    enum-told
+    (λ c κs. search needs)
+    (λ c κs. search needs)
+    (λ c. search needs)
+    (λ c. search needs)
     returns
     blocks-between-requires
     returns-2)

@@ -13,10 +13,6 @@ use native.Mathlib.Omega.{arith}
 use borrow.Author.Needs.{needs}
 use Rattle.graph.proofs.regions.same_ranges.Statement.{statement}
 use Rattle.graph.proofs.regions.same_ranges.Tie as tie
-use Rattle.graph.proofs.regions.same_ranges.Reads as reads
-use Rattle.graph.proofs.regions.same_ranges.Lts as lts
-use Rattle.graph.proofs.drafts.handler.Reads as handler-reads
-use Rattle.graph.proofs.drafts.same_range.Reads as same-range-reads
 
 abbrev Inv-loop : tie.InvT-loop
 Inv-loop s y h n own same₀ g₀ same g = (g ≤ n) × (same ≤ g) × (same ≡ count (λ g. sameRange (imageIn s y) g h) g)
@@ -24,36 +20,10 @@ Inv-loop s y h n own same₀ g₀ same g = (g ≤ n) × (same ≤ g) × (same �
 abbrev μ-loop : tie.MeasureT-loop
 μ-loop s y h n own same₀ g₀ same g = n - g
 
--- src/regions.rt:128:9
-handler-requires : tie.Need-handler-requires Inv-loop μ-loop
-handler-requires c κs = search needs
-
--- src/regions.rt:130:5
 loop-holds : tie.Need-loop-holds Inv-loop μ-loop
 unfolding count
 loop-holds c = (search needs, search needs, refl)
 
--- src/regions.rt:131:23
-handler-requires-2 : tie.Need-handler-requires-2 Inv-loop μ-loop
-handler-requires-2 c κs = search needs
-
--- src/regions.rt:131:12
-same-range-requires : tie.Need-same-range-requires Inv-loop μ-loop
-same-range-requires c κs = search needs
-
--- src/regions.rt:132:13
-add-same : tie.Need-add-same Inv-loop μ-loop
-add-same c = search needs
-
--- src/regions.rt:130:9
-add-g : tie.Need-add-g Inv-loop μ-loop
-add-g c = search needs
-
--- src/regions.rt:130:5
-loop-less : tie.Need-loop-less Inv-loop μ-loop
-loop-less c = search needs
-
--- src/regions.rt:130:5
 loop-again : tie.Need-loop-again Inv-loop μ-loop
 loop-again c =
     let a = c .before .before .before .before .before .before .before .args in
@@ -66,7 +36,6 @@ loop-again c =
     (λ w. (search needs, omega arith, rw (add-one (top .g)) (omega (arith, count-no f (top .g) (sym is ∙ w .0 .left)))))
     (c .if1 .came)
 
--- src/regions.rt:125:1
 returns : tie.Need-returns Inv-loop μ-loop
 returns c =
     let all : c .before .loop .g ≡ c .before .before .before .before .args .n = omega arith in
@@ -78,12 +47,12 @@ same-ranges-spec =
     (tie.spec
     Inv-loop
     μ-loop
-    handler-requires
+    (λ c κs. search needs)
     loop-holds
-    handler-requires-2
-    same-range-requires
-    add-same
-    add-g
-    loop-less
+    (λ c κs. search needs)
+    (λ c κs. search needs)
+    (λ c. search needs)
+    (λ c. search needs)
+    (λ c. search needs)
     loop-again
     returns)

@@ -1,0 +1,59 @@
+-- `store_regions` meets its contract. The loop's invariant: the regions passed are stored. Assumes nothing.
+use mathlib.Core.Path.{_≡_}
+use Prim.Native.Nat.{_-_, _≤_}
+use lib.ListN.{length}
+use Rattle.image.specs.Image.{table, imageIn}
+use Rattle.graph.specs.Graph.{held}
+use Rattle.graph.specs.Words.{heldIn}
+use Rattle.graph.specs.Stored.{withRegion, Stored}
+use Rattle.graph.specs.Regions.{drafts, regionAt, regionsOf}
+use Rattle.graph.specs.Drafts.{withRegions}
+use Rattle.graph.proofs.StoredLaws.{stored-onto}
+use Rattle.graph.proofs.DraftLaws.{drafted-size}
+use Rattle.graph.proofs.RegionLaws.{regions-none, regions-more}
+use native.Mathlib.Omega.{arith}
+use borrow.Author.Needs.{needs}
+use Rattle.graph.proofs.regions.store_regions.Statement.{statement}
+use Rattle.graph.proofs.regions.store_regions.Tie as tie
+
+abbrev Inv-loop : tie.InvT-loop
+Inv-loop g₀ s y code-end blocks d count r₀ g r = (r ≤ d .count) × Stored g₀ g (held (withRegions (heldIn g₀ .graph) (table (regionAt (imageIn s y)) r)))
+
+abbrev μ-loop : tie.MeasureT-loop
+μ-loop g₀ s y code-end blocks d count r₀ g r = d .count - r
+
+loop-holds : tie.Need-loop-holds Inv-loop μ-loop
+unfolding table
+loop-holds c = (search needs, regions-none _ (c .before .pre .1 .1 .0) (c .before .pre .1 .1 .1))
+
+loop-again : tie.Need-loop-again Inv-loop μ-loop
+loop-again c =
+    let start = c .before .before .before .before .before .before in
+    let a = start .args in
+    let top = c .before .before .before .before .loop in (
+      search needs,
+      stored-onto (λ h. withRegion h (c .before .region-of .result)) (top .inv .1) (c .add-region .ensures)
+          (regions-more (heldIn (a .g .now) .graph) (regionAt (imageIn (a .s .now) (a .y))) (top .r) _ (omega (arith, start .pre .1 .0 .counted .within)) (c .before .region-of .ensures)),
+    )
+
+returns : tie.Need-returns Inv-loop μ-loop
+unfolding regionsOf
+returns c =
+    let start = c .before .before .before in
+    let a = start .args in
+    let all : c .before .loop .r ≡ length (drafts (imageIn (a .s .now) (a .y))) = omega (arith, drafted-size (start .pre .1 .0)) in
+    rw all at (c .before .loop .inv .1)
+
+pub store-regions-spec : {M : Type 1} → statement M
+store-regions-spec =
+    tie.close
+    (tie.spec
+    Inv-loop
+    μ-loop
+    loop-holds
+    (λ c κs. search needs)
+    (λ c κs. search needs)
+    (λ c. search needs)
+    (λ c. search needs)
+    loop-again
+    returns)
