@@ -3,23 +3,29 @@
 --     passes-first, passes-next    entry 0, and an entry behind another
 --     sum-more, sum-le             one number more, and a sum grows
 --     rest-none                    nothing is left of a whole
+--     built-all, built-stop        blocks up to one that is built are; none is behind the one that fills the table
+--     repeats-built, repeats-none  a run that repeats a built one, and one that is not
+--     some-from                    what holds of none below k and of none from k on holds of none
 -- Assumes nothing.
 use mathlib.Core.Path.{_≡_, refl, sym, ap, _∙_}
-use mathlib.Core.Bool.{Bool, true, false, _&&_, and-true}
+use mathlib.Core.Bool.{Bool, true, false, _&&_, and-true, or-true}
 use mathlib.Core.List.{List}
-use mathlib.Core.Logic.{⊎-elim}
-use Prim.Native.Nat.{ℕ, zero, suc, _+_, _≤_}
+use mathlib.Core.Logic.{_⊎_, ⊎-elim}
+use Prim.Native.Nat.{ℕ, zero, suc, _+_, _≤_, _<_}
 use native.Mathlib.Nat.{eq-or-lt-of-le, le-of-suc-le-suc}
 use native.Mathlib.Numerals.{add-one}
+use native.Mathlib.Decide.{decLt}
 use native.Mathlib.Omega.{arith}
-use borrow.Author.Tests.{eq-eqb, ne-eqb}
+use borrow.Author.Tests.{eq-eqb, ne-eqb, lt-ltb, le-ltb}
 use lib.Dec.{eqb, ltb}
+use lib.ListN.{length}
 use Rattle.image.specs.Refusal.{Refusal, refusal, Check, clear, refused, _then_, unless}
 use Rattle.graph.specs.declared.record.TableEntry.{TableEntry}
-use Rattle.graph.specs.Fold.{all, checks, sum}
+use Rattle.graph.specs.Graph.{Graph, block}
+use Rattle.graph.specs.Fold.{some, all, checks, sum}
 use Rattle.graph.specs.Table.{entryAt}
 use Rattle.graph.specs.Build.{orderCheck, instructionCheck}
-use Rattle.graph.specs.WellFormed.{passes}
+use Rattle.graph.specs.WellFormed.{passes, filled, isBuilt, Built, repeats}
 
 -- ---- the table
 
@@ -70,3 +76,60 @@ sum-le f n (suc m) h =
 pub rest-none : (a left n : ℕ) → a + left ≡ n → eqb left 0 ≡ eqb a n
 rest-none a zero n e = sym (eq-eqb a n (omega arith))
 rest-none a (suc left) n e = ne-eqb (suc left) 0 (omega arith) ∙ sym (ne-eqb a n (omega arith))
+
+pub some-from : (f : ℕ → Bool) (k n : ℕ) → k ≤ n → some f k ≡ false → ((i : ℕ) → k ≤ i → i < n → f i ≡ false) → some f n ≡ false
+unfolding some
+some-from f k zero h none rest = let start : k ≡ 0 = omega arith in rw start at none
+some-from f k (suc n) h none rest =
+    ⊎-elim
+    (λ same. rw same at none)
+    (λ lt. let before = some-from f k n (le-of-suc-le-suc lt) none (λ i le l. rest i le (omega arith)) in rw (before, rest n (le-of-suc-le-suc lt) (omega arith)) refl)
+    (eq-or-lt-of-le h)
+
+-- ---- built blocks
+
+module _ (g : Graph) where
+  built-yes : (b : ℕ) → filled g b < length (g .table) → isBuilt g b ≡ true
+  unfolding isBuilt
+  built-yes b h = rw (lt-ltb (filled g b) (length (g .table)) h) (or-true (eqb b 0))
+
+  built-no : (b : ℕ) → (b ≡ 0 → ⊥) → length (g .table) ≤ filled g b → isBuilt g b ≡ false
+  unfolding isBuilt
+  built-no b ne h = rw (ne-eqb b 0 ne, le-ltb (filled g b) (length (g .table)) h) refl
+
+  built-first : isBuilt g 0 ≡ true
+  unfolding isBuilt
+  built-first = refl
+
+  filled-le : (a b : ℕ) → a ≤ b → filled g a ≤ filled g b
+  unfolding filled
+  filled-le a b h = sum-le (λ (k : ℕ). block g k .count) a b h
+
+  pub filled-more : (b : ℕ) → filled g (b + 1) ≡ filled g b + block g b .count
+  unfolding filled
+  filled-more b = sum-more (λ (k : ℕ). block g k .count) b
+
+  pub built-all : (i : ℕ) → (i ≡ 0) ⊎ (filled g i < length (g .table)) → (b : ℕ) → b ≤ i → isBuilt g b ≡ true
+  built-all i c b h =
+      ⊎-elim
+      (λ none. let first : b ≡ 0 = omega arith in rw first built-first)
+      (λ lt. built-yes b (omega (arith, filled-le b i h)))
+      c
+
+  pub built-stop : (i : ℕ) → (i ≡ 0) ⊎ (filled g i < length (g .table)) → length (g .table) ≤ filled g (i + 1) → (b : ℕ) → isBuilt g b ≡ ltb b (i + 1)
+  built-stop i c full b =
+      elim (decLt b (i + 1)) [
+        | yes lt ↦ built-all i c b (omega arith) ∙ sym (lt-ltb b (i + 1) lt)
+        | no le ↦ built-no b (omega arith) (omega (arith, filled-le (i + 1) b (omega arith))) ∙ sym (le-ltb b (i + 1) (omega arith))
+      ]
+
+  pub repeats-built : (b a : ℕ) → isBuilt g a ≡ true → repeats g b a ≡ (eqb (block g a .first) (block g b .first) && eqb (block g a .count) (block g b .count))
+  unfolding repeats
+  repeats-built b a e = rw e refl
+
+  repeats-not : (b a : ℕ) → isBuilt g a ≡ false → repeats g b a ≡ false
+  unfolding repeats
+  repeats-not b a e = rw e refl
+
+  pub repeats-none : (b n : ℕ) → Built g n → some (repeats g b) n ≡ false → some (repeats g b) (length (g .blocks)) ≡ false
+  repeats-none b n built none = some-from (repeats g b) n (length (g .blocks)) (built .0) none (λ i le lt. repeats-not b i (built .1 i lt ∙ le-ltb i n le))

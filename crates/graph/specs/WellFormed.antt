@@ -1,7 +1,8 @@
 -- Rule 21, 'the graph is none, unless all of this holds': each definition is a phrase of it.
 use mathlib.Core.Bool.{Bool, true, false, cond, not, _&&_, _||_}
 use mathlib.Core.List.{List}
-use Prim.Native.Nat.{ℕ, suc, _-_, _*_, _^_}
+use mathlib.Core.Path.{_≡_}
+use Prim.Native.Nat.{ℕ, suc, _-_, _*_, _^_, _≤_, _<_}
 use lib.Dec.{eqb, ltb, leb}
 use lib.ListN.{length, getD}
 use Rattle.image.specs.Refusal.{Check, clear, refused}
@@ -78,6 +79,10 @@ filled g b = sum (λ a. block g a .count) b
 
 unfoldable pub isBuilt : Graph → ℕ → Bool
 isBuilt g b = eqb b 0 || ltb (filled g b) (length (g .table))
+
+-- the first n of the blocks are the built ones
+abbrev pub Built : Graph → ℕ → Type 0
+Built g n = (n ≤ length (g .blocks)) × ((b : ℕ) → b < length (g .blocks) → isBuilt g b ≡ ltb b n)
 
 unfoldable pub coversTable : Graph → Bool
 coversTable g =

@@ -17,6 +17,7 @@ use crate::store::unresolved::unresolved_at;
 use crate::store::unresolved::unresolved_count;
 ghost use mathlib.Core.Path.{_≡_};
 ghost use mathlib.Core.Bool.{not, _&&_, _||_};
+ghost use Prim.Native.Nat.{_<_};
 ghost use lib.Dec.{eqb, ltb, leb};
 ghost use lib.ListN.{length};
 ghost use Rattle.graph.specs.Fold.{some, all, sum};
@@ -24,7 +25,7 @@ ghost use Rattle.graph.specs.Build.{instructionCheck, tableCheck};
 ghost use Rattle.graph.specs.Graph.{block, edge, region, handler, unresolvedTransfer, callSite};
 ghost use Rattle.graph.specs.Table.{entryAt};
 ghost use Rattle.graph.specs.Words.{heldIn};
-ghost use Rattle.graph.specs.WellFormed.{passes, isBlock, edgeEndsExist, within, regionBlocksExist, parentsExist, namesHandler, sameReference, referencesMatch, inSets, noneEmpty};
+ghost use Rattle.graph.specs.WellFormed.{passes, isBlock, edgeEndsExist, within, regionBlocksExist, parentsExist, namesHandler, sameReference, referencesMatch, inSets, isBuilt, Built, repeats, copiesRepeat, noneEmpty};
 
 // 'an instruction table .. that passes 3 to 5'
 fn table_passes(g: &Words) -> bool
@@ -302,6 +303,67 @@ fn calls_in_sets(g: &Words) -> bool
         }
     }
     true
+}
+
+// How many blocks are built: the first ones, until their runs fill the table.
+fn built_count(g: &Words) -> usize
+    ensures { λ r. ⌜ Built (heldIn (now (g .entry)) .graph) r ⌝ }
+{
+    let n = block_count(g);
+    let mut left = table_count(g) as u64;
+    for i in 0..n {
+        let own = block_at(g, i).count;
+        if left <= own {
+            return i + 1;
+        }
+        left -= own;
+    }
+    n
+}
+
+// 'copies follow and repeat a built run'
+fn copies_repeat(g: &Words) -> bool
+    ensures { λ r. ⌜ r ≡ copiesRepeat (heldIn (now (g .entry)) .graph) ⌝ }
+{
+    let built = built_count(g);
+    let n = block_count(g);
+    for i in 0..n {
+        if !is_run(g, i, built) {
+            return false;
+        }
+    }
+    true
+}
+
+// Whether block b is built or repeats one that is.
+fn is_run(g: &Words, b: usize, built: usize) -> bool
+    requires { ⌜ Built (heldIn (now g) .graph) built × (b < length (heldIn (now g) .graph .blocks)) ⌝ }
+    ensures { λ r. ⌜ r ≡ (isBuilt (heldIn (now (g .entry)) .graph) b || some (repeats (heldIn (now (g .entry)) .graph) b) (length (heldIn (now (g .entry)) .graph .blocks))) ⌝ }
+{
+    if b < built {
+        return true;
+    }
+    repeats_built(g, b, built)
+}
+
+fn repeats_built(g: &Words, b: usize, built: usize) -> bool
+    requires { ⌜ Built (heldIn (now g) .graph) built ⌝ }
+    ensures { λ r. ⌜ r ≡ some (repeats (heldIn (now (g .entry)) .graph) b) (length (heldIn (now (g .entry)) .graph .blocks)) ⌝ }
+{
+    for i in 0..built {
+        if same_run(g, i, b) {
+            return true;
+        }
+    }
+    false
+}
+
+fn same_run(g: &Words, a: usize, b: usize) -> bool
+    ensures { λ r. ⌜ r ≡ (eqb (block (heldIn (now (g .entry)) .graph) a .first) (block (heldIn (now (g .entry)) .graph) b .first) && eqb (block (heldIn (now (g .entry)) .graph) a .count) (block (heldIn (now (g .entry)) .graph) b .count)) ⌝ }
+{
+    let x = block_at(g, a);
+    let y = block_at(g, b);
+    (x.first == y.first) & (x.count == y.count)
 }
 
 // 'only an empty table's block is empty'
