@@ -1,11 +1,12 @@
 -- Records added one after the other.
 --     added-none, added-then                        nothing, and one pass behind another
+--     edges-more, flow-more, calls-more             one turn more of a loop
 --     edge-added, unresolved-added, call-added      what the store adds
 --     adding-held                                   within the limits nothing is cut
 -- Assumes nothing.
 use mathlib.Core.Path.{_≡_, refl, sym, ap, _∙_}
 use mathlib.Core.List.{List, [], _∷_, _++_, append-assoc, append-nil}
-use Prim.Native.Nat.{ℕ, _+_, _<_, _≤_}
+use Prim.Native.Nat.{ℕ, _+_, _≤_}
 use native.Mathlib.Omega.{arith}
 use lib.ListN.{length, length-append}
 use Rattle.graph.specs.Section.{Section}
@@ -16,6 +17,8 @@ use Rattle.graph.specs.Adding.{mores, adding, Added}
 use Rattle.graph.specs.declared.record.Edge.{Edge}
 use Rattle.graph.specs.declared.record.UnresolvedTransfer.{UnresolvedTransfer}
 use Rattle.graph.specs.declared.record.CallSite.{CallSite}
+use Rattle.graph.specs.Fold.{flat}
+use Rattle.graph.proofs.FoldLaws.{flat-more}
 use Rattle.graph.proofs.StoredLaws.{stored-none, stored-then, whole, more-whole}
 
 module _ {A : Type 0} (s : Section) where
@@ -55,6 +58,16 @@ pub added-then : {l m n : List ℕ} {es es′ : List Edge} {us us′ : List Unre
     → Added l m es us cs → Added m n es′ us′ cs′ → Added l n (es ++ es′) (us ++ us′) (cs ++ cs′)
 added-then {l} {m} {n} {es} {es′} {us} {us′} {cs} {cs′} a b =
     record { stored = rw (adding-then (heldIn l) es es′ us us′ cs cs′, ← a .stored .holds) (stored-then (a .stored) (b .stored)) }
+
+module _ {l m n : List ℕ} where
+  pub edges-more : (f : ℕ → List Edge) (k : ℕ) → Added l m (flat f k) [] [] → Added m n (f k) [] [] → Added l n (flat f (k + 1)) [] []
+  edges-more f k a b = rw (flat-more f k) (added-then a b)
+
+  pub flow-more : (f : ℕ → List Edge) (u : ℕ → List UnresolvedTransfer) (k : ℕ) → Added l m (flat f k) (flat u k) [] → Added m n (f k) (u k) [] → Added l n (flat f (k + 1)) (flat u (k + 1)) []
+  flow-more f u k a b = rw (flat-more f k, flat-more u k) (added-then a b)
+
+  pub calls-more : (f : ℕ → List CallSite) (k : ℕ) → Added l m [] [] (flat f k) → Added m n [] [] (f k) → Added l n [] [] (flat f (k + 1))
+  calls-more f k a b = rw (flat-more f k) (added-then a b)
 
 module _ {l l′ : List ℕ} where
   pub edge-added : (e : Edge) → Stored l l′ (withEdge (heldIn l) e) → Added l l′ (e ∷ []) [] []

@@ -5,6 +5,7 @@
 --     some-same, some-more         it hangs on f below n alone; one number more
 --     some-at, some-where, some-none     it holds of some number if of one, of which one, and of none
 --     flat-none, flat-one          lists of which none or one is not empty
+--     flat-same, flat-front, flat-more     they hang on f below n alone; the first apart, and one more
 --     count-same                   the count hangs on f below n alone
 --     count-front, count-add       the first number apart, and the first m
 --     count-one                    f holds of one number more
@@ -13,7 +14,7 @@
 use mathlib.Core.Path.{_≡_, refl, sym, ap, _∙_}
 use mathlib.Core.Bool.{Bool, true, false, _&&_, _||_, and-false, or-true, false≢true}
 use mathlib.Core.Logic.{_⊎_, inl, inr, ⊎-elim}
-use mathlib.Core.List.{List, [], _∷_, _++_, append-nil}
+use mathlib.Core.List.{List, [], _∷_, _++_, append-nil, append-assoc}
 use Prim.Native.Nat.{ℕ, zero, suc, _+_, _≤_, _<_}
 use native.Mathlib.Nat.{add-zero, add-suc, eq-or-lt-of-le, le-of-suc-le-suc, not-suc-le-zero}
 use native.Mathlib.Numerals.{add-one}
@@ -121,6 +122,20 @@ module _ {A : Type 0} (f : ℕ → List A) where
       (λ same. rw (flat-none n (λ i lt. none i (omega arith) (omega arith)), same))
       (λ lt. rw (flat-one n k lt (λ i l. none i (omega arith)), none n (omega arith) (omega arith)) (append-nil (f k)))
       (eq-or-lt-of-le (le-of-suc-le-suc h))
+
+  pub flat-front : (n : ℕ) → flat f (suc n) ≡ f 0 ++ flat (λ i. f (suc i)) n
+  unfolding flat
+  flat-front zero = sym (append-nil (f 0))
+  flat-front (suc n) = rw (flat-front n) (append-assoc (f 0) (flat (λ i. f (suc i)) n) (f (suc n)))
+
+  pub flat-more : (n : ℕ) → flat f (n + 1) ≡ flat f n ++ f n
+  unfolding flat
+  flat-more n = rw add-one
+
+pub flat-same : {A : Type 0} (f g : ℕ → List A) (n : ℕ) → ((i : ℕ) → i < n → f i ≡ g i) → flat f n ≡ flat g n
+unfolding flat
+flat-same f g zero same = refl
+flat-same f g (suc n) same = rw (flat-same f g n (λ i h. same i (omega arith)), same n (omega arith))
 
 -- ---- counts
 

@@ -1,26 +1,59 @@
 -- What the code that adds edges is lent, and what it answers on the way.
 use mathlib.Core.Bool.{Bool, true, false}
 use mathlib.Core.Path.{_≡_}
-use mathlib.Core.List.{List}
-use Prim.Native.Nat.{ℕ, _<_, _≤_}
+use mathlib.Core.List.{List, []}
+use Prim.Native.Nat.{ℕ, _<_}
 use lib.ListN.{getD}
+use Rattle.image.specs.Refusal.{clear}
 use Rattle.image.specs.Image.{Image}
+use Rattle.image.specs.Record.{caseFrom}
 use Rattle.graph.specs.declared.record.Edge.{Edge}
 use Rattle.graph.specs.declared.record.UnresolvedTransfer.{UnresolvedTransfer}
+use Rattle.graph.specs.declared.cursor.Cursor.{Cursor}
+use Rattle.graph.specs.declared.cursor.Visit.{Visit}
 use Rattle.graph.specs.declared.lookup.Found.{Found}
 use Rattle.graph.specs.declared.lookup.Found.the-variants.{At, Nothing}
 use Rattle.graph.specs.Table.{below}
-use Rattle.graph.specs.Lookup.{Rising}
+use Rattle.graph.specs.Fold.{flat, checks}
 use Rattle.graph.specs.Flow.{kindOf, unresolvedRole}
-use Rattle.graph.specs.Transfer.{tableOf, size, Transfer, hasTarget}
+use Rattle.graph.specs.Transfer.{tableOf, size, casesAt, Transfer, hasTarget, caseTransfer, transferAt}
+use Rattle.graph.specs.Leaders.{isLeader}
 use Rattle.graph.specs.Blocks.{blockOf}
-use Rattle.graph.specs.Edges.{resolved}
+use Rattle.graph.specs.Edges.{resolved, transferEdges, transferUnresolved}
+use Rattle.graph.specs.Cursor.{Sourced, cursorAt, visitAt}
+use Rattle.graph.specs.Build.{givenCheck}
 
--- the numbers of the blocks, by position, of a table that rises
-pub record Numbered (m : Image) (blocks : List ℕ) : Type 0 where
-  pub rising : Rising (tableOf m)
-  pub most : size m ≤ 512
+-- 1 to 9 found nothing, but for 6, and the blocks are numbered by position
+pub record Emitting (m : Image) (blocks : List ℕ) : Type 0 where
+  pub sourced : Sourced m
+  pub given : checks (givenCheck m) (size m) ≡ clear
   pub block : (p : ℕ) → p < size m → getD blocks p 0 ≡ blockOf m p
+
+-- the marks of the leaders
+abbrev pub Leading : Image → List Bool → Type 0
+Leading m marks = (p : ℕ) → p < size m → getD marks p false ≡ isLeader m p
+
+-- a cursor, and the visit of the instruction there
+pub record Visiting (m : Image) (c : Cursor) (visit : Visit) : Type 0 where
+  pub here : c ≡ cursorAt m (c .at)
+  pub within : c .at < size m
+  pub is : visit ≡ visitAt m (c .at)
+
+-- what the first k slots of the instruction at p give, and the first k cases
+abbrev pub slotEdges : Image → ℕ → ℕ → List Edge
+slotEdges m p k = flat (λ i. transferEdges m p (transferAt m p i)) k
+
+abbrev pub slotUnresolved : Image → ℕ → ℕ → List UnresolvedTransfer
+slotUnresolved m p k = flat (λ i. transferUnresolved m p (transferAt m p i)) k
+
+abbrev pub caseAt : Image → ℕ → ℕ → Transfer
+caseAt m p i = caseTransfer (getD (casesAt m p) i (caseFrom [] 0)) i
+
+abbrev pub caseEdges : Image → ℕ → ℕ → List Edge
+caseEdges m p k = flat (λ i. transferEdges m p (caseAt m p i)) k
+
+abbrev pub caseUnresolved : Image → ℕ → ℕ → List UnresolvedTransfer
+caseUnresolved m p k = flat (λ i. transferUnresolved m p (caseAt m p i)) k
 
 -- where a transfer leads
 abbrev pub Resolves : Image → Transfer → Found → Type 0
@@ -41,5 +74,5 @@ edgeBetween b c a x =
       «target_address» = x .target;
     }
 
-abbrev pub unresolvedAt : ℕ → Transfer → UnresolvedTransfer
-unresolvedAt a x = record { source = a; target = x .target; role = unresolvedRole (x .role) (hasTarget x); «case_index» = x .number }
+abbrev pub unresolvedFrom : ℕ → Transfer → UnresolvedTransfer
+unresolvedFrom a x = record { source = a; target = x .target; role = unresolvedRole (x .role) (hasTarget x); «case_index» = x .number }

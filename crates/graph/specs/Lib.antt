@@ -16,10 +16,10 @@ pub mod Leaders
 pub mod Cursor
 pub mod Blocks
 pub mod Edges
-pub mod Emit
 pub mod Regions
 pub mod Drafts
 pub mod Build
+pub mod Emit
 pub mod Ranges
 pub mod WellFormed
 pub mod Reached

@@ -1,4 +1,9 @@
 // The edges of a built graph: the normal edges of each block's end, and the unwind edges of the handlers.
+use crate::cursor::Cursor;
+use crate::cursor::Given;
+use crate::cursor::Visit;
+use crate::cursor::cursor_start;
+use crate::cursor::visit_at;
 use crate::lookup::Found;
 use crate::lookup::find;
 use crate::record::Edge;
@@ -7,26 +12,176 @@ use crate::store::Words;
 use crate::store::edges::add_edge;
 use crate::store::unresolved::add_unresolved;
 use crate::transfer::Transfer;
+use crate::transfer::case_transfer;
 use crate::transfer::falls_through;
+use crate::transfer::flow_under;
 use crate::transfer::has_target;
 use crate::transfer::is_empty;
 use crate::transfer::kind_of;
+use crate::transfer::slot_transfer;
+use crate::transfer::slots_of;
 use crate::transfer::unresolved_role;
+use image::access::case_at;
+use image::access::edge_at;
+use image::record::Instruction;
 use image::section::Layout;
-ghost use mathlib.Core.Bool.{_||_, cond};
+ghost use mathlib.Core.Bool.{true, false, _||_, cond};
 ghost use mathlib.Core.List.{[], _∷_};
 ghost use mathlib.Core.Path.{_≡_};
-ghost use Prim.Native.Nat.{_<_};
+ghost use Prim.Native.Nat.{_+_, _<_, _≤_};
 ghost use lib.Dec.{eqb};
-ghost use lib.ListN.{getD};
+ghost use lib.ListN.{length, getD};
 ghost use Rattle.image.specs.Image.{imageIn};
+ghost use Rattle.image.specs.Record.{edgeFrom};
+ghost use Rattle.graph.specs.Table.{isStart};
 ghost use Rattle.graph.specs.Lookup.{Rising};
 ghost use Rattle.graph.specs.Flow.{From, fallsThrough};
-ghost use Rattle.graph.specs.Transfer.{tableOf, size, addressAt};
+ghost use Rattle.graph.specs.Transfer.{tableOf, size, instructionAt, addressAt, slotCount, isGiven, givenAt};
 ghost use Rattle.graph.specs.Slots.{transferIn};
-ghost use Rattle.graph.specs.Edges.{transferEdges, transferUnresolved};
+ghost use Rattle.graph.specs.Edges.{transferEdges, transferUnresolved, givenEdge, edgesAt, unresolvedAt, normalEdges, unresolvedOf};
+ghost use Rattle.graph.specs.Cursor.{cursorAt};
 ghost use Rattle.graph.specs.Adding.{Added};
-ghost use Rattle.graph.specs.Emit.{Numbered, Resolves, edgeBetween, unresolvedAt};
+ghost use Rattle.graph.specs.Emit.{Leading, Emitting, Visiting, Resolves, edgeBetween, unresolvedFrom, slotEdges, slotUnresolved, caseEdges, caseUnresolved};
+
+const SWITCH: u64 = 12;
+
+const GIVEN: u64 = 11;
+
+// The normal edges of each block's end, and the records of transfers that lead nowhere.
+pub fn add_normal_edges(
+    g: &mut Words,
+    s: &[u8],
+    y: Layout,
+    marks: &[bool; 512],
+    blocks: &[u16; 512],
+)
+    requires { ⌜ Emitting (imageIn (now s) y) (now blocks) ⌝ }
+    requires { ⌜ Leading (imageIn (now s) y) (now marks) ⌝ }
+    ensures { λ _. ⌜ Added (now (g .entry)) (now (g .exit)) (normalEdges (imageIn (now (s .entry)) y)) (unresolvedOf (imageIn (now (s .entry)) y)) [] ⌝ }
+{
+    let n = y.code.instructions.count as usize;
+    let mut c = cursor_start();
+    for p in 0..n {
+        let visit = visit_at(s, y, c);
+        emit_if(g, s, y, blocks, c, visit, is_terminator(marks, n, p));
+        c = visit.next;
+    }
+}
+
+// Whether the instruction at p is the last of its block: none follows, or the next one leads.
+fn is_terminator(marks: &[bool; 512], n: usize, p: usize) -> bool
+    requires { ⌜ (p < n) × (n ≤ 512) ⌝ }
+    ensures { λ r. ⌜ r ≡ (eqb (p + 1) n || getD (now (marks .entry)) (p + 1) false) ⌝ }
+{
+    if p + 1 == n {
+        return true;
+    }
+    marks[p + 1]
+}
+
+// What the instruction at a cursor gives, where it ends its block.
+fn emit_if(
+    g: &mut Words,
+    s: &[u8],
+    y: Layout,
+    blocks: &[u16; 512],
+    c: Cursor,
+    visit: Visit,
+    ends: bool,
+)
+    requires { ⌜ Emitting (imageIn (now s) y) (now blocks) ⌝ }
+    requires { ⌜ Visiting (imageIn (now s) y) c visit ⌝ }
+    ensures { λ _. ⌜ Added (now (g .entry)) (now (g .exit)) (cond ends (edgesAt (imageIn (now (s .entry)) y) (c .at)) []) (cond ends (unresolvedAt (imageIn (now (s .entry)) y) (c .at)) []) [] ⌝ }
+{
+    if ends {
+        emit(g, s, y, blocks, c, visit);
+    }
+}
+
+fn emit(g: &mut Words, s: &[u8], y: Layout, blocks: &[u16; 512], c: Cursor, visit: Visit)
+    requires { ⌜ Emitting (imageIn (now s) y) (now blocks) ⌝ }
+    requires { ⌜ Visiting (imageIn (now s) y) c visit ⌝ }
+    ensures { λ _. ⌜ Added (now (g .entry)) (now (g .exit)) (edgesAt (imageIn (now (s .entry)) y) (c .at)) (unresolvedAt (imageIn (now (s .entry)) y) (c .at)) [] ⌝ }
+{
+    let given = visit.given;
+    match given {
+        Given::Edges(n) => add_given_edges(g, s, y, blocks, c, n),
+        Given::Flow => add_transfers(g, s, y, blocks, c, visit.instruction),
+    }
+}
+
+// The edges that are given for the instruction at a cursor.
+fn add_given_edges(g: &mut Words, s: &[u8], y: Layout, blocks: &[u16; 512], c: Cursor, n: usize)
+    requires { ⌜ Emitting (imageIn (now s) y) (now blocks) ⌝ }
+    requires { ⌜ (c ≡ cursorAt (imageIn (now s) y) (c .at)) × (c .at < size (imageIn (now s) y)) ⌝ }
+    requires { ⌜ (isGiven (imageIn (now s) y) (c .at) ≡ true) × (length (givenAt (imageIn (now s) y) (c .at)) ≡ n) ⌝ }
+    ensures { λ _. ⌜ Added (now (g .entry)) (now (g .exit)) (edgesAt (imageIn (now (s .entry)) y) (c .at)) [] [] ⌝ }
+{
+    let p = c.at;
+    let first = c.edge;
+    for k in 0..n {
+        add_given(g, s, y, blocks, p, first + k);
+    }
+}
+
+// Given edge e, of the instruction at p. Its target starts an instruction (8).
+fn add_given(g: &mut Words, s: &[u8], y: Layout, blocks: &[u16; 512], p: usize, e: usize)
+    requires { ⌜ Emitting (imageIn (now s) y) (now blocks) ⌝ }
+    requires { ⌜ (p < size (imageIn (now s) y)) × (isStart (tableOf (imageIn (now s) y)) (getD (imageIn (now s) y .edges) e (edgeFrom [] 0) .target) ≡ true) ⌝ }
+    ensures { λ _. ⌜ Added (now (g .entry)) (now (g .exit)) (givenEdge (imageIn (now (s .entry)) y) p (getD (imageIn (now (s .entry)) y .edges) e (edgeFrom [] 0)) ∷ []) [] [] ⌝ }
+{
+    let code = y.code;
+    let edge = edge_at(s, code.edges, e);
+    let target = edge.target;
+    let Found::At(to) = find(s, code.instructions, target) else {
+        return;
+    };
+    let record = Edge {
+        source: block_of(blocks, p),
+        target: block_of(blocks, to),
+        kind: edge.kind,
+        role: GIVEN,
+        number: edge.payload,
+        key: 0,
+        source_address: 0,
+        target_address: 0,
+    };
+    add_edge(g, record);
+}
+
+// The transfers of the instruction at a cursor, slot by slot.
+fn add_transfers(g: &mut Words, s: &[u8], y: Layout, blocks: &[u16; 512], c: Cursor, i: Instruction)
+    requires { ⌜ Emitting (imageIn (now s) y) (now blocks) ⌝ }
+    requires { ⌜ (c ≡ cursorAt (imageIn (now s) y) (c .at)) × (c .at < size (imageIn (now s) y)) × (i ≡ instructionAt (imageIn (now s) y) (c .at)) ⌝ }
+    ensures { λ _. ⌜ Added (now (g .entry)) (now (g .exit)) (slotEdges (imageIn (now (s .entry)) y) (c .at) (slotCount (imageIn (now (s .entry)) y) (c .at))) (slotUnresolved (imageIn (now (s .entry)) y) (c .at) (slotCount (imageIn (now (s .entry)) y) (c .at))) [] ⌝ }
+{
+    let flow = flow_under(y.header.calls, i.flow);
+    let slots = slots_of(flow);
+    let p = c.at;
+    let source = i.address;
+    add_transfer(g, s, y, blocks, p, source, slot_transfer(i, slots.0));
+    if flow == SWITCH {
+        add_cases(g, s, y, blocks, c, i);
+    } else {
+        add_transfer(g, s, y, blocks, p, source, slot_transfer(i, slots.1));
+    }
+}
+
+// The cases of the Switch at a cursor.
+fn add_cases(g: &mut Words, s: &[u8], y: Layout, blocks: &[u16; 512], c: Cursor, i: Instruction)
+    requires { ⌜ Emitting (imageIn (now s) y) (now blocks) ⌝ }
+    requires { ⌜ (c ≡ cursorAt (imageIn (now s) y) (c .at)) × (c .at < size (imageIn (now s) y)) × (i ≡ instructionAt (imageIn (now s) y) (c .at)) ⌝ }
+    ensures { λ _. ⌜ Added (now (g .entry)) (now (g .exit)) (caseEdges (imageIn (now (s .entry)) y) (c .at) (i .cases)) (caseUnresolved (imageIn (now (s .entry)) y) (c .at) (i .cases)) [] ⌝ }
+{
+    let p = c.at;
+    let first = c.case;
+    let n = i.cases;
+    let source = i.address;
+    for k in 0..n {
+        let case = case_at(s, y.code.cases, first + k);
+        add_transfer(g, s, y, blocks, p, source, case_transfer(case, k));
+    }
+}
 
 // The edge of a transfer of the instruction at p, whose address is `source`, or its unresolved record.
 fn add_transfer(
@@ -38,7 +193,7 @@ fn add_transfer(
     source: u64,
     x: Transfer,
 )
-    requires { ⌜ Numbered (imageIn (now s) y) (now blocks) ⌝ }
+    requires { ⌜ Emitting (imageIn (now s) y) (now blocks) ⌝ }
     requires { ⌜ (p < size (imageIn (now s) y)) × (source ≡ addressAt (imageIn (now s) y) p) ⌝ }
     ensures { λ _. ⌜ Added (now (g .entry)) (now (g .exit)) (transferEdges (imageIn (now (s .entry)) y) p (transferIn x)) (transferUnresolved (imageIn (now (s .entry)) y) p (transferIn x)) [] ⌝ }
 {
@@ -80,7 +235,7 @@ fn edge_between(source: u64, target: u64, address: u64, x: Transfer) -> Edge
 
 // The record of a transfer that leads nowhere; what falls through has none.
 fn report(g: &mut Words, source: u64, x: Transfer)
-    ensures { λ _. ⌜ Added (now (g .entry)) (now (g .exit)) [] (cond (eqb (transferIn x .from) From.nowhere || fallsThrough (x .role)) [] (unresolvedAt source (transferIn x) ∷ [])) [] ⌝ }
+    ensures { λ _. ⌜ Added (now (g .entry)) (now (g .exit)) [] (cond (eqb (transferIn x .from) From.nowhere || fallsThrough (x .role)) [] (unresolvedFrom source (transferIn x) ∷ [])) [] ⌝ }
 {
     let role = x.role;
     if is_empty(x) {

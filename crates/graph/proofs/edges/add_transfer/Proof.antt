@@ -1,4 +1,5 @@
 -- The edge to the block that was found, or the record. Assumes nothing.
+use Prim.Native.Nat.{_-_}
 use Rattle.image.specs.Image.{imageIn}
 use Rattle.graph.specs.Slots.{transferIn}
 use Rattle.graph.proofs.AddingLaws.{edge-added}
@@ -11,7 +12,7 @@ use Rattle.graph.proofs.edges.add_transfer.Tie as tie
 block-of-requires-2 : tie.Need-block-of-requires-2
 block-of-requires-2 c κs =
     let r = rw (c .before .before .before .to .given .1) at (c .before .before .before .before .before .resolve .ensures) in
-    omega (arith, r .2, c .before .before .before .before .before .before .before .pre .0 .most)
+    omega (arith, r .2, c .before .before .before .before .before .before .before .pre .0 .sourced .accepted .instructions-most)
 
 returns : tie.Need-returns
 returns c =

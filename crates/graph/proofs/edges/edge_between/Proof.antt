@@ -1,4 +1,5 @@
 -- Field by field. Assumes nothing.
+use Prim.Native.Nat.{_-_}
 use borrow.Author.Needs.{needs}
 use Rattle.graph.proofs.edges.edge_between.Statement.{statement}
 use Rattle.graph.proofs.edges.edge_between.Tie as tie

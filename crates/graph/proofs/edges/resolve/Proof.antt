@@ -1,5 +1,6 @@
 -- By the look-up, where there is a target. Assumes nothing.
 use mathlib.Core.Path.{sym, _∙_}
+use Prim.Native.Nat.{_-_}
 use Rattle.image.specs.Image.{imageIn}
 use Rattle.graph.specs.Slots.{transferIn}
 use Rattle.graph.proofs.EdgeLaws.{resolves, resolved-not}
