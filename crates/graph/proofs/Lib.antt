@@ -17,4 +17,5 @@ pub mod RangeLaws
 pub mod RouteLaws
 pub mod TransferLaws
 pub mod SearchLaws
+pub mod GivenLaws
 pub mod EdgeLaws
