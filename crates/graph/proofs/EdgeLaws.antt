@@ -6,7 +6,8 @@
 --     given-next, given-fits, case-next, case-fits     its given edges and its cases stand where the cursor says
 --     flow-is, flow-most, first-is, second-is          its flow under the policy, and its two slots
 --     flow-edges, given-edges              what the instruction at p gives by its flow, and where edges are given
---     switch-edges, switch-unresolved      a Switch: its default, and its cases behind it
+--     switch-edges, two-edges              a Switch: its default, and its cases behind it; any other flow: two slots
+--     X-unresolved                         the same of records, for X of flow, given, switch, two
 --     terminator-is                        the last instruction of a block, by the leaders' marks
 -- Assumes nothing.
 use mathlib.Core.Bool.{Bool, true, false, cond, _&&_, _||_, or-true, or-false}
