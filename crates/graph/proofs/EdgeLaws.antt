@@ -4,12 +4,14 @@
 --     unresolved-of, unresolved-none       its record where it is not, and where it is
 --     given-starts, given-found            a given edge's target is a start; the edge to the block that was found
 --     given-next, given-fits, case-next, case-fits     its given edges and its cases stand where the cursor says
+--     flow-is, flow-most, first-is, second-is          its flow under the policy, and its two slots
 --     flow-edges, given-edges              what the instruction at p gives by its flow, and where edges are given
---     switch-edges, switch-unresolved      a Switch: its default, and its cases behind it
+--     switch-edges, two-edges              a Switch: its default, and its cases behind it; any other flow: two slots
+--     X-unresolved                         the same of records, for X of flow, given, switch, two
 --     terminator-is                        the last instruction of a block, by the leaders' marks
 -- Assumes nothing.
 use mathlib.Core.Bool.{Bool, true, false, cond, _&&_, _||_, or-true, or-false}
-use mathlib.Core.Path.{_≡_, refl, sym, ap, _∙_}
+use mathlib.Core.Path.{_≡_, sym, ap, _∙_}
 use mathlib.Core.List.{List, [], _∷_, _++_}
 use Prim.Native.Nat.{ℕ, suc, _+_, _<_, _≤_}
 use native.Mathlib.Decide.{ℕ-discrete}
@@ -20,6 +22,8 @@ use lib.Dec.{eqb}
 use lib.ListN.{length, getD}
 use Rattle.image.specs.Refusal.{refusal, unless}
 use Rattle.image.specs.Record.{caseFrom, edgeFrom}
+use Rattle.image.specs.Accepted.{Accepted}
+use Rattle.image.specs.declared.record.Instruction.{Instruction}
 use Rattle.image.specs.declared.record.GivenEdge.{GivenEdge}
 use Rattle.image.proofs.Checks.{unless-clear}
 use Rattle.image.specs.Image.{Image}
@@ -30,9 +34,9 @@ use Rattle.graph.specs.declared.lookup.Found.{Found}
 use Rattle.graph.specs.declared.lookup.Found.the-variants.{At, Nothing}
 use Rattle.graph.specs.Table.{isStart}
 use Rattle.graph.specs.Lookup.{Finds}
-use Rattle.graph.specs.Flow.{Flow, Role, From, slotsOf, fallsThrough}
+use Rattle.graph.specs.Flow.{Flow, Role, From, Slot, slotsOf, fallsThrough, isCall, flowUnder}
 use Rattle.graph.specs.Transfer.{tableOf, size, instructionAt, addressAt, flowAt, Transfer, hasTarget, slotTransfer, casesAt, transferAt, slotCount, isGiven, givenAt, given}
-use Rattle.graph.specs.Blocks.{isTerminator, blockOf, blockAt}
+use Rattle.graph.specs.Blocks.{isTerminator, blockAt}
 use Rattle.graph.specs.Edges.{resolved, transferEdges, transferUnresolved, givenEdge, edgesAt, unresolvedAt}
 use Rattle.graph.specs.Cursor.{Sourced, cursorAt}
 use Rattle.graph.specs.Build.{givenCheck}
@@ -154,13 +158,28 @@ module _ (m : Image) (p : ℕ) where
     unfolding slotCount flat
     two-unresolved = rw (ne-eqb (flowAt m p) Flow.switch e)
 
-    pub second-slot : transferAt m p 1 ≡ slotTransfer (instructionAt m p) (slotsOf (flowAt m p) .1)
-    unfolding transferAt
-    second-slot = rw (ne-eqb (flowAt m p) Flow.switch e)
+  -- its flow under the policy, and its two slots as the code reads them
+  module _ (i : Instruction) (is : i ≡ instructionAt m p) (f : ℕ) (f-is : f ≡ flowUnder (m .header .calls) (i .flow)) where
+    pub flow-is : f ≡ flowAt m p
+    unfolding flowAt
+    flow-is = f-is ∙ ap (λ (x : Instruction). flowUnder (m .header .calls) (x .flow)) is
 
-  pub first-slot : transferAt m p 0 ≡ slotTransfer (instructionAt m p) (slotsOf (flowAt m p) .0)
-  unfolding transferAt
-  first-slot = refl
+    pub flow-most : Accepted m → f ≤ 12
+    unfolding instructionAt flowUnder
+    flow-most h = rw f-is (go (eqb (m .header .calls) 1 && isCall (i .flow)))
+      where
+        go : (b : Bool) → cond b Flow.next (i .flow) ≤ 12
+        go true = omega arith
+        go false = rw is (h .flows p)
+
+    module _ (x : Transfer) (z : Slot × Slot) (z-is : z ≡ slotsOf f) where
+      pub first-is : x ≡ slotTransfer i (z .0) → x ≡ transferAt m p 0
+      unfolding transferAt
+      first-is e = rw (e, is, z-is, flow-is)
+
+      pub second-is : (f ≡ Flow.switch → ⊥) → x ≡ slotTransfer i (z .1) → x ≡ transferAt m p 1
+      unfolding transferAt
+      second-is other e = rw (ne-eqb (flowAt m p) Flow.switch (rw flow-is at other), e, is, z-is, flow-is)
 
   pub terminator-is : (marks : List Bool) → Leading m marks → p < size m → (eqb (p + 1) (size m) || getD marks (p + 1) false) ≡ isTerminator m p
   unfolding isTerminator

@@ -2,12 +2,12 @@
 --     slots-at     the code's table, by its numbers, is the definition's
 --     kind-at, kind-past     the same of the kinds of roles
 -- Assumes nothing.
-use mathlib.Core.Path.{_≡_, refl, sym, ap, _∙_}
-use mathlib.Core.List.{List, [], _∷_, map}
+use mathlib.Core.Path.{_≡_, refl, sym, _∙_}
+use mathlib.Core.List.{List, [], _∷_}
 use Prim.Native.Nat.{ℕ, zero, suc, _<_, _≤_}
 use native.Mathlib.Omega.{arith}
 use lib.ListN.{length, getD, List·getD-map, List·getD-eq-default}
-use Rattle.graph.specs.Flow.{Role, Slot, empty, slots, slotsOf, kindOf}
+use Rattle.graph.specs.Flow.{Role, empty, slots, slotsOf, kindOf}
 use Rattle.graph.specs.Slots.{slotsIn}
 use Rattle.graph.specs.declared.transfer.Origin.{Origin}
 use Rattle.graph.specs.declared.transfer.Origin.the-variants.{Nowhere, Computed, Named, End}
