@@ -2,7 +2,7 @@
 use mathlib.Core.Bool.{Bool, true, false}
 use mathlib.Core.Path.{_≡_}
 use mathlib.Core.List.{List, []}
-use Prim.Native.Nat.{ℕ, _<_}
+use Prim.Native.Nat.{ℕ, _<_, _≤_}
 use lib.ListN.{getD}
 use Rattle.image.specs.Refusal.{clear}
 use Rattle.image.specs.Image.{Image}
@@ -14,6 +14,7 @@ use Rattle.graph.specs.declared.cursor.Visit.{Visit}
 use Rattle.graph.specs.declared.lookup.Found.{Found}
 use Rattle.graph.specs.declared.lookup.Found.the-variants.{At, Nothing}
 use Rattle.graph.specs.Table.{below}
+use Rattle.graph.specs.Lookup.{Rising}
 use Rattle.graph.specs.Fold.{flat, checks}
 use Rattle.graph.specs.Flow.{kindOf, unresolvedRole}
 use Rattle.graph.specs.Transfer.{tableOf, size, casesAt, Transfer, hasTarget, caseTransfer, transferAt}
@@ -22,6 +23,12 @@ use Rattle.graph.specs.Blocks.{blockOf}
 use Rattle.graph.specs.Edges.{resolved, transferEdges, transferUnresolved}
 use Rattle.graph.specs.Cursor.{Sourced, cursorAt, visitAt}
 use Rattle.graph.specs.Build.{givenCheck}
+
+-- the blocks are numbered by position, in a table that rises
+pub record Numbered (m : Image) (blocks : List ℕ) : Type 0 where
+  pub rising : Rising (tableOf m)
+  pub most : size m ≤ 512
+  pub block : (p : ℕ) → p < size m → getD blocks p 0 ≡ blockOf m p
 
 -- 1 to 9 found nothing, but for 6, and the blocks are numbered by position
 pub record Emitting (m : Image) (blocks : List ℕ) : Type 0 where
