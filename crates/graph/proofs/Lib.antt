@@ -18,3 +18,6 @@ pub mod RouteLaws
 pub mod TransferLaws
 pub mod SearchLaws
 pub mod EdgeLaws
+pub mod MarkLaws
+pub mod FlowLaws
+pub mod RouteMarks

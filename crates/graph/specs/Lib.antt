@@ -21,6 +21,7 @@ pub mod Regions
 pub mod Drafts
 pub mod Build
 pub mod Ranges
+pub mod Marks
 pub mod WellFormed
 pub mod Reached
 pub mod Search
