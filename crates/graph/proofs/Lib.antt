@@ -21,3 +21,4 @@ pub mod EdgeLaws
 pub mod MarkLaws
 pub mod FlowLaws
 pub mod RouteMarks
+pub mod LaidLaws
