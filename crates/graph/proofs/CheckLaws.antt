@@ -1,5 +1,6 @@
 -- Rows of checks.
 --     checks-same                  they hang on f below n alone
+--     checks-clear                 a row of checks that are clear is clear
 --     checks-at                    each of a row that is clear is clear
 --     each-append, each-flat       the checks of a list's members, part by part
 -- Assumes nothing.
@@ -17,6 +18,11 @@ pub checks-same : (f g : ℕ → Check) (n : ℕ) → ((i : ℕ) → i < n → f
 unfolding checks
 checks-same f g zero same = refl
 checks-same f g (suc n) same = rw (checks-same f g n (λ i h. same i (omega arith)), same n (omega arith))
+
+pub checks-clear : (f : ℕ → Check) (n : ℕ) → ((i : ℕ) → i < n → f i ≡ clear) → checks f n ≡ clear
+unfolding checks
+checks-clear f zero each = refl
+checks-clear f (suc n) each = rw (checks-clear f n (λ i h. each i (omega arith)), each n (omega arith))
 
 pub checks-at : (f : ℕ → Check) (n i : ℕ) → checks f n ≡ clear → i < n → f i ≡ clear
 unfolding checks

@@ -9,8 +9,8 @@
 -- Assumes nothing.
 use mathlib.Core.Bool.{Bool, true, false, cond, _&&_, false≢true}
 use mathlib.Core.Path.{_≡_, refl, sym, ap, _∙_}
-use mathlib.Core.Logic.{_⊎_, ⊎-elim}
-use mathlib.Core.List.{List, [], _∷_}
+use mathlib.Core.Logic.{⊎-elim}
+use mathlib.Core.List.{List, []}
 use Prim.Native.Nat.{ℕ, zero, suc, _+_, _<_, _≤_}
 use native.Mathlib.Nat.{eq-or-lt-of-le}
 use native.Mathlib.Numerals.{add-one}
@@ -18,22 +18,20 @@ use native.Mathlib.Decide.{decLt, ℕ-discrete}
 use native.Mathlib.Omega.{arith}
 use borrow.Author.Tests.{eqb-true, eqb-false, eq-eqb, ne-eqb, ltb-true, lt-ltb}
 use lib.Dec.{eqb, ltb}
-use lib.ListN.{length, getD, take, drop}
+use lib.ListN.{length, getD}
 use Rattle.image.specs.Image.{Image}
 use Rattle.image.specs.Record.{instructionFrom, caseFrom, sourceFrom, edgeFrom}
 use Rattle.image.specs.Deal.{total, casesOf, givenOf}
 use Rattle.image.proofs.Deals.{dealt-at, dealt-in, length-dealt}
 use Rattle.image.specs.declared.record.Instruction.{Instruction}
-use Rattle.image.specs.declared.record.Case.{Case}
 use Rattle.image.specs.declared.record.GivenEdge.{GivenEdge}
 use Rattle.graph.specs.declared.cursor.Cursor.{Cursor}
 use Rattle.graph.specs.declared.cursor.Given.{Given}
 use Rattle.graph.specs.declared.cursor.Given.the-variants.{Edges, Flow}
 use Rattle.graph.specs.Fold.{count}
-use Rattle.graph.specs.Table.{entryAt}
 use Rattle.graph.specs.Transfer.{tableOf, size, instructionAt, addressAt, casesAt, sourceAt, isGiven, givenAt, given}
 use Rattle.graph.specs.Cursor.{Sourced, casesBefore, sourcesBefore, edgesBefore, cursorAt, givenFor, givenHere, after}
-use Rattle.graph.proofs.FoldLaws.{decided, some-at, some-where, some-none, flat-none, flat-one, count-yes, count-no}
+use Rattle.graph.proofs.FoldLaws.{decided, some-at, some-where, some-none, flat-one, count-yes, count-no}
 use Rattle.graph.proofs.TableLaws.{length-entries, entry-address, start-has, rises}
 
 -- ---- what `givenFor` says

@@ -17,6 +17,7 @@ pub mod RangeLaws
 pub mod RouteLaws
 pub mod TransferLaws
 pub mod SearchLaws
+pub mod GivenLaws
 pub mod EdgeLaws
 pub mod MarkLaws
 pub mod FlowLaws

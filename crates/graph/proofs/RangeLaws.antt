@@ -9,7 +9,6 @@ use mathlib.Core.Path.{_≡_, refl, ap}
 use mathlib.Core.Logic.{⊎-elim}
 use mathlib.Core.List.{List, [], _∷_, _++_}
 use Prim.Native.Nat.{ℕ, zero, suc, _+_, _<_, _≤_, max}
-use native.Mathlib.Nat.{eq-or-lt-of-le, le-of-suc-le-suc}
 use native.Mathlib.Numerals.{add-one}
 use native.Mathlib.Decide.{decLt, ℕ-discrete}
 use native.Mathlib.Omega.{arith}
@@ -20,7 +19,6 @@ use lib.Seq.{take-suc}
 use Rattle.image.specs.Refusal.{Check, clear, refusal, _then_, unless}
 use Rattle.image.proofs.Checks.{then-left, then-right, unless-clear}
 use Rattle.graph.specs.declared.record.TableEntry.{TableEntry}
-use Rattle.graph.specs.Fold.{checks}
 use Rattle.graph.specs.Table.{entryAt, isStart, below, codeEnd}
 use Rattle.graph.specs.Lookup.{Rising}
 use Rattle.graph.specs.Build.{orderCheck, instructionCheck, tableCheck}

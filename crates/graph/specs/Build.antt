@@ -7,6 +7,7 @@ use lib.Dec.{eqb, ltb, leb}
 use lib.ListN.{length}
 use Rattle.image.specs.Image.{Image}
 use Rattle.image.specs.Refusal.{Refusal, refusal, Check, clear, _then_, unless}
+use Rattle.image.specs.declared.record.GivenEdge.{GivenEdge}
 use Rattle.graph.specs.declared.record.TableEntry.{TableEntry}
 use Rattle.graph.specs.Graph.{Graph}
 use Rattle.graph.specs.Fold.{checks}
@@ -46,10 +47,12 @@ sourceCheck m s = unless (isStart (tableOf m) (sourceAt m s .address)) (refusal 
 unfoldable pub givenMode : Image → Bool
 givenMode m = eqb (m .header .mode) 2
 
+abbrev pub targetCheck : List TableEntry → ℕ → GivenEdge → Check
+targetCheck t source e = unless (isStart t (e .target)) (refusal 8 source (e .target))
+
 unfoldable pub givenCheck : Image → ℕ → Check
 givenCheck m p =
-    cond (isGiven m p)
-    (checks (λ k. unless (isStart (tableOf m) (given m p k .target)) (refusal 8 (addressAt m p) (given m p k .target))) (length (givenAt m p)))
+    cond (isGiven m p) (checks (λ k. targetCheck (tableOf m) (addressAt m p) (given m p k)) (length (givenAt m p)))
     (unless (not (givenMode m) || eqb (instructionAt m p .flow) Flow.next || isCall (instructionAt m p .flow)) (refusal 9 (addressAt m p) 0))
 
 -- 'Per handler: 10 EmptyProtectedRange (start, end), 11 MissingRangeStart, 12 MissingRangeEnd, 13 MissingHandlerEntry.'
