@@ -1,4 +1,5 @@
 -- Records added one after the other.
+--     mores-append, mores-whole                     one list behind another, and one that fits
 --     added-none, added-then                        nothing, and one pass behind another
 --     edges-more, flow-more, calls-more             one turn more of a loop
 --     edge-added, unresolved-added, call-added      what the store adds
@@ -22,12 +23,12 @@ use Rattle.graph.proofs.FoldLaws.{flat-more}
 use Rattle.graph.proofs.StoredLaws.{stored-none, stored-then, whole, more-whole}
 
 module _ {A : Type 0} (s : Section) where
-  mores-append : (p : Part A) (l k : List A) → mores s p (l ++ k) ≡ mores s (mores s p l) k
+  pub mores-append : (p : Part A) (l k : List A) → mores s p (l ++ k) ≡ mores s (mores s p l) k
   unfolding mores
   mores-append p [] k = refl
   mores-append p (a ∷ l) k = mores-append (more s p a) l k
 
-  mores-whole : (p l : List A) → length p + length l ≤ s .most → mores s (whole p) l ≡ whole (p ++ l)
+  pub mores-whole : (p l : List A) → length p + length l ≤ s .most → mores s (whole p) l ≡ whole (p ++ l)
   unfolding mores
   mores-whole p [] h = ap whole (sym (append-nil p))
   mores-whole p (a ∷ l) h =

@@ -3,6 +3,7 @@
 --     table-same                   the list hangs on f below n alone
 --     all-at, all-more, all-fails  what holds of each number holds of one; one number more; one of which it does not hold
 --     some-same, some-more         it hangs on f below n alone; one number more
+--     some-front, some-or          the first number apart, and two tests
 --     some-at, some-where, some-none     it holds of some number if of one, of which one, and of none
 --     flat-none, flat-one          lists of which none or one is not empty
 --     flat-same, flat-front, flat-more     they hang on f below n alone; the first apart, and one more
@@ -12,7 +13,7 @@
 --     count-le                     there are n at most
 -- Assumes nothing.
 use mathlib.Core.Path.{_≡_, refl, sym, ap, _∙_}
-use mathlib.Core.Bool.{Bool, true, false, _&&_, _||_, and-false, or-true, false≢true}
+use mathlib.Core.Bool.{Bool, true, false, _&&_, _||_, and-false, or-true, or-false, or-assoc, false≢true}
 use mathlib.Core.Logic.{_⊎_, inl, inr, ⊎-elim}
 use mathlib.Core.List.{List, [], _∷_, _++_, append-nil, append-assoc}
 use Prim.Native.Nat.{ℕ, zero, suc, _+_, _≤_, _<_}
@@ -82,6 +83,21 @@ pub some-same : (f g : ℕ → Bool) (n : ℕ) → ((i : ℕ) → i < n → f i 
 unfolding some
 some-same f g zero same = refl
 some-same f g (suc n) same = rw (some-same f g n (λ i h. same i (omega arith)), same n (omega arith))
+
+pub some-front : (f : ℕ → Bool) (n : ℕ) → some f (suc n) ≡ (f 0 || some (λ k. f (suc k)) n)
+unfolding some
+some-front f zero = sym (or-false (f 0))
+some-front f (suc n) = ap (λ (b : Bool). b || f (suc n)) (some-front f n) ∙ or-assoc (f 0) (some (λ k. f (suc k)) n) (f (suc n))
+
+pub some-or : (f g : ℕ → Bool) (n : ℕ) → some (λ k. f k || g k) n ≡ (some f n || some g n)
+unfolding some
+some-or f g zero = refl
+some-or f g (suc n) = ap (λ (b : Bool). b || (f n || g n)) (some-or f g n) ∙ or-middle (some f n) (some g n) (f n) (g n)
+  where
+    or-middle : (a b c d : Bool) → ((a || b) || (c || d)) ≡ ((a || c) || (b || d))
+    or-middle true b c d = refl
+    or-middle false true c d = sym (or-true c)
+    or-middle false false c d = refl
 
 pub some-more : (f : ℕ → Bool) (n : ℕ) → some f n ≡ false → f n ≡ false → some f (n + 1) ≡ false
 unfolding some

@@ -21,3 +21,7 @@ pub mod SearchLaws
 pub mod GivenLaws
 pub mod EdgeLaws
 pub mod RuleLaws
+pub mod MarkLaws
+pub mod FlowLaws
+pub mod RouteMarks
+pub mod LaidLaws

@@ -1,5 +1,5 @@
 -- The routes of an image, taken from the flat lists of paths and steps. `AcceptedRoutes` says that the counts add up.
---     length-routes, route-is                   how many, and the route at r, with a run of the paths
+--     length-routes, route-is                   how many, and the route at r, with a run of the paths; length-paths
 --     paths-of, path-of, paths-in               its paths: how many, which, and that they stand among all
 --     path-is, steps-of, step-of, steps-in      the same of a path's steps
 --     paths-next, steps-next                    where the children of the next one start
@@ -123,7 +123,7 @@ module _ (m : RouteImage) where
   unfolding routesOf
   length-routes = length-zip _ (m .routes) dealtPaths (sym (length-deal (λ (r : Route). r .paths) (routeFrom [] 0) (m .routes) (pathsOf m)))
 
-  length-paths : length (pathsOf m) ≡ length (m .paths)
+  pub length-paths : length (pathsOf m) ≡ length (m .paths)
   unfolding pathsOf
   length-paths = length-zip _ (m .paths) dealtSteps (sym (length-deal (λ (p : Path). p .steps) (pathFrom [] 0) (m .paths) (m .steps)))
 

@@ -4,6 +4,7 @@
 --     entry-address                   the same of an image
 --     start-at, start-none            where an instruction starts, and where none does
 --     start-has                       the place of a start
+--     start-never, start-place        which entry stands at an address: none, or that at its position
 --     rises                           what rises step by step rises
 --     below-at, below-most            the position of a start in a table that rises, and a bound
 --     Between, go-right, go-left      a search by halving: where the address can only stand
@@ -99,6 +100,22 @@ below-most (x ∷ t) a = go (ltb (x .address) a) (below-most t a)
     go : (b : Bool) → below t a ≤ length t → mathlib.Core.Bool.cond b (suc (below t a)) (below t a) ≤ suc (length t)
     go true h = omega arith
     go false h = omega arith
+
+pub start-never : (t : List TableEntry) (a k : ℕ) → isStart t a ≡ false → k < length t → eqb (entryAt t k .address) a ≡ false
+start-never t a k e h = ne-eqb _ a (λ same. false≢true (sym e ∙ start-at t a k h same))
+
+pub start-place : (t : List TableEntry) → Rising t → (a k p : ℕ) → isStart t a ≡ true → below t a ≡ k → p < length t → eqb p k ≡ eqb (entryAt t p .address) a
+start-place t rising a k p e at h =
+    elim (ℕ-discrete p k) [
+      | yes same ↦ eq-eqb p k same ∙ sym (eq-eqb _ a (ap (λ (i : ℕ). entryAt t i .address) (same ∙ sym at ∙ there (found .0) (found .1) (found .2)) ∙ found .2))
+      | no ne ↦ ne-eqb p k ne ∙ sym (ne-eqb _ a (λ same. ne (sym (there p h same) ∙ at)))
+    ]
+  where
+    found : (i : ℕ) × (i < length t) × (entryAt t i .address ≡ a)
+    found = start-has t a e
+
+    there : (i : ℕ) → i < length t → entryAt t i .address ≡ a → below t a ≡ i
+    there i lt same = rw same at (below-at t rising i lt)
 
 -- wherever a stands in t, it stands from lo on and before hi
 abbrev pub Between : List TableEntry → ℕ → ℕ → ℕ → Type 0

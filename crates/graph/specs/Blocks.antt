@@ -26,11 +26,13 @@ blockOf m p = count (λ q. isLeader m (suc q)) p
 unfoldable pub blockAt : Image → ℕ → ℕ
 blockAt m a = blockOf m (below (tableOf m) a)
 
+-- the block that ends at p, if one does
+abbrev pub blockEnd : Image → ℕ → List Block
+blockEnd m p = cond (isTerminator m p) (record { first = firstOf m p; count = suc p - firstOf m p } ∷ []) []
+
 -- 'blocks .. are numbered from 0 in order of adding'; 'No instruction: one empty block'
 unfoldable pub blocksOf : Image → List Block
-blocksOf m =
-    cond (eqb (size m) 0) (record { first = 0; count = 0 } ∷ [])
-    (flat (λ p. cond (isTerminator m p) (record { first = firstOf m p; count = suc p - firstOf m p } ∷ []) []) (size m))
+blocksOf m = cond (eqb (size m) 0) (record { first = 0; count = 0 } ∷ []) (flat (λ p. blockEnd m p) (size m))
 
 -- the entry, without one in the image block 0
 unfoldable pub entryOf : Image → ℕ

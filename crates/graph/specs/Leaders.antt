@@ -22,8 +22,11 @@ entryMark m p = eqb p 0 || (m .header .«has_entry» && eqb (addressAt m p) (m .
 unfoldable pub goesOn : Image → ℕ → Bool
 goesOn m q = ltb (suc q) (size m) && eqb (instructionAt m q .end) (addressAt m (suc q))
 
+abbrev pub gapMark : Image → ℕ → ℕ → Bool
+gapMark m q p = not (goesOn m q) && (eqb p (suc q) || eqb (addressAt m p) (instructionAt m q .end))
+
 unfoldable pub sequenceMark : Image → ℕ → Bool
-sequenceMark m p = some (λ q. not (goesOn m q) && (eqb p (suc q) || eqb (addressAt m p) (instructionAt m q .end))) (size m)
+sequenceMark m p = some (λ q. gapMark m q p) (size m)
 
 -- 'each target that is a start, each successor of a flow that ends its block'; a given source's targets are its edges'
 unfoldable pub leadsTo : Image → ℕ → ℕ → Bool
@@ -31,8 +34,11 @@ leadsTo m q a =
     cond (isGiven m q) (some (λ k. eqb (given m q k .target) a) (length (givenAt m q)))
     (some (λ k. hasTarget (transferAt m q k) && eqb (transferAt m q k .target) a) (slotCount m q))
 
+abbrev pub endMark : Image → ℕ → ℕ → Bool
+endMark m q p = endsAt m q && (leadsTo m q (addressAt m p) || eqb p (suc q))
+
 unfoldable pub flowMark : Image → ℕ → Bool
-flowMark m p = some (λ q. endsAt m q && (leadsTo m q (addressAt m p) || eqb p (suc q))) (size m)
+flowMark m p = some (λ q. endMark m q p) (size m)
 
 -- 'each `Exceptional` flow'
 unfoldable pub exceptionalMark : Image → ℕ → Bool
@@ -46,9 +52,11 @@ rangeMark m start end p = leb (below (tableOf m) start) p && leb p (below (table
 unfoldable pub handlerAt : Image → ℕ → Handler
 handlerAt m h = getD (m .handlers) h (handlerFrom [] 0)
 
+abbrev pub protectMark : Image → ℕ → ℕ → Bool
+protectMark m h p = rangeMark m (handlerAt m h .start) (handlerAt m h .end) p || eqb (addressAt m p) (handlerAt m h .entry)
+
 unfoldable pub handlerMark : Image → ℕ → Bool
-handlerMark m p =
-    some (λ h. rangeMark m (handlerAt m h .start) (handlerAt m h .end) p || eqb (addressAt m p) (handlerAt m h .entry)) (length (m .handlers))
+handlerMark m p = some (λ h. protectMark m h p) (length (m .handlers))
 
 unfoldable pub routes : Image → List UnwindRoute
 routes m = routesOf (m .routes)

@@ -21,6 +21,7 @@ pub mod Drafts
 pub mod Build
 pub mod Emit
 pub mod Ranges
+pub mod Marks
 pub mod WellFormed
 pub mod Reached
 pub mod Search

@@ -1,0 +1,88 @@
+-- Marks: what each leader collector adds to those it is lent, and what has passed before the first of them.
+use mathlib.Core.Bool.{Bool, false, cond, _&&_, _||_}
+use mathlib.Core.Path.{_≡_}
+use mathlib.Core.List.{List, []}
+use Prim.Native.Nat.{ℕ, _+_, _<_}
+use lib.Dec.{eqb}
+use lib.ListN.{length, getD}
+use Rattle.image.specs.Refusal.{clear}
+use Rattle.image.specs.Image.{Image, recordsIn}
+use Rattle.image.specs.Record.{instructionFrom, caseFrom, edgeFrom, pathFrom, stepFrom}
+use Rattle.image.specs.declared.section.Section.{Section}
+use Rattle.image.specs.declared.record.Instruction.{Instruction}
+use Rattle.graph.specs.declared.record.TableEntry.{TableEntry}
+use Rattle.graph.specs.Fold.{some, checks}
+use Rattle.graph.specs.Table.{entryAt}
+use Rattle.graph.specs.Flow.{Flow, Slot, slotsOf, flowUnder}
+use Rattle.graph.specs.Transfer.{entriesOf, tableOf, size, addressAt, hasTarget, slotTransfer}
+use Rattle.graph.specs.Cursor.{Sourced}
+use Rattle.graph.specs.Route.{routeAt, routeCheck}
+use Rattle.graph.specs.Leaders.{rangeMark, routes, isLeader}
+use Rattle.graph.specs.Build.{tableCheck, handlerCheck}
+
+-- r has the marks of l and those of f, at each position below n
+pub record Marked (n : ℕ) (f : ℕ → Bool) (l r : List Bool) : Type 0 where
+  pub at : (p : ℕ) → p < n → getD r p false ≡ (getD l p false || f p)
+
+-- the table whose instructions stand in a section
+abbrev pub entriesIn : List ℕ → Section → List TableEntry
+entriesIn l y = entriesOf (recordsIn instructionFrom l y)
+
+-- the instruction at p starts at a
+abbrev pub startMark : List TableEntry → ℕ → ℕ → Bool
+startMark t a p = eqb (entryAt t p .address) a
+
+-- where the slots, the cases and the given edges of an instruction lead
+abbrev pub slotMark : Image → Instruction → Slot → ℕ → Bool
+slotMark m i x p = hasTarget (slotTransfer i x) && eqb (slotTransfer i x .target) (addressAt m p)
+
+abbrev pub caseTarget : Image → ℕ → ℕ → Bool
+caseTarget m k p = eqb (getD (m .cases) k (caseFrom [] 0) .target) (addressAt m p)
+
+unfoldable pub caseMark : Image → ℕ → ℕ → ℕ → Bool
+caseMark m first n p = some (λ k. caseTarget m (first + k) p) n
+
+abbrev pub edgeTarget : Image → ℕ → ℕ → Bool
+edgeTarget m k p = eqb (getD (m .edges) k (edgeFrom [] 0) .target) (addressAt m p)
+
+unfoldable pub edgeMark : Image → ℕ → ℕ → ℕ → Bool
+edgeMark m first n p = some (λ k. edgeTarget m (first + k) p) n
+
+abbrev pub switchCases : ℕ → Instruction → ℕ
+switchCases flow i = cond (eqb flow Flow.switch) (i .cases) 0
+
+-- where an instruction leads whose cases stand from `first` on
+unfoldable pub transferMark : Image → ℕ → Instruction → ℕ → Bool
+transferMark m first i p =
+    let flow = flowUnder (m .header .calls) (i .flow) in
+    slotMark m i (slotsOf flow .0) p || slotMark m i (slotsOf flow .1) p || caseMark m first (switchCases flow i) p
+
+-- what the routes protect, and their entries: the funclet of each step, and the handler of each path
+abbrev pub routeRange : Image → ℕ → ℕ → Bool
+routeRange m r p = rangeMark m (routeAt (routes m) r .start) (routeAt (routes m) r .end) p
+
+unfoldable pub routeRangeMark : Image → ℕ → Bool
+routeRangeMark m p = some (λ r. routeRange m r p) (length (routes m))
+
+abbrev pub stepMark : Image → ℕ → ℕ → Bool
+stepMark m k p = let x = getD (m .routes .steps) k (stepFrom [] 0) in eqb (x .code) 0 && eqb (addressAt m p) (x .value)
+
+unfoldable pub funcletMark : Image → ℕ → Bool
+funcletMark m p = some (λ k. stepMark m k p) (length (m .routes .steps))
+
+abbrev pub pathMark : Image → ℕ → ℕ → Bool
+pathMark m k p = let x = getD (m .routes .paths) k (pathFrom [] 0) in eqb (x .end) 0 && eqb (addressAt m p) (x .handler)
+
+unfoldable pub pathEndMark : Image → ℕ → Bool
+pathEndMark m p = some (λ k. pathMark m k p) (length (m .routes .paths))
+
+-- refusals 1 to 15 have passed, but for 6, 8 and 9
+pub record Passed (m : Image) : Type 0 where
+  pub sourced : Sourced m
+  pub table : tableCheck (tableOf m) ≡ clear
+  pub handlers : checks (handlerCheck m) (length (m .handlers)) ≡ clear
+  pub routed : checks (routeCheck (tableOf m) (routes m)) (length (routes m)) ≡ clear
+
+-- the leaders' marks
+abbrev pub Leading : Image → List Bool → Type 0
+Leading m r = (p : ℕ) → p < size m → getD r p false ≡ isLeader m p
