@@ -40,7 +40,8 @@ use Rattle.graph.specs.Blocks.{isTerminator, blockAt}
 use Rattle.graph.specs.Edges.{resolved, transferEdges, transferUnresolved, givenEdge, edgesAt, unresolvedAt}
 use Rattle.graph.specs.Cursor.{Sourced, cursorAt}
 use Rattle.graph.specs.Build.{givenCheck}
-use Rattle.graph.specs.Emit.{Leading, Emitting, Resolves, edgeBetween, unresolvedFrom, slotEdges, slotUnresolved, caseAt, caseEdges, caseUnresolved}
+use Rattle.graph.specs.Marks.{Leading}
+use Rattle.graph.specs.Emit.{Emitting, Resolves, edgeBetween, unresolvedFrom, slotEdges, slotUnresolved, caseAt, caseEdges, caseUnresolved}
 use Rattle.graph.specs.Fold.{flat}
 use Rattle.graph.proofs.FoldLaws.{flat-same, flat-front}
 use Rattle.graph.proofs.CheckLaws.{checks-at}

@@ -36,10 +36,6 @@ pub record Emitting (m : Image) (blocks : List ℕ) : Type 0 where
   pub given : checks (givenCheck m) (size m) ≡ clear
   pub block : (p : ℕ) → p < size m → getD blocks p 0 ≡ blockOf m p
 
--- the marks of the leaders
-abbrev pub Leading : Image → List Bool → Type 0
-Leading m marks = (p : ℕ) → p < size m → getD marks p false ≡ isLeader m p
-
 -- a cursor, and the visit of the instruction there
 pub record Visiting (m : Image) (c : Cursor) (visit : Visit) : Type 0 where
   pub here : c ≡ cursorAt m (c .at)

@@ -24,10 +24,6 @@ use Rattle.graph.specs.Build.{tableCheck, handlerCheck}
 pub record Marked (n : ℕ) (f : ℕ → Bool) (l r : List Bool) : Type 0 where
   pub at : (p : ℕ) → p < n → getD r p false ≡ (getD l p false || f p)
 
--- the table whose instructions stand in a section
-abbrev pub entriesIn : List ℕ → Section → List TableEntry
-entriesIn l y = entriesOf (recordsIn instructionFrom l y)
-
 -- the instruction at p starts at a
 abbrev pub startMark : List TableEntry → ℕ → ℕ → Bool
 startMark t a p = eqb (entryAt t p .address) a

@@ -17,7 +17,8 @@ ghost use Rattle.graph.specs.Stored.{Stored};
 ghost use Rattle.graph.specs.Adding.{withTable, withBlocks};
 ghost use Rattle.graph.specs.Transfer.{tableEntry, size};
 ghost use Rattle.graph.specs.Blocks.{isTerminator, firstOf, blockOf, blockEnd, blocksOf};
-ghost use Rattle.graph.specs.Marks.{entriesIn, Leading};
+ghost use Rattle.graph.specs.Lookup.{entriesIn};
+ghost use Rattle.graph.specs.Marks.{Leading};
 
 // The instruction table, as the graph keeps it.
 pub fn store_table(g: &mut Words, s: &[u8], y: Section)

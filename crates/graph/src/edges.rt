@@ -41,7 +41,8 @@ ghost use Rattle.graph.specs.Slots.{transferIn};
 ghost use Rattle.graph.specs.Edges.{transferEdges, transferUnresolved, givenEdge, edgesAt, unresolvedAt, normalEdges, unresolvedOf};
 ghost use Rattle.graph.specs.Cursor.{cursorAt};
 ghost use Rattle.graph.specs.Adding.{Added};
-ghost use Rattle.graph.specs.Emit.{Leading, Emitting, Visiting, Resolves, edgeBetween, unresolvedFrom, slotEdges, slotUnresolved, caseEdges, caseUnresolved};
+ghost use Rattle.graph.specs.Marks.{Leading};
+ghost use Rattle.graph.specs.Emit.{Emitting, Visiting, Resolves, edgeBetween, unresolvedFrom, slotEdges, slotUnresolved, caseEdges, caseUnresolved};
 
 const SWITCH: u64 = 12;
 

@@ -13,7 +13,8 @@ ghost use Rattle.image.specs.Refusal.{clear};
 ghost use Rattle.graph.specs.Table.{below, codeEnd, rangeCheck};
 ghost use Rattle.graph.specs.Lookup.{Rising};
 ghost use Rattle.graph.specs.Build.{tableCheck};
-ghost use Rattle.graph.specs.Marks.{entriesIn, Marked, startMark};
+ghost use Rattle.graph.specs.Lookup.{entriesIn};
+ghost use Rattle.graph.specs.Marks.{Marked, startMark};
 
 // The positions from the start of a range up to its end, the end with them.
 pub fn mark_range(

@@ -10,7 +10,7 @@ use Rattle.graph.specs.Words.{heldIn}
 use Rattle.graph.specs.Stored.{Stored}
 use Rattle.graph.specs.Adding.{withTable}
 use Rattle.graph.specs.Transfer.{tableEntry}
-use Rattle.graph.specs.Marks.{entriesIn}
+use Rattle.graph.specs.Lookup.{entriesIn}
 use Rattle.graph.proofs.TableLaws.{size-is}
 use Rattle.graph.proofs.LaidLaws.{table-none, table-more, table-next}
 use native.Mathlib.Omega.{arith}

@@ -3,7 +3,8 @@ use mathlib.Core.Bool.{_&&_}
 use mathlib.Core.Path.{_≡_}
 use Prim.Native.Nat.{_+_, _-_, _≤_}
 use lib.Dec.{ltb, leb}
-use Rattle.graph.specs.Marks.{entriesIn, Marked}
+use Rattle.graph.specs.Lookup.{entriesIn}
+use Rattle.graph.specs.Marks.{Marked}
 use Rattle.graph.specs.Table.{below}
 use Rattle.graph.proofs.TableLaws.{size-is}
 use Rattle.graph.proofs.MarkLaws.{mark-within, run-none, run-more, run-all, not-clear}
