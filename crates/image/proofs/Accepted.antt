@@ -4,7 +4,7 @@
 use mathlib.Core.Bool.{Bool, true, false, not, _||_}
 use mathlib.Core.Path.{_≡_, refl, sym, ap, ap₂, _∙_}
 use mathlib.Core.List.{List, []}
-use Prim.Native.Nat.{ℕ, zero, suc, _+_, _-_, _*_, _≤_, _<_, min}
+use Prim.Native.Nat.{ℕ, zero, suc, _+_, _-_, _*_, _≤_, _<_}
 use native.Mathlib.Nat.{min-le-right, min-eq-left, add-sub-cancel}
 use native.Mathlib.Omega.{arith}
 use borrow.Author.Tests.{eqb-true, ltb-true, eq-eqb, ne-eqb}
@@ -15,7 +15,7 @@ use Rattle.image.specs.Record.{flag, instructionFrom, caseFrom, sourceFr
 use Rattle.image.specs.Refusal.{refusal, Check, clear, refused, _then_, unless}
 use Rattle.image.specs.Form.{bad, field, byte, used4, used8, namesTarget, headerForm, instructionForm, sourceForm, edgeForm, handlerForm, pathForm, stepForm, formOf}
 use Rattle.image.specs.Image.{Image, RouteImage, placeIn, recordsIn, imageIn, routesIn}
-use Rattle.image.specs.Read.{limitOf, childrenAt, childrenIn, childrenOf, recordForm, recordsForm, adds, countForm, sectionForm, sectionAt, endOf, endForm, pairForm, routesForm, routeLayoutAt, codeForm, codeLayoutOf, layoutOf, imageForm, readImage, readRoutes, read, reading}
+use Rattle.image.specs.Read.{limitOf, childrenAt, childrenIn, childrenOf, recordForm, adds, countForm, sectionForm, sectionAt, endOf, endForm, pairForm, routesForm, routeLayoutAt, codeForm, codeLayoutOf, layoutOf, imageForm, readImage, readRoutes, read, reading}
 use Rattle.image.specs.Deal.{total}
 use Rattle.image.specs.Accepted.{Accepted, AcceptedRoutes}
 use Rattle.image.specs.declared.form.Kind.{Kind}

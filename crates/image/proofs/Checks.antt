@@ -2,18 +2,20 @@
 --     checks-more, checks-stop     one check more, where nothing was refused before it
 --     then-left, then-right        what is clear in a row is clear by itself; unless-clear, field-clear, byte-clear likewise
 --     checks-each                  so is each of n checks
+--     there-fits                   the bytes of a field that may hold anything are there,
+--     there-good, there-not        and a field that must be good is bad alone, or refused likewise
 --     place-next                   the place of the next record
 --     product                      a product of two numbers of 32 bits
 -- Assumes nothing.
 use mathlib.Core.Bool.{Bool, true, false, cond}
-use mathlib.Core.Path.{_≡_, refl, _∙_}
+use mathlib.Core.Path.{_≡_, refl, sym, _∙_}
 use mathlib.Core.Logic.{⊎-elim}
 use mathlib.Core.List.{List}
 use Prim.Native.Nat.{ℕ, zero, suc, _+_, _*_, _<_, _≤_}
 use native.Mathlib.Nat.{le-trans, mul-le-mul-left, mul-le-mul-right, mul-suc, eq-or-lt-of-le, le-of-suc-le-suc}
 use native.Mathlib.Numerals.{add-one}
 use native.Mathlib.Omega.{arith}
-use borrow.Author.Tests.{leb-true}
+use borrow.Author.Tests.{leb-true, le-leb}
 use lib.Dec.{leb}
 use lib.ListN.{length}
 use Rattle.image.specs.Little.{le1}
@@ -63,6 +65,30 @@ field-clear l at w good h = go (leb (at + w) (length l)) h
 
 pub byte-clear : (l : List ℕ) (at most : ℕ) → byte l at most ≡ clear → le1 l at ≤ most
 byte-clear l at most h = leb-true (le1 l at) most (field-clear l at 1 (leb (le1 l at) most) h)
+
+-- v is what was found up to a field that may hold anything, itself among it
+module _ (v c : Check) (l : List ℕ) (at w : ℕ) (e : v ≡ (c then field l at w true)) where
+  pub there-fits : v ≡ clear → at + w ≤ length l
+  unfolding field
+  there-fits h = leb-true (at + w) (length l) (go (leb (at + w) (length l)) (then-right c _ (sym e ∙ h)))
+    where
+      go : (there : Bool) → cond there (bad at true) (refused (refusal 1 (length l) 0)) ≡ clear → there ≡ true
+      go true e = refl
+      go false e = absurd (let z : _≡_ {A = ℕ} 0 1 = cc in omega arith)
+
+  module _ (good : Bool) where
+    pub there-good : v ≡ clear → bad at good ≡ (c then field l at w good)
+    unfolding field
+    there-good h = rw (then-left c (field l at w true) (sym e ∙ h), le-leb _ _ (there-fits h))
+
+    pub there-not : (r : Refusal) → v ≡ refused r → v ≡ (c then field l at w good)
+    unfolding field
+    there-not r h = h ∙ go c (leb (at + w) (length l)) (sym h ∙ e)
+      where
+        go : (c : Check) (there : Bool) → refused r ≡ (c then cond there (bad at true) (refused (refusal 1 (length l) 0))) → refused r ≡ (c then cond there (bad at good) (refused (refusal 1 (length l) 0)))
+        go clear true e = absurd (let z : _≡_ {A = ℕ} 0 1 = cc in omega arith)
+        go clear false e = e
+        go (refused q) there e = e
 
 pub place-next : (base w i at : ℕ) → at ≡ base + w * i → at + w ≡ base + w * (i + 1)
 place-next base w i at e = rw (add-one i, mul-suc w i) (omega arith)

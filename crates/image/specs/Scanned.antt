@@ -3,14 +3,17 @@ use mathlib.Core.Bool.{Bool}
 use mathlib.Core.Path.{_≡_}
 use mathlib.Core.List.{List}
 use Prim.Native.Nat.{ℕ}
+use Rattle.image.specs.Little.{le4}
 use Rattle.image.specs.Refusal.{clear, refused}
 use Rattle.image.specs.Verdict.{refusalOf}
 use Rattle.image.specs.Image.{Image, RouteImage, imageIn, routesIn}
-use Rattle.image.specs.Read.{recordsForm, childrenIn, sectionForm, pairForm, codeForm, routesForm, sectionAt, codeLayoutOf, routeLayoutAt, childrenOf, endOf, Reading, read, refusing}
+use Rattle.image.specs.Read.{recordsForm, childrenIn, countForm, sectionForm, pairForm, codeForm, routesForm, sectionAt, codeLayoutOf, routeLayoutAt, childrenOf, endOf, Reading, read, refusing}
 use Rattle.image.specs.declared.form.Kind.{Kind}
 use Rattle.image.specs.declared.scan.Sum.{Sum}
 use Rattle.image.specs.declared.scan.Scan.{Scan}
 use Rattle.image.specs.declared.scan.Scan.the-variants.{Children, Refused}
+use Rattle.image.specs.declared.scan.Counted.{Counted}
+use Rattle.image.specs.declared.scan.Counted.the-variants.{Count, Refused as NotCounted}
 use Rattle.image.specs.declared.scan.ReadSection.{ReadSection}
 use Rattle.image.specs.declared.scan.ReadSection.the-variants.{Read, Refused as NotRead}
 use Rattle.image.specs.declared.read.Pair.{Pair}
@@ -27,9 +30,13 @@ abbrev pub Scanned : Kind → List ℕ → ℕ → ℕ → Scan → Type 0
 Scanned k l base n (Children c) = (recordsForm k l base n ≡ clear) × (c ≡ childrenIn k l base n)
 Scanned k l base n (Refused e) = recordsForm k l base n ≡ refused (refusalOf e)
 
+abbrev pub CountRead : Kind → List ℕ → ℕ → Bool → Sum → Counted → Type 0
+CountRead k l at used sum (Count n) = (countForm k l at used sum ≡ clear) × (n ≡ le4 l at)
+CountRead k l at used sum (NotCounted e) = countForm k l at used sum ≡ refused (refusalOf e)
+
 abbrev pub SectionRead : Kind → List ℕ → ℕ → Bool → Sum → ReadSection → Type 0
-SectionRead k l at used sum (Read y c) =
-    (sectionForm k l at used sum ≡ clear) × (y ≡ sectionAt k l at) × (c ≡ childrenOf k l (sectionAt k l at))
+SectionRead k l at used sum (Read n c) =
+    (sectionForm k l at used sum ≡ clear) × (n ≡ sectionAt k l at .count) × (c ≡ childrenOf k l (sectionAt k l at))
 SectionRead k l at used sum (NotRead e) = sectionForm k l at used sum ≡ refused (refusalOf e)
 
 abbrev pub pairAt : Kind → Kind → List ℕ → ℕ → Pair

@@ -2,10 +2,11 @@
 //
 // Each check goes on from the verdict so far, and a refusal that was found stays.
 use crate::little::byte_at;
-use crate::little::u32_at;
+use crate::little::octet;
+use crate::little::quad;
 use crate::little::u64_at;
 ghost use mathlib.Core.Path.{_≡_};
-ghost use mathlib.Core.Bool.{false, _||_};
+ghost use mathlib.Core.Bool.{true, false, _||_};
 ghost use Prim.Native.Nat.{_+_, _-_, _≤_, _<_};
 ghost use lib.Dec.{eqb, ltb};
 ghost use Rattle.image.specs.Little.{le1, le8};
@@ -37,10 +38,10 @@ pub enum Verdict {
     Refused(ImageError),
 }
 
-// A field of `width` bytes whose value is good or not.
-fn check_field(v: Verdict, s: &[u8], at: usize, width: usize, good: bool) -> Verdict
+// A field of `width` bytes, whatever its value is.
+fn check_there(v: Verdict, s: &[u8], at: usize, width: usize) -> Verdict
     requires { ⌜ (at < 4294967296) × (width ≤ 8) ⌝ }
-    ensures { λ r. ⌜ checkOf r ≡ checkOf v then field (now (s .entry)) at width good ⌝ }
+    ensures { λ r. ⌜ checkOf r ≡ checkOf v then field (now (s .entry)) at width true ⌝ }
 {
     let Verdict::Clear = v else {
         return v;
@@ -48,6 +49,13 @@ fn check_field(v: Verdict, s: &[u8], at: usize, width: usize, good: bool) -> Ver
     if s.len() < at + width {
         return Verdict::Refused(ImageError::BadForm { offset: s.len() });
     }
+    v
+}
+
+// The verdict on a field whose value is good or not.
+fn bad_unless(at: usize, good: bool) -> Verdict
+    ensures { λ r. ⌜ checkOf r ≡ bad at good ⌝ }
+{
     if good {
         Verdict::Clear
     } else {
@@ -55,24 +63,40 @@ fn check_field(v: Verdict, s: &[u8], at: usize, width: usize, good: bool) -> Ver
     }
 }
 
+// Whether a value is used, or else 0.
+pub fn allowed(used: bool, value: u64) -> bool
+    ensures { λ r. ⌜ r ≡ used || eqb value 0 ⌝ }
+{
+    if used {
+        return true;
+    }
+    value == 0
+}
+
 fn check_byte(v: Verdict, s: &[u8], at: usize, most: u64) -> Verdict
     requires { ⌜ at < 4294967296 ⌝ }
     ensures { λ r. ⌜ checkOf r ≡ checkOf v then byte (now (s .entry)) at most ⌝ }
 {
-    let b = byte_at(s, at);
-    check_field(v, s, at, 1, b <= most)
+    let Verdict::Clear = v else {
+        return v;
+    };
+    if s.len() <= at {
+        return Verdict::Refused(ImageError::BadForm { offset: s.len() });
+    }
+    let value = byte_at(s, at);
+    bad_unless(at, value <= most)
 }
 
 // Four bytes that are 0 where they are not used.
-pub fn check_used4(v: Verdict, s: &[u8], at: usize, used: bool) -> Verdict
+fn check_used4(v: Verdict, s: &[u8], at: usize, used: bool) -> Verdict
     requires { ⌜ at < 4294967296 ⌝ }
     ensures { λ r. ⌜ checkOf r ≡ checkOf v then used4 (now (s .entry)) at used ⌝ }
 {
-    if used {
-        return check_field(v, s, at, 4, true);
-    }
-    let x = u32_at(s, at);
-    check_field(v, s, at, 4, x == 0)
+    let v = check_there(v, s, at, 4);
+    let Verdict::Clear = v else {
+        return v;
+    };
+    bad_unless(at, allowed(used, quad(s, at)))
 }
 
 // Eight bytes that are 0 where they are not used.
@@ -80,11 +104,11 @@ fn check_used8(v: Verdict, s: &[u8], at: usize, used: bool) -> Verdict
     requires { ⌜ at < 4294967296 ⌝ }
     ensures { λ r. ⌜ checkOf r ≡ checkOf v then used8 (now (s .entry)) at used ⌝ }
 {
-    if used {
-        return check_field(v, s, at, 8, true);
-    }
-    let x = u64_at(s, at);
-    check_field(v, s, at, 8, x == 0)
+    let v = check_there(v, s, at, 8);
+    let Verdict::Clear = v else {
+        return v;
+    };
+    bad_unless(at, allowed(used, octet(s, at)))
 }
 
 fn names_target(flow: u64) -> bool
@@ -108,28 +132,21 @@ fn check_end(v: Verdict, s: &[u8], at: usize) -> Verdict
         return v;
     };
     let flagged = byte_at(s, at + 16);
-    if flagged == 1 {
-        return v;
-    }
     let end = u64_at(s, at + 8);
-    if end == 0 {
-        v
-    } else {
-        Verdict::Refused(ImageError::BadForm { offset: at + 8 })
-    }
+    bad_unless(at + 8, allowed(flagged == 1, end))
 }
 
 fn instruction_form(s: &[u8], at: usize) -> Verdict
     requires { ⌜ at < 2147483648 ⌝ }
     ensures { λ r. ⌜ checkOf r ≡ instructionForm (now (s .entry)) at ⌝ }
 {
-    let flow = byte_at(s, at + 18);
-    let v = check_used8(Verdict::Clear, s, at, true);
-    let v = check_used8(v, s, at + 8, true);
+    let v = check_there(Verdict::Clear, s, at, 8);
+    let v = check_there(v, s, at + 8, 8);
     let v = check_byte(v, s, at + 16, 1);
     let v = check_end(v, s, at);
     let v = check_byte(v, s, at + 17, 1);
     let v = check_byte(v, s, at + 18, 12);
+    let flow = byte_at(s, at + 18);
     let v = check_used8(v, s, at + 19, names_target(flow));
     check_used4(v, s, at + 27, flow == 12)
 }
@@ -138,8 +155,8 @@ fn case_form(s: &[u8], at: usize) -> Verdict
     requires { ⌜ at < 2147483648 ⌝ }
     ensures { λ r. ⌜ checkOf r ≡ caseForm (now (s .entry)) at ⌝ }
 {
-    let v = check_used4(Verdict::Clear, s, at, true);
-    check_used8(v, s, at + 4, true)
+    let v = check_there(Verdict::Clear, s, at, 4);
+    check_there(v, s, at + 4, 8)
 }
 
 // A given source: the first of its section, or one that lies above the source before it.
@@ -148,39 +165,43 @@ fn source_form(s: &[u8], at: usize, first: bool) -> Verdict
     ensures { λ r. ⌜ checkOf r ≡ sourceForm (now (s .entry)) at first ⌝ }
 {
     let v = check_rising(s, at, first);
-    check_used4(v, s, at + 8, true)
+    check_there(v, s, at + 8, 4)
 }
 
 fn check_rising(s: &[u8], at: usize, first: bool) -> Verdict
     requires { ⌜ (first ≡ false → 12 ≤ at) × (at < 2147483648) ⌝ }
     ensures { λ r. ⌜ checkOf r ≡ field (now (s .entry)) at 8 (first || ltb (le8 (now (s .entry)) (at - 12)) (le8 (now (s .entry)) at)) ⌝ }
 {
+    let v = check_there(Verdict::Clear, s, at, 8);
+    let Verdict::Clear = v else {
+        return v;
+    };
     if first {
-        return check_field(Verdict::Clear, s, at, 8, true);
+        return v;
     }
-    let before = u64_at(s, at - 12);
-    let address = u64_at(s, at);
-    check_field(Verdict::Clear, s, at, 8, before < address)
+    let before = octet(s, at - 12);
+    let address = octet(s, at);
+    bad_unless(at, before < address)
 }
 
 fn edge_form(s: &[u8], at: usize) -> Verdict
     requires { ⌜ at < 2147483648 ⌝ }
     ensures { λ r. ⌜ checkOf r ≡ edgeForm (now (s .entry)) at ⌝ }
 {
-    let v = check_used8(Verdict::Clear, s, at, true);
+    let v = check_there(Verdict::Clear, s, at, 8);
     let v = check_byte(v, s, at + 8, 7);
-    check_used4(v, s, at + 9, true)
+    check_there(v, s, at + 9, 4)
 }
 
 fn handler_form(s: &[u8], at: usize) -> Verdict
     requires { ⌜ at < 2147483648 ⌝ }
     ensures { λ r. ⌜ checkOf r ≡ handlerForm (now (s .entry)) at ⌝ }
 {
-    let kind = byte_at(s, at + 24);
-    let v = check_used8(Verdict::Clear, s, at, true);
-    let v = check_used8(v, s, at + 8, true);
-    let v = check_used8(v, s, at + 16, true);
+    let v = check_there(Verdict::Clear, s, at, 8);
+    let v = check_there(v, s, at + 8, 8);
+    let v = check_there(v, s, at + 16, 8);
     let v = check_byte(v, s, at + 24, 4);
+    let kind = byte_at(s, at + 24);
     check_used4(v, s, at + 25, kind == 4)
 }
 
@@ -188,19 +209,19 @@ fn route_form(s: &[u8], at: usize) -> Verdict
     requires { ⌜ at < 2147483648 ⌝ }
     ensures { λ r. ⌜ checkOf r ≡ routeForm (now (s .entry)) at ⌝ }
 {
-    let v = check_used8(Verdict::Clear, s, at, true);
-    let v = check_used8(v, s, at + 8, true);
-    check_used4(v, s, at + 16, true)
+    let v = check_there(Verdict::Clear, s, at, 8);
+    let v = check_there(v, s, at + 8, 8);
+    check_there(v, s, at + 16, 4)
 }
 
 fn path_form(s: &[u8], at: usize) -> Verdict
     requires { ⌜ at < 2147483648 ⌝ }
     ensures { λ r. ⌜ checkOf r ≡ pathForm (now (s .entry)) at ⌝ }
 {
-    let end = byte_at(s, at);
     let v = check_byte(Verdict::Clear, s, at, 2);
+    let end = byte_at(s, at);
     let v = check_used8(v, s, at + 1, end == 0);
-    check_used4(v, s, at + 9, true)
+    check_there(v, s, at + 9, 4)
 }
 
 fn step_form(s: &[u8], at: usize) -> Verdict
@@ -216,25 +237,39 @@ fn check_tag(v: Verdict, s: &[u8], at: usize) -> Verdict
     requires { ⌜ at < 2147483648 ⌝ }
     ensures { λ r. ⌜ checkOf r ≡ checkOf v then field (now (s .entry)) (at + 1) 8 (eqb (le1 (now (s .entry)) at) 0 || ltb (le8 (now (s .entry)) (at + 1)) 4294967296) ⌝ }
 {
+    let v = check_there(v, s, at + 1, 8);
+    let Verdict::Clear = v else {
+        return v;
+    };
     let code = byte_at(s, at);
     if code == 0 {
-        return check_field(v, s, at + 1, 8, true);
+        return v;
     }
-    let value = u64_at(s, at + 1);
-    check_field(v, s, at + 1, 8, value < 4294967296)
+    let value = octet(s, at + 1);
+    bad_unless(at + 1, value < 4294967296)
 }
 
 // The first twelve bytes.
 pub fn header_form(s: &[u8]) -> Verdict
     ensures { λ r. ⌜ checkOf r ≡ headerForm (now (s .entry)) ⌝ }
 {
-    let version = byte_at(s, 0);
-    let flagged = byte_at(s, 3);
-    let v = check_field(Verdict::Clear, s, 0, 1, version == 1);
+    let v = check_version(s);
     let v = check_byte(v, s, 1, 2);
     let v = check_byte(v, s, 2, 1);
     let v = check_byte(v, s, 3, 1);
+    let flagged = byte_at(s, 3);
     check_used8(v, s, 4, flagged == 1)
+}
+
+// 'Byte 0 is 1'.
+fn check_version(s: &[u8]) -> Verdict
+    ensures { λ r. ⌜ checkOf r ≡ field (now (s .entry)) 0 1 (eqb (le1 (now (s .entry)) 0) 1) ⌝ }
+{
+    if s.len() == 0 {
+        return Verdict::Refused(ImageError::BadForm { offset: s.len() });
+    }
+    let version = byte_at(s, 0);
+    bad_unless(0, version == 1)
 }
 
 // The record of a kind at a place: the first of its section or a later one.

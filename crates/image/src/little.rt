@@ -36,14 +36,21 @@ pub fn u64_at(s: &[u8], at: usize) -> u64
         return 0;
     }
     if 8 <= s.len() - at {
-        quad(s, at) + 0x100000000 * quad(s, at + 4)
+        octet(s, at)
     } else {
         quad_cut(s, at) + 0x100000000 * quad_cut(s, at + 4)
     }
 }
 
-// Four bytes that are there: one load.
-fn quad(s: &[u8], at: usize) -> u64
+// Eight bytes that are there, and four: one load.
+pub fn octet(s: &[u8], at: usize) -> u64
+    requires { ⌜ at + 8 ≤ length (now s) ⌝ }
+    ensures { λ r. ⌜ r ≡ le8 (now (s .entry)) at ⌝ }
+{
+    quad(s, at) + 0x100000000 * quad(s, at + 4)
+}
+
+pub fn quad(s: &[u8], at: usize) -> u64
     requires { ⌜ at + 4 ≤ length (now s) ⌝ }
     ensures { λ r. ⌜ (r ≡ le4 (now (s .entry)) at) × (r < 4294967296) ⌝ }
 {

@@ -9,6 +9,7 @@ use crate::record::header_from;
 use crate::scan::ReadSection;
 use crate::scan::Sum;
 use crate::scan::read_section;
+use crate::scan::section_of;
 use crate::section::CodeLayout;
 use crate::section::Layout;
 use crate::section::RouteLayout;
@@ -103,17 +104,15 @@ fn read_code(s: &[u8], given: bool) -> ReadCode
     };
     let sources = second.parents;
     let edges = second.children;
-    match read_section(Kind::Handlers, s, end_of(edges), true, Sum::Free) {
+    let at = end_of(edges);
+    match read_section(Kind::Handlers, s, at, true, Sum::Free) {
         ReadSection::Refused(e) => ReadCode::Refused(e),
-        ReadSection::Read {
-            section,
-            children: _,
-        } => ReadCode::Read(CodeLayout {
+        ReadSection::Read { count, children: _ } => ReadCode::Read(CodeLayout {
             instructions,
             cases,
             sources,
             edges,
-            handlers: section,
+            handlers: section_of(Kind::Handlers, at, count),
         }),
     }
 }
@@ -130,15 +129,13 @@ fn read_route_sections(s: &[u8], at: usize, used: bool) -> ReadRoutes
     let routes = pair.parents;
     let paths = pair.children;
     let sum = Sum::Exactly(pair.grandchildren);
-    match read_section(Kind::Steps, s, end_of(paths), used, sum) {
+    let behind = end_of(paths);
+    match read_section(Kind::Steps, s, behind, used, sum) {
         ReadSection::Refused(e) => ReadRoutes::Refused(e),
-        ReadSection::Read {
-            section,
-            children: _,
-        } => ReadRoutes::Read(RouteLayout {
+        ReadSection::Read { count, children: _ } => ReadRoutes::Read(RouteLayout {
             routes,
             paths,
-            steps: section,
+            steps: section_of(Kind::Steps, behind, count),
         }),
     }
 }
@@ -150,15 +147,17 @@ fn read_pair(parent: Kind, child: Kind, s: &[u8], at: usize, used: bool) -> Read
 {
     match read_section(parent, s, at, used, Sum::Free) {
         ReadSection::Refused(e) => ReadPair::Refused(e),
-        ReadSection::Read { section, children } => {
-            match read_section(child, s, end_of(section), used, Sum::Exactly(children)) {
+        ReadSection::Read { count, children } => {
+            let parents = section_of(parent, at, count);
+            let behind = end_of(parents);
+            match read_section(child, s, behind, used, Sum::Exactly(children)) {
                 ReadSection::Refused(e) => ReadPair::Refused(e),
                 ReadSection::Read {
-                    section: inner,
+                    count: inner,
                     children: grandchildren,
                 } => ReadPair::Read(Pair {
-                    parents: section,
-                    children: inner,
+                    parents,
+                    children: section_of(child, behind, inner),
                     grandchildren,
                 }),
             }

@@ -2,15 +2,16 @@
 use crate::form::ImageError;
 use crate::form::Kind;
 use crate::form::Verdict;
-use crate::form::check_used4;
+use crate::form::allowed;
 use crate::form::record_form;
+use crate::little::quad;
 use crate::little::u32_at;
 use crate::section::Section;
+ghost use mathlib.Core.List.{List};
 ghost use mathlib.Core.Path.{_≡_};
-ghost use Prim.Native.Nat.{_+_, _*_, _≤_, _<_};
-ghost use Rattle.image.specs.Verdict.{checkOf};
-ghost use Rattle.image.specs.Read.{widthOf, limitOf, childrenAt, adds, countForm};
-ghost use Rattle.image.specs.Scanned.{Scanned, SectionRead};
+ghost use Prim.Native.Nat.{ℕ, _+_, _*_, _≤_, _<_};
+ghost use Rattle.image.specs.Read.{widthOf, limitOf, childrenAt, adds, sectionAt};
+ghost use Rattle.image.specs.Scanned.{Scanned, CountRead, SectionRead};
 
 // What a section's count has to be: as many as its parents' children are, or free.
 pub enum Sum {
@@ -24,8 +25,15 @@ pub enum Scan {
     Refused(ImageError),
 }
 
+// The count of a section, or why it is refused.
+pub enum Counted {
+    Count(u64),
+    Refused(ImageError),
+}
+
+// How many records a section has, and how many children those have in all.
 pub enum ReadSection {
-    Read { section: Section, children: u64 },
+    Read { count: u32, children: u64 },
     Refused(ImageError),
 }
 
@@ -84,23 +92,27 @@ fn adds_up(sum: Sum, count: u64) -> bool
     }
 }
 
-// The count of a section.
-fn count_form(kind: Kind, s: &[u8], at: usize, used: bool, sum: Sum) -> Verdict
+// The count of a section: there, 0 where the section is not used, within its limit, what the sum says.
+fn read_count(kind: Kind, s: &[u8], at: usize, used: bool, sum: Sum) -> Counted
     requires { ⌜ at < 16777216 ⌝ }
-    ensures { λ r. ⌜ checkOf r ≡ countForm kind (now (s .entry)) at used sum ⌝ }
+    ensures { λ r. ⌜ CountRead kind (now (s .entry)) at used sum r ⌝ }
 {
-    let v = check_used4(Verdict::Clear, s, at, used);
-    let Verdict::Clear = v else {
-        return v;
-    };
-    let count = u32_at(s, at);
-    if limit_of(kind) < count {
-        return Verdict::Refused(ImageError::OverLimit { offset: at });
+    if s.len() < at + 4 {
+        return Counted::Refused(ImageError::BadForm { offset: s.len() });
+    }
+    let count = quad(s, at);
+    let limit = limit_of(kind);
+    let unused = !allowed(used, count);
+    if unused {
+        return Counted::Refused(ImageError::BadForm { offset: at });
+    }
+    if limit < count {
+        return Counted::Refused(ImageError::OverLimit { offset: at });
     }
     if adds_up(sum, count) {
-        v
+        Counted::Count(count)
     } else {
-        Verdict::Refused(ImageError::BadForm { offset: at })
+        Counted::Refused(ImageError::BadForm { offset: at })
     }
 }
 
@@ -127,18 +139,27 @@ pub fn read_section(kind: Kind, s: &[u8], at: usize, used: bool, sum: Sum) -> Re
     requires { ⌜ at < 16777216 ⌝ }
     ensures { λ r. ⌜ SectionRead kind (now (s .entry)) at used sum r ⌝ }
 {
-    if let Verdict::Refused(e) = count_form(kind, s, at, used, sum) {
-        return ReadSection::Refused(e);
-    }
-    let count = u32_at(s, at);
-    let children = match scan_records(kind, s, at + 4, count as usize) {
-        Scan::Refused(e) => return ReadSection::Refused(e),
-        Scan::Children(children) => children,
+    let count = match read_count(kind, s, at, used, sum) {
+        Counted::Refused(e) => return ReadSection::Refused(e),
+        Counted::Count(count) => count,
     };
-    let section = Section {
+    match scan_records(kind, s, at + 4, count as usize) {
+        Scan::Refused(e) => ReadSection::Refused(e),
+        Scan::Children(children) => ReadSection::Read {
+            count: count as u32,
+            children,
+        },
+    }
+}
+
+// Where the records of that section stand.
+pub fn section_of(kind: Kind, at: usize, count: u32) -> Section
+    requires { ⌜ at < 16777216 ⌝ }
+    ensures { λ r. ⌜ ((l : List ℕ) → count ≡ sectionAt kind l at .count → r ≡ sectionAt kind l at) ⌝ }
+{
+    Section {
         at: (at + 4) as u32,
         width: width_of(kind) as u32,
-        count: count as u32,
-    };
-    ReadSection::Read { section, children }
+        count,
+    }
 }

@@ -3,8 +3,8 @@ use borrow.Author.Needs.{needs}
 use Rattle.image.proofs.form.edge_form.Statement.{statement}
 use Rattle.image.proofs.form.edge_form.Tie as tie
 
-check-used8-requires : tie.Need-check-used8-requires
-check-used8-requires c κs = search needs
+check-there-requires : tie.Need-check-there-requires
+check-there-requires c κs = search needs
 
 add-check-byte : tie.Need-add-check-byte
 add-check-byte c = search needs
@@ -12,11 +12,11 @@ add-check-byte c = search needs
 check-byte-requires : tie.Need-check-byte-requires
 check-byte-requires c κs = search needs
 
-add-check-used4 : tie.Need-add-check-used4
-add-check-used4 c = search needs
+add-check-there : tie.Need-add-check-there
+add-check-there c = search needs
 
-check-used4-requires : tie.Need-check-used4-requires
-check-used4-requires c κs = search needs
+check-there-requires-2 : tie.Need-check-there-requires-2
+check-there-requires-2 c κs = search needs
 
 returns : tie.Need-returns
 returns c = rw (c .check-used4 .ensures, c .before .check-byte .ensures, c .before .before .check-used8 .ensures)
@@ -25,9 +25,9 @@ pub edge-form-spec : {M : Type 1} → statement M
 edge-form-spec =
     tie.close
     (tie.spec
-    check-used8-requires
+    check-there-requires
     add-check-byte
     check-byte-requires
-    add-check-used4
-    check-used4-requires
+    add-check-there
+    check-there-requires-2
     returns)

@@ -3,20 +3,14 @@ use borrow.Author.Needs.{needs}
 use Rattle.image.proofs.form.instruction_form.Statement.{statement}
 use Rattle.image.proofs.form.instruction_form.Tie as tie
 
-add-byte-at : tie.Need-add-byte-at
-add-byte-at c = search needs
+check-there-requires : tie.Need-check-there-requires
+check-there-requires c κs = search needs
 
-byte-at-requires : tie.Need-byte-at-requires
-byte-at-requires c κs = search needs
+add-check-there : tie.Need-add-check-there
+add-check-there c = search needs
 
-check-used8-requires : tie.Need-check-used8-requires
-check-used8-requires c κs = search needs
-
-add-check-used8 : tie.Need-add-check-used8
-add-check-used8 c = search needs
-
-check-used8-requires-2 : tie.Need-check-used8-requires-2
-check-used8-requires-2 c κs = search needs
+check-there-requires-2 : tie.Need-check-there-requires-2
+check-there-requires-2 c κs = search needs
 
 add-check-byte : tie.Need-add-check-byte
 add-check-byte c = search needs
@@ -39,14 +33,20 @@ add-check-byte-3 c = search needs
 check-byte-requires-3 : tie.Need-check-byte-requires-3
 check-byte-requires-3 c κs = search needs
 
-add-check-used8-2 : tie.Need-add-check-used8-2
-add-check-used8-2 c = search needs
+add-byte-at : tie.Need-add-byte-at
+add-byte-at c = search needs
+
+byte-at-requires : tie.Need-byte-at-requires
+byte-at-requires c κs = search needs
+
+add-check-used8 : tie.Need-add-check-used8
+add-check-used8 c = search needs
 
 names-target-requires : tie.Need-names-target-requires
 names-target-requires c κs = search needs
 
-check-used8-requires-3 : tie.Need-check-used8-requires-3
-check-used8-requires-3 c κs = search needs
+check-used8-requires : tie.Need-check-used8-requires
+check-used8-requires c κs = search needs
 
 add-check-used4 : tie.Need-add-check-used4
 add-check-used4 c = search needs
@@ -58,26 +58,24 @@ returns : tie.Need-returns
 returns c =
     rw (
       c .check-used4 .ensures,
-      c .before .check-used83 .ensures,
+      c .before .check-used8 .ensures,
       c .before .before .names-target .ensures,
-      c .before .before .before .check-byte3 .ensures,
-      c .before .before .before .before .check-byte2 .ensures,
-      c .before .before .before .before .before .check-end .ensures,
-      c .before .before .before .before .before .before .check-byte .ensures,
-      c .before .before .before .before .before .before .before .check-used82 .ensures,
-      c .before .before .before .before .before .before .before .before .check-used8 .ensures,
-      c .before .before .before .before .before .before .before .before .before .byte-at .ensures .0,
+      c .before .before .before .before .check-byte3 .ensures,
+      c .before .before .before .before .before .check-byte2 .ensures,
+      c .before .before .before .before .before .before .check-end .ensures,
+      c .before .before .before .before .before .before .before .check-byte .ensures,
+      c .before .before .before .before .before .before .before .before .check-there2 .ensures,
+      c .before .before .before .before .before .before .before .before .before .check-there .ensures,
+      c .before .before .before .byte-at .ensures .0,
     )
 
 pub instruction-form-spec : {M : Type 1} → statement M
 instruction-form-spec =
     tie.close
     (tie.spec
-    add-byte-at
-    byte-at-requires
-    check-used8-requires
-    add-check-used8
-    check-used8-requires-2
+    check-there-requires
+    add-check-there
+    check-there-requires-2
     add-check-byte
     check-byte-requires
     check-end-requires
@@ -85,9 +83,11 @@ instruction-form-spec =
     check-byte-requires-2
     add-check-byte-3
     check-byte-requires-3
-    add-check-used8-2
+    add-byte-at
+    byte-at-requires
+    add-check-used8
     names-target-requires
-    check-used8-requires-3
+    check-used8-requires
     add-check-used4
     check-used4-requires
     returns)

@@ -3,20 +3,20 @@ use borrow.Author.Needs.{needs}
 use Rattle.image.proofs.form.route_form.Statement.{statement}
 use Rattle.image.proofs.form.route_form.Tie as tie
 
-check-used8-requires : tie.Need-check-used8-requires
-check-used8-requires c κs = search needs
+check-there-requires : tie.Need-check-there-requires
+check-there-requires c κs = search needs
 
-add-check-used8 : tie.Need-add-check-used8
-add-check-used8 c = search needs
+add-check-there : tie.Need-add-check-there
+add-check-there c = search needs
 
-check-used8-requires-2 : tie.Need-check-used8-requires-2
-check-used8-requires-2 c κs = search needs
+check-there-requires-2 : tie.Need-check-there-requires-2
+check-there-requires-2 c κs = search needs
 
-add-check-used4 : tie.Need-add-check-used4
-add-check-used4 c = search needs
+add-check-there-2 : tie.Need-add-check-there-2
+add-check-there-2 c = search needs
 
-check-used4-requires : tie.Need-check-used4-requires
-check-used4-requires c κs = search needs
+check-there-requires-3 : tie.Need-check-there-requires-3
+check-there-requires-3 c κs = search needs
 
 returns : tie.Need-returns
 returns c = rw (c .check-used4 .ensures, c .before .check-used82 .ensures, c .before .before .check-used8 .ensures)
@@ -25,9 +25,9 @@ pub route-form-spec : {M : Type 1} → statement M
 route-form-spec =
     tie.close
     (tie.spec
-    check-used8-requires
-    add-check-used8
-    check-used8-requires-2
-    add-check-used4
-    check-used4-requires
+    check-there-requires
+    add-check-there
+    check-there-requires-2
+    add-check-there-2
+    check-there-requires-3
     returns)

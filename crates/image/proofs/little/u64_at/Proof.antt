@@ -11,20 +11,8 @@ returns c = let a = c .before .before .args in sym (past8 (a .s .now) (a .at) (c
 sub-if2 : tie.Need-sub-if2
 sub-if2 c = search needs
 
-quad-requires : tie.Need-quad-requires
-quad-requires c κs = search needs
-
-add-quad : tie.Need-add-quad
-add-quad c = search needs
-
-quad-requires-2 : tie.Need-quad-requires-2
-quad-requires-2 c κs = search needs
-
-mul-result : tie.Need-mul-result
-mul-result c = search needs
-
-add-result : tie.Need-add-result
-add-result c = search needs
+octet-requires : tie.Need-octet-requires
+octet-requires c κs = search needs
 
 quad-cut-requires : tie.Need-quad-cut-requires
 quad-cut-requires c κs = search needs
@@ -35,11 +23,11 @@ add-quad-cut c = search needs
 quad-cut-requires-2 : tie.Need-quad-cut-requires-2
 quad-cut-requires-2 c κs = search needs
 
-mul-result-2 : tie.Need-mul-result-2
-mul-result-2 c = search needs
+mul-result : tie.Need-mul-result
+mul-result c = search needs
 
-add-result-2 : tie.Need-add-result-2
-add-result-2 c = search needs
+add-result : tie.Need-add-result
+add-result c = search needs
 
 returns-2 : tie.Need-returns-2
 returns-2 c = search needs
@@ -53,15 +41,11 @@ u64-at-spec =
     (tie.spec
     returns
     sub-if2
-    quad-requires
-    add-quad
-    quad-requires-2
-    mul-result
-    add-result
+    octet-requires
     quad-cut-requires
     add-quad-cut
     quad-cut-requires-2
-    mul-result-2
-    add-result-2
+    mul-result
+    add-result
     returns-2
     returns-3)

@@ -37,6 +37,7 @@ enum-known-e-2 c = search needs
 returns-2 : tie.Need-returns-2
 unfolding codeForm codeLayoutOf
 returns-2 c =
+    let l = c .before .before .before .before .before .before .before .before .before .before .before .before .args .s .now in
     let first = rw (c .before .before .before .before .before .before .before .before .pair .given .1) at (c .before .before .before .before .before .before .before .before .before .before .read-pair .ensures) in
     let second = rw (c .before .e2 .given .1, c .before .before .before .before .end-of .ensures, first .1) at (c .before .before .before .read-pair2 .ensures) in
     rw (first .0, second)
@@ -50,9 +51,9 @@ end-of-requires-2 c κs = search needs
 read-section-requires : tie.Need-read-section-requires
 read-section-requires c κs =
     let l = c .before .before .before .before .before .before .before .before .before .before .before .before .before .before .before .args .s .now in
-    let cases = endOf (sectionAt Instructions l 12) in
     let first = rw (c .before .before .before .before .before .before .before .before .before .before .before .pair .given .1) at (c .before .before .before .before .before .before .before .before .before .before .before .before .before .read-pair .ensures) in
     let second = rw (c .before .before .before .before .pair2 .given .1, c .before .before .before .before .before .before .before .end-of .ensures, first .1) at (c .before .before .before .before .before .before .read-pair2 .ensures) in
+    let cases = endOf (sectionAt Instructions l 12) in
     omega (
       arith,
       c .end-of2 .ensures ∙ ap (λ (p : Pair). endOf (p .children)) (second .1),
@@ -65,12 +66,28 @@ read-section-requires c κs =
 enum-known-e-3 : tie.Need-enum-known-e-3
 enum-known-e-3 c = search needs
 
-enum-known-section : tie.Need-enum-known-section
-enum-known-section c = search needs
+enum-known-count : tie.Need-enum-known-count
+enum-known-count c = search needs
+
+section-of-requires : tie.Need-section-of-requires
+section-of-requires c κs =
+    let l = c .before .before .before .before .before .before .before .before .before .before .before .before .before .before .before .before .before .before .before .args .s .now in
+    let first = rw (c .before .before .before .before .before .before .before .before .before .before .before .before .before .before .before .pair .given .1) at (c .before .before .before .before .before .before .before .before .before .before .before .before .before .before .before .before .before .read-pair .ensures) in
+    let second = rw (c .before .before .before .before .before .before .before .before .pair2 .given .1, c .before .before .before .before .before .before .before .before .before .before .before .end-of .ensures, first .1) at (c .before .before .before .before .before .before .before .before .before .before .read-pair2 .ensures) in
+    let cases = endOf (sectionAt Instructions l 12) in
+    omega (
+      arith,
+      c .before .before .before .before .end-of2 .ensures ∙ ap (λ (p : Pair). endOf (p .children)) (second .1),
+      section-ends Instructions l 12,
+      section-ends Cases l cases,
+      section-ends Sources l (endOf (sectionAt Cases l cases)),
+      section-ends Edges l (endOf (sectionAt Sources l (endOf (sectionAt Cases l cases)))),
+    )
 
 returns-3 : tie.Need-returns-3
 unfolding codeForm codeLayoutOf
 returns-3 c =
+    let l = c .before .before .before .before .before .before .before .before .before .before .before .before .before .before .before .before .before .before .before .args .s .now in
     let first = rw (c .before .before .before .before .before .before .before .before .before .before .before .before .before .before .before .pair .given .1) at (c .before .before .before .before .before .before .before .before .before .before .before .before .before .before .before .before .before .read-pair .ensures) in
     let second = rw (c .before .before .before .before .before .before .before .before .pair2 .given .1, c .before .before .before .before .before .before .before .before .before .before .before .end-of .ensures, first .1) at (c .before .before .before .before .before .before .before .before .before .before .read-pair2 .ensures) in
     let third = rw (c .before .e3 .given .1, c .before .before .before .before .end-of2 .ensures, second .1) at (c .before .before .before .read-section .ensures) in
@@ -79,9 +96,11 @@ returns-3 c =
 returns-4 : tie.Need-returns-4
 unfolding codeForm codeLayoutOf
 returns-4 c =
-    let first = rw (c .before .before .before .before .before .before .before .before .before .before .before .before .before .before .before .pair .given .1) at (c .before .before .before .before .before .before .before .before .before .before .before .before .before .before .before .before .before .read-pair .ensures) in
-    let second = rw (c .before .before .before .before .before .before .before .before .pair2 .given .1, c .before .before .before .before .before .before .before .before .before .before .before .end-of .ensures, first .1) at (c .before .before .before .before .before .before .before .before .before .before .read-pair2 .ensures) in
-    let third = rw (c .before .section .given .1, c .before .before .before .before .end-of2 .ensures, second .1) at (c .before .before .before .read-section .ensures) in (
+    let l = c .before .before .before .before .before .before .before .before .before .before .before .before .before .before .before .before .before .before .before .before .args .s .now in
+    let first = rw (c .before .before .before .before .before .before .before .before .before .before .before .before .before .before .before .before .pair .given .1) at (c .before .before .before .before .before .before .before .before .before .before .before .before .before .before .before .before .before .before .read-pair .ensures) in
+    let second = rw (c .before .before .before .before .before .before .before .before .before .pair2 .given .1, c .before .before .before .before .before .before .before .before .before .before .before .before .end-of .ensures, first .1) at (c .before .before .before .before .before .before .before .before .before .before .before .read-pair2 .ensures) in
+    let third = rw (c .before .before .count .given .1, c .before .before .before .before .before .end-of2 .ensures, second .1) at (c .before .before .before .before .read-section .ensures) in
+    let handlers = rw (c .before .before .before .before .before .end-of2 .ensures, second .1) at (c .section-of .ensures l) in (
       rw (first .0, second .0, third .0),
       λ i.
           record {
@@ -89,7 +108,7 @@ returns-4 c =
             cases = first .1 i .children;
             sources = second .1 i .parents;
             edges = second .1 i .children;
-            handlers = third .1 i;
+            handlers = handlers (third .1) i;
           },
     )
 
@@ -109,6 +128,7 @@ read-code-spec =
     end-of-requires-2
     read-section-requires
     enum-known-e-3
-    enum-known-section
+    enum-known-count
+    section-of-requires
     returns-3
     returns-4)

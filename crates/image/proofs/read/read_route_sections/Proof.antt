@@ -28,19 +28,25 @@ end-of-requires c κs = search needs
 read-section-requires : tie.Need-read-section-requires
 read-section-requires c κs =
     let a = c .before .before .before .before .before .before .before .before .args in
-    let l = a .s .now in
     let first = rw (c .before .before .before .before .pair .given .1) at (c .before .before .before .before .before .before .read-pair .ensures) in
-    omega (arith, c .end-of .ensures ∙ ap (λ (p : Pair). endOf (p .children)) (first .1), section-ends Routes l (a .at), section-ends Paths l (endOf (sectionAt Routes l (a .at))))
+    omega (arith, c .end-of .ensures ∙ ap (λ (p : Pair). endOf (p .children)) (first .1), section-ends Routes (a .s .now) (a .at), section-ends Paths (a .s .now) (endOf (sectionAt Routes (a .s .now) (a .at))))
 
 enum-known-e-2 : tie.Need-enum-known-e-2
 enum-known-e-2 c = search needs
 
-enum-known-section : tie.Need-enum-known-section
-enum-known-section c = search needs
+enum-known-count : tie.Need-enum-known-count
+enum-known-count c = search needs
+
+section-of-requires : tie.Need-section-of-requires
+section-of-requires c κs =
+    let a = c .before .before .before .before .before .before .before .before .before .before .before .before .args in
+    let first = rw (c .before .before .before .before .before .before .before .before .pair .given .1) at (c .before .before .before .before .before .before .before .before .before .before .read-pair .ensures) in
+    omega (arith, c .before .before .before .before .end-of .ensures ∙ ap (λ (p : Pair). endOf (p .children)) (first .1), section-ends Routes (a .s .now) (a .at), section-ends Paths (a .s .now) (endOf (sectionAt Routes (a .s .now) (a .at))))
 
 returns-2 : tie.Need-returns-2
 unfolding routesForm
 returns-2 c =
+    let a = c .before .before .before .before .before .before .before .before .before .before .before .before .args in
     let first = rw (c .before .before .before .before .before .before .before .before .pair .given .1) at (c .before .before .before .before .before .before .before .before .before .before .read-pair .ensures) in
     let second = rw (c .before .e2 .given .1, c .before .before .before .before .end-of .ensures, first .1) at (c .before .before .before .read-section .ensures) in
     rw (first .0, second)
@@ -48,9 +54,11 @@ returns-2 c =
 returns-3 : tie.Need-returns-3
 unfolding routesForm routeLayoutAt
 returns-3 c =
-    let first = rw (c .before .before .before .before .before .before .before .before .pair .given .1) at (c .before .before .before .before .before .before .before .before .before .before .read-pair .ensures) in
-    let second = rw (c .before .section .given .1, c .before .before .before .before .end-of .ensures, first .1) at (c .before .before .before .read-section .ensures) in
-    (rw (first .0, second .0), rw (first .1, second .1))
+    let a = c .before .before .before .before .before .before .before .before .before .before .before .before .before .args in
+    let first = rw (c .before .before .before .before .before .before .before .before .before .pair .given .1) at (c .before .before .before .before .before .before .before .before .before .before .before .read-pair .ensures) in
+    let second = rw (c .before .before .count .given .1, c .before .before .before .before .before .end-of .ensures, first .1) at (c .before .before .before .before .read-section .ensures) in
+    let steps = rw (c .before .before .before .before .before .end-of .ensures, first .1) at (c .section-of .ensures (a .s .now)) in
+    (rw (first .0, second .0), rw (first .1, steps (second .1)))
 
 pub read-route-sections-spec : {M : Type 1} → statement M
 read-route-sections-spec =
@@ -63,6 +71,7 @@ read-route-sections-spec =
     end-of-requires
     read-section-requires
     enum-known-e-2
-    enum-known-section
+    enum-known-count
+    section-of-requires
     returns-2
     returns-3)
