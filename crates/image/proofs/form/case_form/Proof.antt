@@ -13,7 +13,7 @@ check-there-requires-2 : tie.Need-check-there-requires-2
 check-there-requires-2 c κs = search needs
 
 returns : tie.Need-returns
-returns c = rw (c .check-used8 .ensures, c .before .check-used4 .ensures)
+returns c = cc
 
 pub case-form-spec : {M : Type 1} → statement M
 case-form-spec =

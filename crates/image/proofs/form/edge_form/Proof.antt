@@ -19,7 +19,7 @@ check-there-requires-2 : tie.Need-check-there-requires-2
 check-there-requires-2 c κs = search needs
 
 returns : tie.Need-returns
-returns c = rw (c .check-used4 .ensures, c .before .check-byte .ensures, c .before .before .check-used8 .ensures)
+returns c = cc
 
 pub edge-form-spec : {M : Type 1} → statement M
 edge-form-spec =

@@ -37,7 +37,7 @@ check-used4-requires : tie.Need-check-used4-requires
 check-used4-requires c κs = search needs
 
 returns : tie.Need-returns
-returns c = rw (c .check-used4 .ensures, c .before .check-byte .ensures, c .before .before .check-used83 .ensures, c .before .before .before .check-used82 .ensures, c .before .before .before .before .check-used8 .ensures, c .before .before .before .before .before .byte-at .ensures .0)
+returns c = cc
 
 pub handler-form-spec : {M : Type 1} → statement M
 handler-form-spec =

@@ -22,7 +22,7 @@ check-there-requires : tie.Need-check-there-requires
 check-there-requires c κs = search needs
 
 returns : tie.Need-returns
-returns c = rw (c .check-used4 .ensures, c .before .check-used8 .ensures, c .before .before .check-byte .ensures, c .before .before .before .byte-at .ensures .0)
+returns c = cc
 
 pub path-form-spec : {M : Type 1} → statement M
 path-form-spec =

@@ -19,7 +19,7 @@ check-there-requires-3 : tie.Need-check-there-requires-3
 check-there-requires-3 c κs = search needs
 
 returns : tie.Need-returns
-returns c = rw (c .check-used4 .ensures, c .before .check-used82 .ensures, c .before .before .check-used8 .ensures)
+returns c = cc
 
 pub route-form-spec : {M : Type 1} → statement M
 route-form-spec =

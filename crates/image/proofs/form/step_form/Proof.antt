@@ -1,4 +1,3 @@
--- Each check goes on from the one before. Assumes nothing.
 use borrow.Author.Needs.{needs}
 use Rattle.image.proofs.form.step_form.Statement.{statement}
 use Rattle.image.proofs.form.step_form.Tie as tie
@@ -10,7 +9,7 @@ check-tag-requires : tie.Need-check-tag-requires
 check-tag-requires c κs = search needs
 
 returns : tie.Need-returns
-returns c = rw (c .check-tag .ensures, c .before .check-byte .ensures)
+returns c = cc
 
 pub step-form-spec : {M : Type 1} → statement M
 step-form-spec = tie.close (tie.spec check-byte-requires check-tag-requires returns)
