@@ -64,7 +64,7 @@ def unfoldable():
     for file in sorted(sum((glob.glob(f'crates/{c}/specs/*.antt', root_dir=ROOT) for c in ('image', 'graph', 'unwind')), [])):
         _, crate, _, module = file[:-5].split('/')
         text = open(os.path.join(ROOT, file), encoding='utf-8').read()
-        names += [f'Rattle.{crate}.specs.{module}.{name}' for name in re.findall(r'^ *unfoldable pub (\S+)', text, re.M)]
+        names += [f'Rattle.{crate}.specs.{module}.{name}' for name in re.findall(r'^ *unfoldable pub (?!use )(\S+)', text, re.M)]
     return ' '.join(names)
 
 

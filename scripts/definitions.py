@@ -131,7 +131,7 @@ def unfoldable():
     for file in sorted(glob.glob('crates/image/specs/*.antt', root_dir=ROOT) + glob.glob('crates/graph/specs/*.antt', root_dir=ROOT)):
         _, crate, _, module = file[:-5].split('/')
         text = open(os.path.join(ROOT, file), encoding='utf-8').read()
-        names += [f'Rattle.{crate}.specs.{module}.{name}' for name in re.findall(r'^unfoldable pub (\S+)', text, re.M)]
+        names += [f'Rattle.{crate}.specs.{module}.{name}' for name in re.findall(r'^unfoldable pub (?!use )(\S+)', text, re.M)]
     return ' '.join(names)
 
 
