@@ -26,3 +26,4 @@ pub mod FlowLaws
 pub mod RouteMarks
 pub mod LaidLaws
 pub mod BoundLaws
+pub mod ContinuationLaws

@@ -70,7 +70,7 @@ pub fn add_normal_edges(
 }
 
 // Whether the instruction at p is the last of its block: none follows, or the next one leads.
-fn is_terminator(marks: &[bool; 512], n: usize, p: usize) -> bool
+pub fn is_terminator(marks: &[bool; 512], n: usize, p: usize) -> bool
     requires { ⌜ (p < n) × (n ≤ 512) ⌝ }
     ensures { λ r. ⌜ r ≡ (eqb (p + 1) n || getD (now (marks .entry)) (p + 1) false) ⌝ }
 {

@@ -3,6 +3,7 @@ mod blocks;
 pub mod blockset;
 mod calls;
 mod checks;
+mod continuations;
 mod cursor;
 mod drafts;
 mod edges;
