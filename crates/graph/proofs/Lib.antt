@@ -12,6 +12,7 @@ pub mod Rule21
 pub mod TableLaws
 pub mod DraftLaws
 pub mod RegionLaws
+pub mod ExceptionLaws
 pub mod CursorLaws
 pub mod CheckLaws
 pub mod RangeLaws

@@ -1,4 +1,4 @@
-// The edges of a built graph: the normal edges of each block's end, and the unwind edges of the handlers.
+// The normal edges of a built graph: those of each block's end.
 use crate::cursor::Cursor;
 use crate::cursor::Given;
 use crate::cursor::Visit;
@@ -218,7 +218,7 @@ fn resolve(s: &[u8], y: Layout, x: Transfer) -> Found
     Found::Nothing
 }
 
-fn edge_between(source: u64, target: u64, address: u64, x: Transfer) -> Edge
+pub fn edge_between(source: u64, target: u64, address: u64, x: Transfer) -> Edge
     ensures { λ r. ⌜ r ≡ edgeBetween source target address (transferIn x) ⌝ }
 {
     let role = x.role;

@@ -8,6 +8,7 @@ mod cursor;
 mod drafts;
 mod edges;
 pub mod error;
+mod exceptions;
 mod leaders;
 mod lookup;
 mod marks;
