@@ -5,27 +5,31 @@
 --     rest-none                    nothing is left of a whole
 --     built-all, built-stop        blocks up to one that is built are; none is behind the one that fills the table
 --     repeats-built, repeats-none  a run that repeats a built one, and one that is not
---     some-from                    what holds of none below k and of none from k on holds of none
+--     some-from, all-from          what holds of none, or each, below k and from k on
+--     inPlace, place-test, place-fits     a built block begins where those before it end, and stays in the table
+--     covers-not, covers-full, covers-end     a block out of place, the one that fills the table, and none does
 -- Assumes nothing.
 use mathlib.Core.Path.{_≡_, refl, sym, ap, _∙_}
-use mathlib.Core.Bool.{Bool, true, false, _&&_, and-true, or-true}
+use mathlib.Core.Bool.{Bool, true, false, not, _&&_, _||_, and-true, or-true, false≢true}
 use mathlib.Core.List.{List}
 use mathlib.Core.Logic.{_⊎_, ⊎-elim}
-use Prim.Native.Nat.{ℕ, zero, suc, _+_, _≤_, _<_}
+use Prim.Native.Nat.{ℕ, zero, suc, _+_, _-_, _≤_, _<_}
 use native.Mathlib.Nat.{eq-or-lt-of-le, le-of-suc-le-suc}
 use native.Mathlib.Numerals.{add-one}
 use native.Mathlib.Decide.{decLt}
 use native.Mathlib.Omega.{arith}
-use borrow.Author.Tests.{eq-eqb, ne-eqb, lt-ltb, le-ltb}
-use lib.Dec.{eqb, ltb}
+use borrow.Author.Tests.{eq-eqb, ne-eqb, lt-ltb, le-ltb, lt-leb, le-leb, leb-true}
+use lib.Dec.{eqb, ltb, leb}
 use lib.ListN.{length}
+use Rattle.graph.proofs.FoldLaws.{all-fails}
 use Rattle.image.specs.Refusal.{Refusal, refusal, Check, clear, refused, _then_, unless}
 use Rattle.graph.specs.declared.record.TableEntry.{TableEntry}
+use Rattle.graph.specs.declared.record.Block.{Block}
 use Rattle.graph.specs.Graph.{Graph, block}
 use Rattle.graph.specs.Fold.{some, all, checks, sum}
 use Rattle.graph.specs.Table.{entryAt}
 use Rattle.graph.specs.Build.{orderCheck, instructionCheck}
-use Rattle.graph.specs.WellFormed.{passes, filled, isBuilt, Built, repeats}
+use Rattle.graph.specs.WellFormed.{passes, filled, isBuilt, Built, coversTable, repeats}
 
 -- ---- the table
 
@@ -86,6 +90,15 @@ some-from f k (suc n) h none rest =
     (λ lt. let before = some-from f k n (le-of-suc-le-suc lt) none (λ i le l. rest i le (omega arith)) in rw (before, rest n (le-of-suc-le-suc lt) (omega arith)) refl)
     (eq-or-lt-of-le h)
 
+pub all-from : (f : ℕ → Bool) (k n : ℕ) → k ≤ n → all f k ≡ true → ((i : ℕ) → k ≤ i → i < n → f i ≡ true) → all f n ≡ true
+unfolding all
+all-from f k zero h each rest = let start : k ≡ 0 = omega arith in rw start at each
+all-from f k (suc n) h each rest =
+    ⊎-elim
+    (λ same. rw same at each)
+    (λ lt. let before = all-from f k n (le-of-suc-le-suc lt) each (λ i le l. rest i le (omega arith)) in rw (before, rest n (le-of-suc-le-suc lt) (omega arith)) refl)
+    (eq-or-lt-of-le h)
+
 -- ---- built blocks
 
 module _ (g : Graph) where
@@ -133,3 +146,56 @@ module _ (g : Graph) where
 
   pub repeats-none : (b n : ℕ) → Built g n → some (repeats g b) n ≡ false → some (repeats g b) (length (g .blocks)) ≡ false
   repeats-none b n built none = some-from (repeats g b) n (length (g .blocks)) (built .0) none (λ i le lt. repeats-not b i (built .1 i lt ∙ le-ltb i n le))
+
+  -- ---- the table covered
+
+  abbrev pub inPlace : ℕ → Bool
+  inPlace b = not (isBuilt g b) || (eqb (block g b .first) (filled g b) && leb (filled g (suc b)) (length (g .table)))
+
+  filled-suc : (b : ℕ) → filled g (suc b) ≡ filled g b + block g b .count
+  unfolding filled sum
+  filled-suc b = refl
+
+  -- a run that ends in the table is no longer than what is left of it
+  fits : (b : ℕ) → filled g b ≤ length (g .table) → leb (filled g (suc b)) (length (g .table)) ≡ not (ltb (length (g .table) - filled g b) (block g b .count))
+  fits b h =
+      elim (decLt (length (g .table) - filled g b) (block g b .count)) [
+        | yes lt ↦ rw (lt-ltb (length (g .table) - filled g b) (block g b .count) lt) (lt-leb (filled g (suc b)) (length (g .table)) (omega (arith, filled-suc b)))
+        | no le ↦ rw (le-ltb (length (g .table) - filled g b) (block g b .count) (omega arith)) (le-leb (filled g (suc b)) (length (g .table)) (omega (arith, filled-suc b)))
+      ]
+
+  -- a built block, tested by what it holds and what is filled
+  pub place-test : (b : ℕ) (x : Block) (run n : ℕ) (out : Bool) → x ≡ block g b → run ≡ filled g b → n ≡ length (g .table) → isBuilt g b ≡ true → run ≤ n
+      → (not (eqb (x .first) run) || ltb (n - run) (x .count)) ≡ out → inPlace b ≡ not out
+  place-test b x run n out is so-far whole built h e =
+      rw (built, fits b (rw (← so-far, ← whole) h)) (both (eqb (block g b .first) (filled g b)) (ltb (length (g .table) - filled g b) (block g b .count)) ∙ ap not (rw (is, so-far, whole) at e))
+    where
+      both : (x y : Bool) → (x && not y) ≡ not (not x || y)
+      both true y = refl
+      both false y = refl
+
+  pub place-fits : (b : ℕ) → isBuilt g b ≡ true → inPlace b ≡ true → filled g (b + 1) ≤ length (g .table)
+  place-fits b is h = rw add-one (leb-true (filled g (suc b)) (length (g .table)) (second (eqb (block g b .first) (filled g b)) _ (rw is at h)))
+    where
+      second : (x y : Bool) → (x && y) ≡ true → y ≡ true
+      second true y h = h
+      second false y h = absurd (false≢true h)
+
+  pub covers-not : (b : ℕ) → b < length (g .blocks) → inPlace b ≡ false → coversTable g ≡ false
+  unfolding coversTable
+  covers-not b h out = rw (all-fails inPlace (length (g .blocks)) b h out)
+
+  pub covers-full : (i : ℕ) → i < length (g .blocks) → all inPlace (i + 1) ≡ true → filled g (i + 1) ≡ length (g .table) → coversTable g ≡ true
+  unfolding coversTable
+  covers-full i h each full =
+      rw (all-from inPlace (i + 1) (length (g .blocks)) (omega arith) each (λ b le lt. rw (built-no b (omega arith) (omega (arith, filled-le (i + 1) b le)))))
+      (le-leb (length (g .table)) (filled g (length (g .blocks))) (omega (arith, filled-le (i + 1) (length (g .blocks)) (omega arith))))
+
+  pub covers-end : all inPlace (length (g .blocks)) ≡ true → filled g (length (g .blocks)) ≤ length (g .table) → eqb (filled g (length (g .blocks))) (length (g .table)) ≡ coversTable g
+  unfolding coversTable
+  covers-end each h =
+      rw each
+      (elim (decLt (filled g (length (g .blocks))) (length (g .table))) [
+        | yes lt ↦ ne-eqb (filled g (length (g .blocks))) (length (g .table)) (omega arith) ∙ sym (lt-leb (length (g .table)) (filled g (length (g .blocks))) lt)
+        | no le ↦ eq-eqb (filled g (length (g .blocks))) (length (g .table)) (omega arith) ∙ sym (le-leb (length (g .table)) (filled g (length (g .blocks))) (omega arith))
+      ])

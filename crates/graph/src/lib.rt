@@ -15,6 +15,6 @@ pub mod record;
 mod regions;
 mod resume;
 mod route;
-mod rule;
+pub mod rule;
 pub mod store;
 mod transfer;

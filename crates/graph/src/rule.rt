@@ -1,4 +1,4 @@
-// Rule 21, 'the graph is none, unless all of this holds', asked of any words: a function for each phrase.
+// Rule 21, 'the graph is none, unless all of this holds', asked of any words: `is_graph`, and a function for each phrase.
 use crate::blockset::all_below;
 use crate::store::Words;
 use crate::store::blocks::block_at;
@@ -7,6 +7,7 @@ use crate::store::calls::call_at;
 use crate::store::calls::call_count;
 use crate::store::edges::edge_at;
 use crate::store::edges::edge_count;
+use crate::store::entry;
 use crate::store::handlers::handler_at;
 use crate::store::handlers::handler_count;
 use crate::store::regions::region_at;
@@ -15,6 +16,7 @@ use crate::store::table::table_at;
 use crate::store::table::table_count;
 use crate::store::unresolved::unresolved_at;
 use crate::store::unresolved::unresolved_count;
+use crate::store::within_limits;
 ghost use mathlib.Core.Path.{_≡_};
 ghost use mathlib.Core.Bool.{not, _&&_, _||_};
 ghost use Prim.Native.Nat.{_<_};
@@ -25,7 +27,44 @@ ghost use Rattle.graph.specs.Build.{instructionCheck, tableCheck};
 ghost use Rattle.graph.specs.Graph.{block, edge, region, handler, unresolvedTransfer, callSite};
 ghost use Rattle.graph.specs.Table.{entryAt};
 ghost use Rattle.graph.specs.Words.{heldIn};
-ghost use Rattle.graph.specs.WellFormed.{passes, isBlock, edgeEndsExist, within, regionBlocksExist, parentsExist, namesHandler, sameReference, referencesMatch, inSets, isBuilt, Built, repeats, copiesRepeat, noneEmpty};
+ghost use Rattle.graph.specs.WellFormed.{passes, isBlock, edgeEndsExist, within, regionBlocksExist, parentsExist, namesHandler, sameReference, referencesMatch, inSets, isBuilt, Built, coversTable, repeats, copiesRepeat, noneEmpty, wellFormed};
+
+// Whether the words hold a graph: all of rule 21.
+pub fn is_graph(g: &Words) -> bool
+    ensures { λ r. ⌜ r ≡ wellFormed (heldIn (now (g .entry))) ⌝ }
+{
+    if !within_limits(g) {
+        return false;
+    }
+    if !table_passes(g) {
+        return false;
+    }
+    if !is_block(g, entry(g)) {
+        return false;
+    }
+    if !edge_ends_exist(g) {
+        return false;
+    }
+    if !region_blocks_exist(g) {
+        return false;
+    }
+    if !parents_exist(g) {
+        return false;
+    }
+    if !references_match(g) {
+        return false;
+    }
+    if !in_sets(g) {
+        return false;
+    }
+    if !covers_table(g) {
+        return false;
+    }
+    if !copies_repeat(g) {
+        return false;
+    }
+    none_empty(g)
+}
 
 // 'an instruction table .. that passes 3 to 5'
 fn table_passes(g: &Words) -> bool
@@ -303,6 +342,26 @@ fn calls_in_sets(g: &Words) -> bool
         }
     }
     true
+}
+
+// 'built blocks cover the table in order'
+fn covers_table(g: &Words) -> bool
+    ensures { λ r. ⌜ r ≡ coversTable (heldIn (now (g .entry)) .graph) ⌝ }
+{
+    let n = block_count(g);
+    let table = table_count(g) as u64;
+    let mut filled = 0;
+    for i in 0..n {
+        let b = block_at(g, i);
+        if (b.first != filled) | (table - filled < b.count) {
+            return false;
+        }
+        filled += b.count;
+        if filled == table {
+            return true;
+        }
+    }
+    filled == table
 }
 
 // How many blocks are built: the first ones, until their runs fill the table.
