@@ -7,7 +7,7 @@
 --     some-at, some-where, some-none     it holds of some number if of one, of which one, and of none
 --     flat-none, flat-one          lists of which none or one is not empty
 --     flat-same, flat-front, flat-more     they hang on f below n alone; the first apart, and one more
---     count-same                   the count hangs on f below n alone
+--     count-same, count-none       the count hangs on f below n alone; f holds of none
 --     count-front, count-add       the first number apart, and the first m
 --     count-one                    f holds of one number more
 --     count-le                     there are n at most
@@ -168,6 +168,11 @@ pub count-same : (f g : ℕ → Bool) (n : ℕ) → ((k : ℕ) → k < n → f k
 unfolding count
 count-same f g zero same = refl
 count-same f g (suc n) same = rw (same n (omega arith), count-same f g n (λ k h. same k (omega arith)))
+
+pub count-none : (f : ℕ → Bool) (n : ℕ) → ((k : ℕ) → k < n → f k ≡ false) → count f n ≡ 0
+unfolding count
+count-none f zero none = refl
+count-none f (suc n) none = count-no f n (none n (omega arith)) ∙ count-none f n (λ k h. none k (omega arith))
 
 pub count-add : (f : ℕ → Bool) (m n : ℕ) → count f (m + n) ≡ count f m + count (λ (k : ℕ). f (m + k)) n
 unfolding count

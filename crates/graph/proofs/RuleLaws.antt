@@ -8,6 +8,7 @@
 --     some-from, all-from          what holds of none, or each, below k and from k on
 --     inPlace, place-test, place-fits     a built block begins where those before it end, and stays in the table
 --     covers-not, covers-full, covers-end     a block out of place, the one that fills the table, and none does
+--     Stands, stands               each phrase of a graph that the rule lets pass
 -- Assumes nothing.
 use mathlib.Core.Path.{_≡_, refl, sym, ap, _∙_}
 use mathlib.Core.Bool.{Bool, true, false, not, _&&_, _||_, and-true, or-true, false≢true}
@@ -25,11 +26,11 @@ use Rattle.graph.proofs.FoldLaws.{all-fails}
 use Rattle.image.specs.Refusal.{Refusal, refusal, Check, clear, refused, _then_, unless}
 use Rattle.graph.specs.declared.record.TableEntry.{TableEntry}
 use Rattle.graph.specs.declared.record.Block.{Block}
-use Rattle.graph.specs.Graph.{Graph, block}
+use Rattle.graph.specs.Graph.{Graph, Held, block}
 use Rattle.graph.specs.Fold.{some, all, checks, sum}
 use Rattle.graph.specs.Table.{entryAt}
-use Rattle.graph.specs.Build.{orderCheck, instructionCheck}
-use Rattle.graph.specs.WellFormed.{passes, filled, isBuilt, Built, coversTable, repeats}
+use Rattle.graph.specs.Build.{orderCheck, instructionCheck, tableCheck}
+use Rattle.graph.specs.WellFormed.{withinLimits, passes, isBlock, edgeEndsExist, regionBlocksExist, parentsExist, referencesMatch, inSets, filled, isBuilt, Built, coversTable, repeats, copiesRepeat, noneEmpty, wellFormed}
 
 -- ---- the table
 
@@ -98,6 +99,10 @@ all-from f k (suc n) h each rest =
     (λ same. rw same at each)
     (λ lt. let before = all-from f k n (le-of-suc-le-suc lt) each (λ i le l. rest i le (omega arith)) in rw (before, rest n (le-of-suc-le-suc lt) (omega arith)) refl)
     (eq-or-lt-of-le h)
+
+both-true : (x y : Bool) → (x && y) ≡ true → (x ≡ true) × (y ≡ true)
+both-true true y h = (refl, h)
+both-true false y h = absurd (false≢true h)
 
 -- ---- built blocks
 
@@ -175,11 +180,7 @@ module _ (g : Graph) where
       both false y = refl
 
   pub place-fits : (b : ℕ) → isBuilt g b ≡ true → inPlace b ≡ true → filled g (b + 1) ≤ length (g .table)
-  place-fits b is h = rw add-one (leb-true (filled g (suc b)) (length (g .table)) (second (eqb (block g b .first) (filled g b)) _ (rw is at h)))
-    where
-      second : (x y : Bool) → (x && y) ≡ true → y ≡ true
-      second true y h = h
-      second false y h = absurd (false≢true h)
+  place-fits b is h = rw add-one (leb-true (filled g (suc b)) (length (g .table)) (both-true (eqb (block g b .first) (filled g b)) _ (rw is at h) .1))
 
   pub covers-not : (b : ℕ) → b < length (g .blocks) → inPlace b ≡ false → coversTable g ≡ false
   unfolding coversTable
@@ -199,3 +200,33 @@ module _ (g : Graph) where
         | yes lt ↦ ne-eqb (filled g (length (g .blocks))) (length (g .table)) (omega arith) ∙ sym (lt-leb (length (g .table)) (filled g (length (g .blocks))) lt)
         | no le ↦ eq-eqb (filled g (length (g .blocks))) (length (g .table)) (omega arith) ∙ sym (le-leb (length (g .table)) (filled g (length (g .blocks))) (omega arith))
       ])
+
+-- ---- the whole rule
+
+pub record Stands (h : Held) : Type 0 where
+  pub limits : withinLimits (h .counts) ≡ true
+  pub table : passes (tableCheck (h .graph .table)) ≡ true
+  pub entry : isBlock (h .graph) (h .graph .entry) ≡ true
+  pub edges : edgeEndsExist (h .graph) ≡ true
+  pub regions : regionBlocksExist (h .graph) ≡ true
+  pub parents : parentsExist (h .graph) ≡ true
+  pub references : referencesMatch (h .graph) ≡ true
+  pub sets : inSets (h .graph) ≡ true
+  pub covers : coversTable (h .graph) ≡ true
+  pub copies : copiesRepeat (h .graph) ≡ true
+  pub runs : noneEmpty (h .graph) ≡ true
+
+pub stands : (h : Held) → wellFormed h ≡ true → Stands h
+unfolding wellFormed
+stands h e =
+    let p10 = both-true _ _ e in
+    let p9 = both-true _ _ (p10 .0) in
+    let p8 = both-true _ _ (p9 .0) in
+    let p7 = both-true _ _ (p8 .0) in
+    let p6 = both-true _ _ (p7 .0) in
+    let p5 = both-true _ _ (p6 .0) in
+    let p4 = both-true _ _ (p5 .0) in
+    let p3 = both-true _ _ (p4 .0) in
+    let p2 = both-true _ _ (p3 .0) in
+    let p1 = both-true _ _ (p2 .0) in
+    record { limits = p1 .0; table = p1 .1; entry = p2 .1; edges = p3 .1; regions = p4 .1; parents = p5 .1; references = p6 .1; sets = p7 .1; covers = p8 .1; copies = p9 .1; runs = p10 .1 }
