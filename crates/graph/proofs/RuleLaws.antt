@@ -4,25 +4,25 @@
 --     sum-more, sum-le             one number more, and a sum grows
 --     rest-none                    nothing is left of a whole
 --     built-all, built-stop        blocks up to one that is built are; none is behind the one that fills the table
---     repeats-built, repeats-none  a run that repeats a built one, and one that is not
 --     some-from, all-from          what holds of none, or each, below k and from k on
 --     inPlace, place-test, place-fits     a built block begins where those before it end, and stays in the table
 --     covers-not, covers-full, covers-end     a block out of place, the one that fills the table, and none does
+--     isRun, runs-built, run-copy  a block is built or repeats one that is
+--     Between, go-left, go-right, repeats-here, repeats-nowhere     a search by halving for the built run that a copy repeats
 --     Stands, stands               each phrase of a graph that the rule lets pass
 -- Assumes nothing.
 use mathlib.Core.Path.{_≡_, refl, sym, ap, _∙_}
-use mathlib.Core.Bool.{Bool, true, false, not, _&&_, _||_, and-true, or-true, false≢true}
+use mathlib.Core.Bool.{Bool, true, false, not, _&&_, _||_, and-true, and-false, or-true, false≢true}
 use mathlib.Core.List.{List}
 use mathlib.Core.Logic.{_⊎_, ⊎-elim}
 use Prim.Native.Nat.{ℕ, zero, suc, _+_, _-_, _≤_, _<_}
 use native.Mathlib.Nat.{eq-or-lt-of-le, le-of-suc-le-suc}
 use native.Mathlib.Numerals.{add-one}
-use native.Mathlib.Decide.{decLt}
+use native.Mathlib.Decide.{ℕ-discrete, decLt}
 use native.Mathlib.Omega.{arith}
-use borrow.Author.Tests.{eq-eqb, ne-eqb, lt-ltb, le-ltb, lt-leb, le-leb, leb-true}
+use borrow.Author.Tests.{eq-eqb, ne-eqb, eqb-true, lt-ltb, le-ltb, ltb-true, lt-leb, le-leb, leb-true}
 use lib.Dec.{eqb, ltb, leb}
 use lib.ListN.{length}
-use Rattle.graph.proofs.FoldLaws.{all-fails}
 use Rattle.image.specs.Refusal.{Refusal, refusal, Check, clear, refused, _then_, unless}
 use Rattle.graph.specs.declared.record.TableEntry.{TableEntry}
 use Rattle.graph.specs.declared.record.Block.{Block}
@@ -31,6 +31,7 @@ use Rattle.graph.specs.Fold.{some, all, checks, sum}
 use Rattle.graph.specs.Table.{entryAt}
 use Rattle.graph.specs.Build.{orderCheck, instructionCheck, tableCheck}
 use Rattle.graph.specs.WellFormed.{withinLimits, passes, isBlock, edgeEndsExist, regionBlocksExist, parentsExist, referencesMatch, inSets, filled, isBuilt, Built, coversTable, repeats, copiesRepeat, noneEmpty, wellFormed}
+use Rattle.graph.proofs.FoldLaws.{decided, all-fails, some-at}
 
 -- ---- the table
 
@@ -104,6 +105,9 @@ both-true : (x y : Bool) → (x && y) ≡ true → (x ≡ true) × (y ≡ true)
 both-true true y h = (refl, h)
 both-true false y h = absurd (false≢true h)
 
+all-each : (f : ℕ → Bool) (n i : ℕ) → all f n ≡ true → i < n → f i ≡ true
+all-each f n i e h = ⊎-elim (λ yes. yes) (λ out. absurd (false≢true (sym (all-fails f n i h out) ∙ e))) (decided (f i))
+
 -- ---- built blocks
 
 module _ (g : Graph) where
@@ -140,17 +144,6 @@ module _ (g : Graph) where
         | yes lt ↦ built-all i c b (omega arith) ∙ sym (lt-ltb b (i + 1) lt)
         | no le ↦ built-no b (omega arith) (omega (arith, filled-le (i + 1) b (omega arith))) ∙ sym (le-ltb b (i + 1) (omega arith))
       ]
-
-  pub repeats-built : (b a : ℕ) → isBuilt g a ≡ true → repeats g b a ≡ (eqb (block g a .first) (block g b .first) && eqb (block g a .count) (block g b .count))
-  unfolding repeats
-  repeats-built b a e = rw e refl
-
-  repeats-not : (b a : ℕ) → isBuilt g a ≡ false → repeats g b a ≡ false
-  unfolding repeats
-  repeats-not b a e = rw e refl
-
-  pub repeats-none : (b n : ℕ) → Built g n → some (repeats g b) n ≡ false → some (repeats g b) (length (g .blocks)) ≡ false
-  repeats-none b n built none = some-from (repeats g b) n (length (g .blocks)) (built .0) none (λ i le lt. repeats-not b i (built .1 i lt ∙ le-ltb i n le))
 
   -- ---- the table covered
 
@@ -200,6 +193,102 @@ module _ (g : Graph) where
         | yes lt ↦ ne-eqb (filled g (length (g .blocks))) (length (g .table)) (omega arith) ∙ sym (lt-leb (length (g .table)) (filled g (length (g .blocks))) lt)
         | no le ↦ eq-eqb (filled g (length (g .blocks))) (length (g .table)) (omega arith) ∙ sym (le-leb (length (g .table)) (filled g (length (g .blocks))) (omega arith))
       ])
+
+  -- ---- copies
+
+  abbrev pub isRun : ℕ → Bool
+  isRun b = isBuilt g b || some (repeats g b) (length (g .blocks))
+
+  module _ (n : ℕ) (built : Built g n) where
+    pub runs-built : all isRun n ≡ true
+    unfolding all
+    runs-built = all-from isRun 0 n (omega arith) refl (λ b le h. rw (built .1 b (omega (arith, built .0)) ∙ lt-ltb b n h))
+
+    pub run-copy : (b : ℕ) → n ≤ b → b < length (g .blocks) → isRun b ≡ some (repeats g b) (length (g .blocks))
+    run-copy b le h = rw (built .1 b h ∙ le-ltb b n le)
+
+  -- ---- built blocks rise
+
+  place-first : (b : ℕ) → isBuilt g b ≡ true → inPlace b ≡ true → block g b .first ≡ filled g b
+  place-first b is h = eqb-true (block g b .first) (filled g b) (both-true _ _ (rw is at h) .0)
+
+  covers-place : coversTable g ≡ true → (b : ℕ) → b < length (g .blocks) → inPlace b ≡ true
+  unfolding coversTable
+  covers-place e b h = all-each inPlace (length (g .blocks)) b (both-true _ _ e .0) h
+
+  -- with two blocks no block is empty
+  runs : noneEmpty g ≡ true → 1 < length (g .blocks) → (b : ℕ) → b < length (g .blocks) → 0 < block g b .count
+  unfolding noneEmpty
+  runs e two b h =
+      elim (ℕ-discrete (length (g .table)) 0) [
+        | yes z ↦ absurd (omega (arith, eqb-true (length (g .blocks)) 1 (rw (eq-eqb (length (g .table)) 0 z) at e)))
+        | no ne ↦ ltb-true 0 (block g b .count) (all-each (λ (k : ℕ). ltb 0 (block g k .count)) (length (g .blocks)) b (rw (ne-eqb (length (g .table)) 0 ne) at e) h)
+      ]
+
+  -- one of the first n blocks that begins as b does can only stand from lo on and before hi
+  abbrev pub Between : ℕ → ℕ → ℕ → ℕ → Type 0
+  Between b n lo hi = (k : ℕ) → k < n → block g k .first ≡ block g b .first → (lo ≤ k) × (k < hi)
+
+  module _ (covers : coversTable g ≡ true) (none : noneEmpty g ≡ true) (n : ℕ) (built : Built g n) where
+    first-is : (b : ℕ) → b < n → block g b .first ≡ filled g b
+    first-is b h = place-first b (built .1 b (omega (arith, built .0)) ∙ lt-ltb b n h) (covers-place covers b (omega (arith, built .0)))
+
+    rises : (a b : ℕ) → a < b → b < n → block g a .first < block g b .first
+    rises a b lt h =
+        omega (arith, first-is a (omega arith), first-is b h, filled-le (a + 1) b (omega arith), filled-more a, runs none (omega (arith, built .0)) a (omega (arith, built .0)))
+
+    -- of two built blocks the lower first comes first
+    before : (a b : ℕ) → a < n → block g a .first < block g b .first → a < b
+    before a b h lt =
+        elim (decLt a b) [
+          | yes less ↦ less
+          | no more ↦ elim (ℕ-discrete a b) [ yes e ↦ omega (arith, ap (λ (k : ℕ). block g k .first) e) | no ne ↦ omega (arith, rises b a (omega arith) h) ]
+        ]
+
+    module _ (b : ℕ) where
+      module _ (lo hi mid : ℕ) (left : Between b n lo hi) (h : mid < n) where
+        pub go-right : block g mid .first < block g b .first → Between b n (mid + 1) hi
+        go-right lt k hk e = (omega (arith, before mid k h (omega arith)), left k hk e .1)
+
+        pub go-left : block g b .first < block g mid .first → Between b n lo mid
+        go-left lt k hk e = (left k hk e .0, before k mid hk (omega arith))
+
+      repeats-other : (a : ℕ) → ((block g a .first ≡ block g b .first) → (block g a .count ≡ block g b .count) → ⊥) → repeats g b a ≡ false
+      unfolding repeats
+      repeats-other a ne =
+          elim (ℕ-discrete (block g a .first) (block g b .first)) [
+            | yes e ↦ rw (ne-eqb (block g a .count) (block g b .count) (ne e)) (and-false (isBuilt g a && eqb (block g a .first) (block g b .first)))
+            | no other ↦ rw (ne-eqb (block g a .first) (block g b .first) other, and-false (isBuilt g a))
+          ]
+
+      repeats-past : (a : ℕ) → n ≤ a → a < length (g .blocks) → repeats g b a ≡ false
+      unfolding repeats
+      repeats-past a le lt = rw (built .1 a lt ∙ le-ltb a n le)
+
+      never : ((a : ℕ) → a < n → repeats g b a ≡ false) → some (repeats g b) (length (g .blocks)) ≡ false
+      unfolding some
+      never out = some-from (repeats g b) n (length (g .blocks)) (built .0) (some-from (repeats g b) 0 n (omega arith) refl (λ a le. out a)) repeats-past
+
+      repeats-is : (a : ℕ) → a < n → block g a .first ≡ block g b .first → block g a .count ≡ block g b .count → repeats g b a ≡ true
+      unfolding repeats
+      repeats-is a h first e = rw (built .1 a (omega (arith, built .0)) ∙ lt-ltb a n h, eq-eqb (block g a .first) (block g b .first) first, eq-eqb (block g a .count) (block g b .count) e)
+
+      pub repeats-nowhere : (lo hi : ℕ) → Between b n lo hi → hi ≤ lo → some (repeats g b) (length (g .blocks)) ≡ false
+      repeats-nowhere lo hi left h = never (λ a lt. repeats-other a (λ e same. omega (arith, left a lt e)))
+
+      pub repeats-here : (mid : ℕ) → mid < n → block g mid .first ≡ block g b .first → eqb (block g mid .count) (block g b .count) ≡ some (repeats g b) (length (g .blocks))
+      repeats-here mid h first =
+          elim (ℕ-discrete (block g mid .count) (block g b .count)) [
+            | yes e ↦ eq-eqb (block g mid .count) (block g b .count) e ∙ sym (some-at (repeats g b) (length (g .blocks)) mid (omega (arith, built .0)) (repeats-is mid h first e))
+            | no ne ↦ ne-eqb (block g mid .count) (block g b .count) ne ∙ sym (never (λ a lt. repeats-other a (alone ne a lt)))
+          ]
+        where
+          alone : (block g mid .count ≡ block g b .count → ⊥) → (a : ℕ) → a < n → block g a .first ≡ block g b .first → block g a .count ≡ block g b .count → ⊥
+          alone ne a lt e same =
+              elim (ℕ-discrete a mid) [
+                | yes it ↦ ne (ap (λ (k : ℕ). block g k .count) (sym it) ∙ same)
+                | no other ↦ elim (decLt a mid) [ yes less ↦ omega (arith, rises a mid less h) | no more ↦ omega (arith, rises mid a (omega arith) lt) ]
+              ]
 
 -- ---- the whole rule
 

@@ -1,6 +1,6 @@
 -- `is_graph` meets its contract: `passed1` and on say that the first tests are passed. Assumes nothing.
-use mathlib.Core.Path.{_≡_, refl, sym, ap, _∙_}
-use mathlib.Core.Bool.{Bool, true, false, not, _&&_}
+use mathlib.Core.Path.{_≡_, sym, ap, _∙_}
+use mathlib.Core.Bool.{Bool, true, false, not, _&&_, and-true, and-false}
 use borrow.Author.Needs.{needs}
 use borrow.Author.Tests.{not-true, not-false}
 use Rattle.graph.specs.Graph.{Held}
@@ -45,9 +45,6 @@ upTo8 h = upTo7 h && inSets (h .graph)
 abbrev upTo9 : Held → Bool
 upTo9 h = upTo8 h && coversTable (h .graph)
 
-abbrev upTo10 : Held → Bool
-upTo10 h = upTo9 h && copiesRepeat (h .graph)
-
 passed1 : (c : tie.Else1) → upTo1 (heldIn (c .before .before .args .g .now)) ≡ true
 passed1 c = sym (c .before .within-limits .ensures) ∙ not-false _ (c .if1 .left)
 
@@ -74,9 +71,6 @@ passed8 c = on _ _ _ (passed7 (c .before .before)) (c .before .in-sets .ensures)
 
 passed9 : (c : tie.Else9) → upTo9 (heldIn (c .before .before .before .before .before .before .before .before .before .before .before .before .before .before .before .before .before .before .before .args .g .now)) ≡ true
 passed9 c = on _ _ _ (passed8 (c .before .before)) (c .before .covers-table .ensures) (c .if9 .left)
-
-passed10 : (c : tie.Else10) → upTo10 (heldIn (c .before .before .before .before .before .before .before .before .before .before .before .before .before .before .before .before .before .before .before .before .before .args .g .now)) ≡ true
-passed10 c = on _ _ _ (passed9 (c .before .before)) (c .before .copies-repeat .ensures) (c .if10 .left)
 
 returns : tie.Need-returns
 unfolding wellFormed
@@ -114,13 +108,17 @@ returns-9 : tie.Need-returns-9
 unfolding wellFormed
 returns-9 c = rw (out _ _ _ (passed8 (c .before .before)) (c .before .covers-table .ensures) (c .if9 .taken))
 
+-- the last two are asked in turn: none is empty, then that copies repeat
 returns-10 : tie.Need-returns-10
 unfolding wellFormed
-returns-10 c = rw (out _ _ _ (passed9 (c .before .before)) (c .before .copies-repeat .ensures) (c .if10 .taken))
+returns-10 c = rw (passed9 (c .before .before), sym (c .before .none-empty .ensures) ∙ not-true _ (c .if10 .taken)) (sym (and-false (copiesRepeat (heldIn (c .before .before .before .before .before .before .before .before .before .before .before .before .before .before .before .before .before .before .before .before .before .args .g .now) .graph))))
+
+copies-repeat-requires : tie.Need-copies-repeat-requires
+copies-repeat-requires c κs = (sym (c .before .before .before .covers-table .ensures) ∙ not-false _ (c .before .before .if9 .left), sym (c .before .none-empty .ensures) ∙ not-false _ (c .if10 .left))
 
 returns-11 : tie.Need-returns-11
 unfolding wellFormed
-returns-11 c = rw (passed10 (c .before)) (c .none-empty .ensures)
+returns-11 c = rw (passed9 (c .before .before .before), sym (c .before .before .none-empty .ensures) ∙ not-false _ (c .before .if10 .left)) (c .copies-repeat .ensures ∙ sym (and-true _))
 
 pub is-graph-spec : {M : Type 1} → statement M
-is-graph-spec = tie.close (tie.spec (λ c κs. search needs) returns (λ c κs. search needs) returns-2 (λ c κs. search needs) (λ c κs. search needs) returns-3 (λ c κs. search needs) returns-4 (λ c κs. search needs) returns-5 (λ c κs. search needs) returns-6 (λ c κs. search needs) returns-7 (λ c κs. search needs) returns-8 (λ c κs. search needs) returns-9 (λ c κs. search needs) returns-10 (λ c κs. search needs) returns-11)
+is-graph-spec = tie.close (tie.spec (λ c κs. search needs) returns (λ c κs. search needs) returns-2 (λ c κs. search needs) (λ c κs. search needs) returns-3 (λ c κs. search needs) returns-4 (λ c κs. search needs) returns-5 (λ c κs. search needs) returns-6 (λ c κs. search needs) returns-7 (λ c κs. search needs) returns-8 (λ c κs. search needs) returns-9 (λ c κs. search needs) returns-10 copies-repeat-requires returns-11)
