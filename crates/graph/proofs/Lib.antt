@@ -25,3 +25,4 @@ pub mod MarkLaws
 pub mod FlowLaws
 pub mod RouteMarks
 pub mod LaidLaws
+pub mod ReachedLaws
