@@ -28,3 +28,4 @@ pub mod RouteMarks
 pub mod LaidLaws
 pub mod BoundLaws
 pub mod ContinuationLaws
+pub mod ReachedLaws

@@ -25,3 +25,4 @@ pub mod Marks
 pub mod WellFormed
 pub mod Reached
 pub mod Search
+pub mod Answers

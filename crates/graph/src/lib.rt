@@ -18,6 +18,6 @@ pub mod record;
 mod regions;
 mod resume;
 mod route;
-mod rule;
+pub mod rule;
 pub mod store;
 mod transfer;
