@@ -4,6 +4,7 @@ pub mod blockset;
 mod checks;
 mod cursor;
 mod drafts;
+mod edge_count;
 mod edges;
 pub mod error;
 mod exceptions;
