@@ -100,6 +100,7 @@ fn kept_before(s: &[u8], y: Layout) -> [usize; 513]
     kept
 }
 
+// How many before the next position, from those before this one.
 fn behind(kept: usize, keeps: bool) -> usize
     requires { ⌜ kept < 512 ⌝ }
     ensures { λ r. ⌜ r ≡ word keeps + kept ⌝ }
