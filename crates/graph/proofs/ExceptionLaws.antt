@@ -7,12 +7,11 @@
 --     other-modes, handlers-edges     the edges of an image that is built in another mode, and in mode 0
 -- Assumes nothing.
 use mathlib.Core.Bool.{true, cond}
-use mathlib.Core.Path.{_≡_, sym, ap, _∙_}
+use mathlib.Core.Path.{_≡_, _∙_}
 use mathlib.Core.List.{List, [], _∷_}
 use Prim.Native.Nat.{ℕ, _+_, _-_, _<_, _≤_}
 use native.Mathlib.Omega.{arith}
 use borrow.Author.Tests.{eq-eqb, ne-eqb}
-use lib.Dec.{eqb}
 use lib.ListN.{length, getD}
 use Rattle.image.specs.Refusal.{clear}
 use Rattle.image.specs.Image.{Image}
@@ -27,7 +26,7 @@ use Rattle.graph.specs.Leaders.{handlerAt}
 use Rattle.graph.specs.Blocks.{blockAt}
 use Rattle.graph.specs.Edges.{resolved, transferEdges, rangeFirst, rangeSize, unwindEdges, exceptionEdges}
 use Rattle.graph.specs.Build.{handlerCheck}
-use Rattle.graph.specs.Emit.{Numbered, edgeBetween}
+use Rattle.graph.specs.Emit.{Numbered, edgeBetween, handlerEdges}
 use Rattle.graph.specs.Ranges.{Ranges}
 use Rattle.graph.specs.Adding.{Added}
 use Rattle.graph.proofs.AddingLaws.{edges-more}
@@ -63,7 +62,7 @@ module _ (m : Image) where
   other-modes e = rw (ne-eqb (m .header .mode) 0 e)
 
   pub handlers-edges : m .header .mode ≡ 0
-      → exceptionEdges m ≡ flat (λ h. flat (λ i. unwindEdges m h (rangeFirst m h + i)) (rangeSize m h)) (length (m .handlers))
+      → exceptionEdges m ≡ flat (λ h. handlerEdges m h) (length (m .handlers))
   unfolding exceptionEdges
   handlers-edges e = rw (eq-eqb (m .header .mode) 0 e)
 

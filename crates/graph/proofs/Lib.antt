@@ -21,6 +21,7 @@ pub mod TransferLaws
 pub mod SearchLaws
 pub mod GivenLaws
 pub mod EdgeLaws
+pub mod CountLaws
 pub mod RuleLaws
 pub mod MarkLaws
 pub mod FlowLaws

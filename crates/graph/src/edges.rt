@@ -44,7 +44,7 @@ ghost use Rattle.graph.specs.Adding.{Added};
 ghost use Rattle.graph.specs.Marks.{Leading};
 ghost use Rattle.graph.specs.Emit.{Emitting, Visiting, Resolves, edgeBetween, unresolvedFrom, slotEdges, slotUnresolved, caseEdges, caseUnresolved};
 
-const SWITCH: u64 = 12;
+pub const SWITCH: u64 = 12;
 
 const GIVEN: u64 = 11;
 
@@ -208,7 +208,7 @@ fn add_transfer(
 }
 
 // Where a transfer leads: the position of its target, if it has one that starts an instruction.
-fn resolve(s: &[u8], y: Layout, x: Transfer) -> Found
+pub fn resolve(s: &[u8], y: Layout, x: Transfer) -> Found
     requires { ⌜ Rising (tableOf (imageIn (now s) y)) ⌝ }
     ensures { λ r. ⌜ Resolves (imageIn (now (s .entry)) y) (transferIn x) r ⌝ }
 {

@@ -14,18 +14,17 @@ use image::section::Layout;
 ghost use mathlib.Core.Bool.{cond, true};
 ghost use mathlib.Core.List.{[]};
 ghost use mathlib.Core.Path.{_≡_};
-ghost use Prim.Native.Nat.{_+_, _<_};
+ghost use Prim.Native.Nat.{_<_};
 ghost use Rattle.image.specs.Refusal.{clear};
 ghost use Rattle.image.specs.Image.{imageIn};
-ghost use Rattle.graph.specs.Fold.{flat};
 ghost use Rattle.graph.specs.Table.{codeEnd};
 ghost use Rattle.graph.specs.Flow.{Role, From};
 ghost use Rattle.graph.specs.Transfer.{tableOf, size, instructionAt};
 ghost use Rattle.graph.specs.Slots.{transferIn};
 ghost use Rattle.graph.specs.Blocks.{blockAt};
 ghost use Rattle.graph.specs.Build.{handlerCheck};
-ghost use Rattle.graph.specs.Edges.{resolved, transferEdges, rangeFirst, rangeSize, unwindEdges, exceptionEdges};
-ghost use Rattle.graph.specs.Emit.{Numbered};
+ghost use Rattle.graph.specs.Edges.{resolved, transferEdges, exceptionEdges};
+ghost use Rattle.graph.specs.Emit.{Numbered, handlerEdges};
 ghost use Rattle.graph.specs.Drafts.{Handled};
 ghost use Rattle.graph.specs.Adding.{Added};
 
@@ -56,7 +55,7 @@ fn add_handler_edges(
 )
     requires { ⌜ Handled (imageIn (now s) y) (now blocks) × («code_end» ≡ codeEnd (tableOf (imageIn (now s) y))) ⌝ }
     requires { ⌜ handlerCheck (imageIn (now s) y) h ≡ clear ⌝ }
-    ensures { λ _. ⌜ Added (now (g .entry)) (now (g .exit)) (flat (λ i. unwindEdges (imageIn (now (s .entry)) y) h (rangeFirst (imageIn (now (s .entry)) y) h + i)) (rangeSize (imageIn (now (s .entry)) y) h)) [] [] ⌝ }
+    ensures { λ _. ⌜ Added (now (g .entry)) (now (g .exit)) (handlerEdges (imageIn (now (s .entry)) y) h) [] [] ⌝ }
 {
     let own = handler(s, y, h);
     let start = own.start;

@@ -6,6 +6,7 @@ mod checks;
 mod continuations;
 mod cursor;
 mod drafts;
+mod edge_count;
 mod edges;
 pub mod error;
 mod exceptions;

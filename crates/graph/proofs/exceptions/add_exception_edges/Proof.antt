@@ -1,14 +1,14 @@
 -- `add_exception_edges` meets its contract. The loop's invariant: the edges of the handlers passed are added. Assumes nothing.
 use mathlib.Core.Path.{_≡_}
 use mathlib.Core.List.{[]}
-use Prim.Native.Nat.{_+_, _-_, _≤_}
+use Prim.Native.Nat.{_-_, _≤_}
 use lib.ListN.{length}
 use Rattle.image.specs.Record.{handlerFrom}
 use Rattle.image.specs.Image.{imageIn}
 use Rattle.image.proofs.Tables.{length-records}
 use Rattle.graph.specs.Fold.{flat}
 use Rattle.graph.specs.Build.{handlerCheck}
-use Rattle.graph.specs.Edges.{rangeFirst, rangeSize, unwindEdges}
+use Rattle.graph.specs.Emit.{handlerEdges}
 use Rattle.graph.specs.Adding.{Added}
 use Rattle.graph.proofs.CheckLaws.{checks-at}
 use Rattle.graph.proofs.AddingLaws.{added-none, edges-more}
@@ -20,7 +20,7 @@ use Rattle.graph.proofs.exceptions.add_exception_edges.Tie as tie
 
 abbrev Inv-loop : tie.InvT-loop
 Inv-loop g₀ s y code-end blocks n h₀ g h =
-    (h ≤ n) × (n ≤ 32) × Added g₀ g (flat (λ k. flat (λ i. unwindEdges (imageIn s y) k (rangeFirst (imageIn s y) k + i)) (rangeSize (imageIn s y) k)) h) [] []
+    (h ≤ n) × (n ≤ 32) × Added g₀ g (flat (λ k. handlerEdges (imageIn s y) k) h) [] []
 
 abbrev μ-loop : tie.MeasureT-loop
 μ-loop g₀ s y code-end blocks n h₀ g h = n - h
@@ -53,7 +53,7 @@ loop-again c =
     let a = c .before .before .before .before .before .before .before .before .args in
     let m = imageIn (a .s .now) (a .y) in
     let top = c .before .before .before .loop in
-    (search needs, search needs, edges-more (λ k. flat (λ i. unwindEdges m k (rangeFirst m k + i)) (rangeSize m k)) (top .h) (top .inv .2) (c .add-handler-edges .ensures))
+    (search needs, search needs, edges-more (λ k. handlerEdges m k) (top .h) (top .inv .2) (c .add-handler-edges .ensures))
 
 returns-2 : tie.Need-returns-2 Inv-loop μ-loop
 returns-2 c =

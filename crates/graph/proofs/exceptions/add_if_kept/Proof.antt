@@ -1,5 +1,5 @@
 -- `add_if_kept` meets its contract: the edge between two blocks that are known, or none. Assumes nothing.
-use mathlib.Core.Path.{_≡_, sym, ap, _∙_}
+use mathlib.Core.Path.{sym, ap, _∙_}
 use Rattle.image.specs.Image.{imageIn}
 use Rattle.image.specs.declared.record.Instruction.{Instruction}
 use Rattle.graph.specs.Transfer.{instructionAt}
