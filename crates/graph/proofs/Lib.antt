@@ -28,5 +28,6 @@ pub mod FlowLaws
 pub mod RouteMarks
 pub mod LaidLaws
 pub mod BoundLaws
+pub mod BuildLaws
 pub mod ContinuationLaws
 pub mod ReachedLaws

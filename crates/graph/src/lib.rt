@@ -1,6 +1,7 @@
 // The control flow graph of a sequence: its store, the three builds, its own rule (21) and what is reached.
 mod blocks;
 pub mod blockset;
+pub mod build;
 mod calls;
 mod checks;
 mod continuations;
