@@ -49,10 +49,17 @@ pub fn find_near(s: &[u8], y: Section, near: usize, a: u64) -> Found
     find(s, y, a)
 }
 
-// Where the instruction at position i starts: of its record the address alone is read.
-fn address_at(s: &[u8], y: Section, i: usize) -> u64
+// Where the instruction at position i starts, and where it ends: of its record that alone is read.
+pub fn address_at(s: &[u8], y: Section, i: usize) -> u64
     requires { ⌜ i < y .count ⌝ }
     ensures { λ r. ⌜ r ≡ entryAt (entriesIn (now (s .entry)) y) i .address ⌝ }
 {
     u64_at(s, place(y, i))
+}
+
+pub fn end_at(s: &[u8], y: Section, i: usize) -> u64
+    requires { ⌜ i < y .count ⌝ }
+    ensures { λ r. ⌜ r ≡ entryAt (entriesIn (now (s .entry)) y) i .end ⌝ }
+{
+    u64_at(s, place(y, i) + 8)
 }
