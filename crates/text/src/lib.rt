@@ -1,0 +1,3 @@
+// The text of the chart: each line as bytes in a buffer that the caller lends.
+pub mod field;
+mod put;
