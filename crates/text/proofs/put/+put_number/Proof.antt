@@ -4,7 +4,7 @@ use native.Mathlib.Omega.{arith}
 use borrow.Author.Needs.{needs}
 use borrow.Fn.Kinds.{In}
 use borrow.Fn.PlainCycle.{Measures, is, falls, and}
-use Rattle.text.proofs.PutLaws.{puts-then}
+use Rattle.text.proofs.PutLaws.{_then_}
 use Rattle.text.proofs.DecimalLaws.{decimal-small, decimal-more, decimal-some, decimal-step}
 use Rattle.text.proofs.put.put_number.Reads as put-number
 use Rattle.text.proofs.put.put_number.Kinds as put-number-kinds
@@ -48,7 +48,7 @@ put-number-same-length-2 t c = search needs
 put-number-returns-2 : (t : ℕ) → put-number-lts.Need-returns-2 (put-digit-reads.Asked, put-digit-reads.Learnt, put-number-below t, put-number.Post) (put-number-at t) put-number.Post
 put-number-returns-2 t c =
     let start = c .before .before .before .before .before .before .before .before .before .before in
-    rw (decimal-more (start .args .n) (omega (arith, start))) (puts-then (c .before .before .before .before .before .before .put-number .ensures) (c .before .before .put-digit2 .ensures))
+    rw (decimal-more (start .args .n) (omega (arith, start))) (c .before .before .before .before .before .before .put-number .ensures then c .before .before .put-digit2 .ensures)
 
 pub +put-number-spec : {M : Type 1} → statement M
 +put-number-spec =

@@ -4,7 +4,7 @@ use native.Mathlib.Omega.{arith}
 use borrow.Author.Needs.{needs}
 use lib.ListN.{length}
 use Rattle.text.specs.Line.{decimal, field}
-use Rattle.text.proofs.PutLaws.{puts-then}
+use Rattle.text.proofs.PutLaws.{_then_}
 use Rattle.text.proofs.DecimalLaws.{decimal-word}
 use Rattle.text.proofs.put.put_field.Statement.{statement}
 use Rattle.text.proofs.put.put_field.Tie as tie
@@ -23,14 +23,14 @@ unfolding field
 returns c =
     let space = c .before .before .before .before .before .before .before .before .before .put-byte in
     let digits = c .before .before .put-number in
-    (rw (c .before .before .before .before .before .f .given .1) (puts-then (space .ensures) (digits .ensures)), omega (arith, few (c .before .before .before .before), space .ensures .next, digits .ensures .next))
+    (rw (c .before .before .before .before .before .f .given .1) (space .ensures then digits .ensures), omega (arith, few (c .before .before .before .before), space .ensures .next, digits .ensures .next))
 
 returns-2 : tie.Need-returns-2
 unfolding field
 returns-2 c =
     let space = c .before .before .before .before .before .before .before .before .put-byte in
     let dash = c .before .before .put-byte2 in
-    (rw (c .before .before .before .before .enum-told .given .1) (puts-then (space .ensures) (dash .ensures)), omega (arith, space .ensures .next, dash .ensures .next))
+    (rw (c .before .before .before .before .enum-told .given .1) (space .ensures then dash .ensures), omega (arith, space .ensures .next, dash .ensures .next))
 
 pub put-field-spec : {M : Type 1} → statement M
 put-field-spec =
