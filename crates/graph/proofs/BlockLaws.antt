@@ -1,6 +1,6 @@
 -- What the functions on a set's words do to the set.
 --     member-past, member-below            there are 1,024 blocks
---     member-none                          the empty set has none
+--     member-none, size-none               the empty set has none
 --     member-including, -excluding         a block more or less; length-including, length-excluding
 --     size-including, size-excluding       how many blocks there are then; size-le
 --     including-past, excluding-is         what a store writes
@@ -26,7 +26,7 @@ use Rattle.graph.specs.Fold.{count}
 use Rattle.graph.specs.BlockSet.{member, none, including, excluding, Union, sizeOf, LowestOf}
 use Rattle.graph.specs.WellFormed.{within}
 use Rattle.graph.specs.declared.blockset.Lowest.the-variants.{At}
-use Rattle.graph.proofs.FoldLaws.{all-at, count-same, count-add, count-one, count-le}
+use Rattle.graph.proofs.FoldLaws.{all-at, count-same, count-none, count-add, count-one, count-le}
 use Rattle.graph.proofs.Bit.{bit, bit-shift, bit-below, bit-lt, bit-zero, bit-or, bit-xor, bit-power-same, bit-power-other, ones-bits, trailing-bit}
 
 -- digit b of the set
@@ -174,6 +174,9 @@ length-excluding w b = cases (member w b)
     cases : (t : Bool) → length (cond t (set w (b / 64) (bitXor (getD w (b / 64) 0) (2 ^ (b % 64)))) w) ≡ length w
     cases true = length-set w (b / 64) _
     cases false = refl
+
+pub size-none : sizeOf none ≡ 0
+size-none = count-none (member none) 1024 (λ b h. member-none b)
 
 pub size-le : (w : List ℕ) → sizeOf w ≤ 1024
 size-le w = count-le (member w) 1024

@@ -13,7 +13,7 @@ use Rattle.graph.specs.Blocks.{isTerminator, firstOf, blockOf, blockAt, 
 use Rattle.graph.specs.Edges.{resolved, transferEdges, transferUnresolved, givenEdge, edgesAt, unresolvedAt, normalEdges, unresolvedOf, rangeFirst, rangeSize, unwindEdges, exceptionEdges, edgesOf, callAt, callsOf}
 use Rattle.graph.specs.Regions.{sameRange, isDraft, span, place, draftsBelow, drafts, contains, smaller, parentBelow, setBelow, regionAt, regionsOf, regionIn, handlerRecord, handlersOf}
 use Rattle.graph.specs.BlockSet.{including}
-use Rattle.graph.specs.Build.{Outcome, orderCheck, instructionCheck, tableCheck, entryCheck, sourceCheck, givenMode, givenCheck, handlerCheck, continues, continuationCheck, buildCheck, graphFrom, buildOf}
+use Rattle.graph.specs.Build.{Outcome, orderCheck, instructionCheck, tableCheck, entryCheck, sourceCheck, givenMode, givenCheck, handlerCheck, continues, continuationCheck, inputCheck, resultCheck, buildCheck, graphFrom, buildOf}
 
 unfoldable pub computed : Image → Outcome
 unfolding zipWith
@@ -26,7 +26,7 @@ unfolding zipWith
     rangeSize unwindEdges exceptionEdges edgesOf callAt callsOf sameRange isDraft span place draftsBelow drafts
     contains smaller parentBelow including setBelow regionAt regionsOf regionIn handlerRecord handlersOf orderCheck
     instructionCheck tableCheck entryCheck sourceCheck givenMode givenCheck handlerCheck continues continuationCheck
-    buildCheck graphFrom buildOf
+    inputCheck resultCheck buildCheck graphFrom buildOf
 computed m = buildOf m
 
 pub computed-is : (m : Image) → computed m ≡ buildOf m

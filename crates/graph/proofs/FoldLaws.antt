@@ -7,7 +7,8 @@
 --     some-at, some-where, some-none     it holds of some number if of one, of which one, and of none
 --     flat-none, flat-one          lists of which none or one is not empty
 --     flat-same, flat-front, flat-more     they hang on f below n alone; the first apart, and one more
---     count-same                   the count hangs on f below n alone
+--     among-append, among-flat     a number among two lists, or among many
+--     count-same, count-none       the count hangs on f below n alone; f holds of none
 --     count-front, count-add       the first number apart, and the first m
 --     count-one                    f holds of one number more
 --     count-le                     there are n at most
@@ -20,10 +21,10 @@ use Prim.Native.Nat.{ℕ, zero, suc, _+_, _≤_, _<_}
 use native.Mathlib.Nat.{add-zero, add-suc, eq-or-lt-of-le, le-of-suc-le-suc, not-suc-le-zero}
 use native.Mathlib.Numerals.{add-one}
 use native.Mathlib.Omega.{arith}
-use lib.Dec.{T}
+use lib.Dec.{T, eqb}
 use lib.ListN.{length, getD, length-append, List·getD-append}
 use lib.Seq.{getD-at}
-use Rattle.graph.specs.Fold.{flat, some, all, count}
+use Rattle.graph.specs.Fold.{flat, some, all, count, among}
 use Rattle.image.specs.Image.{table}
 
 module _ {A : Type 0} where
@@ -153,6 +154,19 @@ unfolding flat
 flat-same f g zero same = refl
 flat-same f g (suc n) same = rw (flat-same f g n (λ i h. same i (omega arith)), same n (omega arith))
 
+-- ---- a, among numbers
+
+module _ (a : ℕ) where
+  pub among-append : (l k : List ℕ) → among (l ++ k) a ≡ (among l a || among k a)
+  unfolding among
+  among-append [] k = refl
+  among-append (x ∷ l) k = ap (λ (b : Bool). eqb x a || b) (among-append l k) ∙ sym (or-assoc (eqb x a) (among l a) (among k a))
+
+  pub among-flat : (f : ℕ → List ℕ) (n : ℕ) → among (flat f n) a ≡ some (λ k. among (f k) a) n
+  unfolding flat some among
+  among-flat f zero = refl
+  among-flat f (suc n) = among-append (flat f n) (f n) ∙ ap (λ (b : Bool). b || among (f n) a) (among-flat f n)
+
 -- ---- counts
 
 module _ (f : ℕ → Bool) (n : ℕ) where
@@ -168,6 +182,11 @@ pub count-same : (f g : ℕ → Bool) (n : ℕ) → ((k : ℕ) → k < n → f k
 unfolding count
 count-same f g zero same = refl
 count-same f g (suc n) same = rw (same n (omega arith), count-same f g n (λ k h. same k (omega arith)))
+
+pub count-none : (f : ℕ → Bool) (n : ℕ) → ((k : ℕ) → k < n → f k ≡ false) → count f n ≡ 0
+unfolding count
+count-none f zero none = refl
+count-none f (suc n) none = count-no f n (none n (omega arith)) ∙ count-none f n (λ k h. none k (omega arith))
 
 pub count-add : (f : ℕ → Bool) (m n : ℕ) → count f (m + n) ≡ count f m + count (λ (k : ℕ). f (m + k)) n
 unfolding count

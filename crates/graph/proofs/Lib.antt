@@ -12,6 +12,7 @@ pub mod Rule21
 pub mod TableLaws
 pub mod DraftLaws
 pub mod RegionLaws
+pub mod ExceptionLaws
 pub mod CursorLaws
 pub mod CheckLaws
 pub mod RangeLaws
@@ -20,8 +21,13 @@ pub mod TransferLaws
 pub mod SearchLaws
 pub mod GivenLaws
 pub mod EdgeLaws
+pub mod CountLaws
 pub mod RuleLaws
 pub mod MarkLaws
 pub mod FlowLaws
 pub mod RouteMarks
 pub mod LaidLaws
+pub mod BoundLaws
+pub mod BuildLaws
+pub mod ContinuationLaws
+pub mod ReachedLaws

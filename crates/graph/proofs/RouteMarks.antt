@@ -4,7 +4,7 @@
 use mathlib.Core.Bool.{Bool, true, false, cond, _&&_, _||_, or-true, or-false, or-assoc}
 use mathlib.Core.Path.{_≡_, refl, sym, ap, ap₂, _∙_}
 use mathlib.Core.List.{List, [], _∷_, _++_, map, zipWith}
-use Prim.Native.Nat.{ℕ, zero, suc}
+use Prim.Native.Nat.{ℕ}
 use native.Mathlib.Omega.{arith}
 use lib.Dec.{eqb}
 use lib.ListN.{length, getD, take, drop, take-append-drop, length-drop}
@@ -16,12 +16,12 @@ use Rattle.image.specs.declared.record.Route.{Route}
 use Rattle.image.specs.declared.record.Path.{Path}
 use Rattle.image.specs.declared.record.Step.{Step}
 use Rattle.image.proofs.Deals.{total-front, length-deal}
-use Rattle.graph.specs.Fold.{flat, some, among}
+use Rattle.graph.specs.Fold.{some, among}
 use Rattle.graph.specs.Transfer.{addressAt}
 use Rattle.graph.specs.Route.{routeAt, pathAt, funcletOf, funclets, handlerOf, entries}
 use Rattle.graph.specs.Leaders.{routes, routeMark}
 use Rattle.graph.specs.Marks.{routeRangeMark, routeRange, funcletMark, pathEndMark}
-use Rattle.graph.proofs.FoldLaws.{some-same, some-front, some-or}
+use Rattle.graph.proofs.FoldLaws.{some-same, some-front, some-or, among-append, among-flat}
 use Rattle.graph.proofs.MarkLaws.{eqb-comm}
 use Rattle.graph.proofs.RouteLaws.{length-paths}
 
@@ -93,16 +93,6 @@ module _ {A B C : Type 0} (k : A → B → C) (f : C → Bool) where
 -- ---- a, among addresses
 
 module _ (a : ℕ) where
-  among-append : (l k : List ℕ) → among (l ++ k) a ≡ (among l a || among k a)
-  unfolding among
-  among-append [] k = refl
-  among-append (x ∷ l) k = ap (λ (b : Bool). eqb x a || b) (among-append l k) ∙ sym (or-assoc (eqb x a) (among l a) (among k a))
-
-  among-flat : (g : ℕ → List ℕ) (n : ℕ) → among (flat g n) a ≡ some (λ k. among (g k) a) n
-  unfolding flat some among
-  among-flat g zero = refl
-  among-flat g (suc n) = among-append (flat g n) (g n) ∙ ap (λ (b : Bool). b || among (g n) a) (among-flat g n)
-
   -- a path, a step and an end name it
   abbrev inFunclets : UnwindPath → Bool
   inFunclets x = among (funclets x) a
@@ -133,15 +123,15 @@ module _ (a : ℕ) where
   funclets-named : (steps : List Step) (end : UnwindEnd) → inFunclets (record { steps = map stepOf steps; end = end }) ≡ any inStep steps
   unfolding funclets
   funclets-named steps end =
-      among-flat _ (length (map stepOf steps))
+      among-flat a _ (length (map stepOf steps))
       ∙ any-some (λ (u : UnwindStep). among (funcletOf u) a) (map stepOf steps) (call 0)
       ∙ any-map (λ (u : UnwindStep). among (funcletOf u) a) stepOf steps
 
   entries-named : (r : UnwindRoute) → among (entries r) a ≡ any (λ x. inFunclets x || inEnd x) (r .paths)
   unfolding entries
   entries-named r =
-      among-flat _ (length (r .paths))
-      ∙ some-same _ _ (length (r .paths)) (λ k h. among-append (funclets (pathAt r k)) (handlerOf (pathAt r k .end)))
+      among-flat a _ (length (r .paths))
+      ∙ some-same _ _ (length (r .paths)) (λ k h. among-append a (funclets (pathAt r k)) (handlerOf (pathAt r k .end)))
       ∙ any-some (λ x. inFunclets x || inEnd x) (r .paths) (record { steps = []; end = propagate })
 
   module _ (m : RouteImage) (ok : AcceptedRoutes m) where

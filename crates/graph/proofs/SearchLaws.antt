@@ -1,5 +1,5 @@
 -- The search for the reached blocks.
---     entry-lt, source-lt, target-lt, reached-lt     the ends of a graph that 21 lets pass
+--     ends-of, entry-lt, source-lt, target-lt, reached-lt     the ends of a graph that 21 lets pass
 --     linked-none, linked-more           edges linked, the last first
 --     Going, going-on, going-end         the edges from a block followed along the links
 --     works-start, turn-works, turn-less, finds      the worklist
@@ -16,14 +16,18 @@ use borrow.Author.Tests.{eq-eqb, ne-eqb, ltb-true}
 use lib.Dec.{T, eqb, ltb, ltb→lt}
 use lib.ListN.{length, getD, set, length-set, drop-of-length-le, replicate, getD-replicate}
 use lib.Seq.{drop-cons, getD-set-same, getD-set-other}
-use Rattle.graph.specs.Graph.{Graph, edge}
+use Rattle.graph.specs.Graph.{Graph, Held, edge}
 use Rattle.graph.specs.Words.{edgeOf}
 use Rattle.graph.specs.BlockSet.{member, none, including, excluding}
-use Rattle.graph.specs.WellFormed.{isBlock, edgeEndsExist}
+use Rattle.graph.specs.WellFormed.{isBlock, edgeEndsExist, wellFormed}
 use Rattle.graph.specs.Reached.{Reached, start, step}
 use Rattle.graph.specs.Search.{In, Finds, Ends, linkIn, link, Linked, Works, left, Followed, Follows, seeing}
 use Rattle.graph.proofs.FoldLaws.{both, all-at, decided}
+use Rattle.graph.proofs.RuleLaws.{stands}
 use Rattle.graph.proofs.BlockLaws.{member-below, member-none, member-including, member-excluding, length-including, length-excluding, size-including, size-excluding, size-le}
+
+pub ends-of : (h : Held) → wellFormed h ≡ true → Ends (h .graph)
+ends-of h e = let s = stands h e in record { entry = s .entry; edges = s .edges }
 
 module _ (g : Graph) where
   abbrev sourceOf : ℕ → ℕ

@@ -6,6 +6,7 @@ use Prim.Native.Nat.{ℕ, zero, suc}
 use lib.Dec.{eqb, ltb, leb}
 use lib.ListN.{length}
 use Rattle.image.specs.Image.{Image}
+use Rattle.image.specs.Read.{Reading, read, refusing, readImage}
 use Rattle.image.specs.Refusal.{Refusal, refusal, Check, clear, _then_, unless}
 use Rattle.image.specs.declared.record.GivenEdge.{GivenEdge}
 use Rattle.graph.specs.declared.record.TableEntry.{TableEntry}
@@ -70,17 +71,22 @@ continuationCheck m p =
     cond (givenMode m && isTerminator m p && not (isGiven m p))
     (checks (λ k. unless (continues m (transferAt m p k)) (refusal 16 (addressAt m p) (transferAt m p k .target))) (slotCount m p)) clear
 
--- '19 edges 4,096 (also last in a build)'
-unfoldable pub buildCheck : Image → Check
-buildCheck m =
+-- 3 to 15
+unfoldable pub inputCheck : Image → Check
+inputCheck m =
     tableCheck (tableOf m)
     then entryCheck m
     then checks (sourceCheck m) (length (m .sources))
     then checks (givenCheck m) (size m)
     then checks (handlerCheck m) (length (m .handlers))
     then checks (routeCheck (tableOf m) (routes m)) (length (routes m))
-    then checks (continuationCheck m) (size m)
-    then unless (leb (length (edgesOf m)) 4096) (refusal 19 0 0)
+
+-- 16, and '19 edges 4,096 (also last in a build)'
+unfoldable pub resultCheck : Image → Check
+resultCheck m = checks (continuationCheck m) (size m) then unless (leb (length (edgesOf m)) 4096) (refusal 19 0 0)
+
+unfoldable pub buildCheck : Image → Check
+buildCheck m = inputCheck m then resultCheck m
 
 unfoldable pub graphFrom : Image → Graph
 graphFrom m =
@@ -105,3 +111,11 @@ outcome (Check.refused r) g = refused r
 
 unfoldable pub buildOf : Image → Outcome
 buildOf m = outcome (buildCheck m) (graphFrom m)
+
+-- an image that was read, or the refusal of its reading (1, 2)
+unfoldable pub buildRead : Reading Image → Outcome
+buildRead (read m) = buildOf m
+buildRead (refusing r) = refused r
+
+unfoldable pub buildFrom : List ℕ → Outcome
+buildFrom l = buildRead (readImage l)

@@ -2,7 +2,7 @@
 use mathlib.Core.Bool.{Bool, true, false}
 use mathlib.Core.Path.{_≡_}
 use mathlib.Core.List.{List, []}
-use Prim.Native.Nat.{ℕ, _<_, _≤_}
+use Prim.Native.Nat.{ℕ, _+_, _<_, _≤_}
 use lib.ListN.{getD}
 use Rattle.image.specs.Refusal.{clear}
 use Rattle.image.specs.Image.{Image}
@@ -20,7 +20,7 @@ use Rattle.graph.specs.Flow.{kindOf, unresolvedRole}
 use Rattle.graph.specs.Transfer.{tableOf, size, casesAt, Transfer, hasTarget, caseTransfer, transferAt}
 use Rattle.graph.specs.Leaders.{isLeader}
 use Rattle.graph.specs.Blocks.{blockOf}
-use Rattle.graph.specs.Edges.{resolved, transferEdges, transferUnresolved}
+use Rattle.graph.specs.Edges.{resolved, transferEdges, transferUnresolved, rangeFirst, rangeSize, unwindEdges}
 use Rattle.graph.specs.Cursor.{Sourced, cursorAt, visitAt}
 use Rattle.graph.specs.Build.{givenCheck}
 
@@ -57,6 +57,10 @@ caseEdges m p k = flat (λ i. transferEdges m p (caseAt m p i)) k
 
 abbrev pub caseUnresolved : Image → ℕ → ℕ → List UnresolvedTransfer
 caseUnresolved m p k = flat (λ i. transferUnresolved m p (caseAt m p i)) k
+
+-- the exception edges of what handler h protects
+abbrev pub handlerEdges : Image → ℕ → List Edge
+handlerEdges m h = flat (λ i. unwindEdges m h (rangeFirst m h + i)) (rangeSize m h)
 
 -- where a transfer leads
 abbrev pub Resolves : Image → Transfer → Found → Type 0

@@ -22,6 +22,8 @@ pub mod Build
 pub mod Emit
 pub mod Ranges
 pub mod Marks
+pub mod EdgeCount
 pub mod WellFormed
 pub mod Reached
 pub mod Search
+pub mod Answers

@@ -42,7 +42,7 @@ fn table_entry(i: Instruction) -> TableEntry
     }
 }
 
-fn word(b: bool) -> u64
+pub fn word(b: bool) -> u64
     ensures { λ r. ⌜ r ≡ cond b 1 0 ⌝ }
 {
     if b { 1 } else { 0 }

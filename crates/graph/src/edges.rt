@@ -1,4 +1,4 @@
-// The edges of a built graph: the normal edges of each block's end, and the unwind edges of the handlers.
+// The normal edges of a built graph: those of each block's end.
 use crate::cursor::Cursor;
 use crate::cursor::Given;
 use crate::cursor::Visit;
@@ -44,7 +44,7 @@ ghost use Rattle.graph.specs.Adding.{Added};
 ghost use Rattle.graph.specs.Marks.{Leading};
 ghost use Rattle.graph.specs.Emit.{Emitting, Visiting, Resolves, edgeBetween, unresolvedFrom, slotEdges, slotUnresolved, caseEdges, caseUnresolved};
 
-const SWITCH: u64 = 12;
+pub const SWITCH: u64 = 12;
 
 const GIVEN: u64 = 11;
 
@@ -70,7 +70,7 @@ pub fn add_normal_edges(
 }
 
 // Whether the instruction at p is the last of its block: none follows, or the next one leads.
-fn is_terminator(marks: &[bool; 512], n: usize, p: usize) -> bool
+pub fn is_terminator(marks: &[bool; 512], n: usize, p: usize) -> bool
     requires { ⌜ (p < n) × (n ≤ 512) ⌝ }
     ensures { λ r. ⌜ r ≡ (eqb (p + 1) n || getD (now (marks .entry)) (p + 1) false) ⌝ }
 {
@@ -208,7 +208,7 @@ fn add_transfer(
 }
 
 // Where a transfer leads: the position of its target, if it has one that starts an instruction.
-fn resolve(s: &[u8], y: Layout, x: Transfer) -> Found
+pub fn resolve(s: &[u8], y: Layout, x: Transfer) -> Found
     requires { ⌜ Rising (tableOf (imageIn (now s) y)) ⌝ }
     ensures { λ r. ⌜ Resolves (imageIn (now (s .entry)) y) (transferIn x) r ⌝ }
 {
@@ -218,7 +218,7 @@ fn resolve(s: &[u8], y: Layout, x: Transfer) -> Found
     Found::Nothing
 }
 
-fn edge_between(source: u64, target: u64, address: u64, x: Transfer) -> Edge
+pub fn edge_between(source: u64, target: u64, address: u64, x: Transfer) -> Edge
     ensures { λ r. ⌜ r ≡ edgeBetween source target address (transferIn x) ⌝ }
 {
     let role = x.role;

@@ -1,11 +1,16 @@
 // The control flow graph of a sequence: its store, the three builds, its own rule (21) and what is reached.
 mod blocks;
 pub mod blockset;
+pub mod build;
+mod calls;
 mod checks;
+mod continuations;
 mod cursor;
 mod drafts;
+mod edge_count;
 mod edges;
 pub mod error;
+mod exceptions;
 mod leaders;
 mod lookup;
 mod marks;
@@ -15,6 +20,6 @@ pub mod record;
 mod regions;
 mod resume;
 mod route;
-mod rule;
+pub mod rule;
 pub mod store;
 mod transfer;

@@ -5,6 +5,9 @@ use crate::blockset::has_in;
 use crate::blockset::lowest_in;
 use crate::blockset::put_in;
 use crate::blockset::take_from;
+use crate::error::AddressBuildError;
+use crate::error::Checked;
+use crate::rule::is_graph;
 use crate::store::Words;
 use crate::store::blocks::block_count;
 use crate::store::edges::edge_at;
@@ -14,10 +17,36 @@ ghost use mathlib.Core.Path.{_≡_};
 ghost use Prim.Native.Nat.{_<_};
 ghost use lib.ListN.{length, replicate};
 ghost use Rattle.graph.specs.Words.{heldIn};
+ghost use Rattle.graph.specs.Answers.{ReachedIn};
 ghost use Rattle.graph.specs.Search.{Finds, Ends, Linked, Roomy, Follows, seeing};
 
+// Which blocks are reached, and how many; where the words hold no graph (21), none.
+pub struct ReachedSet {
+    pub found: Checked,
+    pub blocks: BlockSet,
+    pub count: usize,
+}
+
+pub fn reached(g: &Words) -> ReachedSet
+    ensures { λ r. ⌜ ReachedIn (heldIn (now (g .entry))) r ⌝ }
+{
+    if !is_graph(g) {
+        return ReachedSet {
+            found: Checked::Refused(AddressBuildError::NoGraph),
+            blocks: BlockSet::empty(),
+            count: 0,
+        };
+    }
+    let blocks = reach(g);
+    ReachedSet {
+        found: Checked::Clear,
+        blocks,
+        count: blocks.size(),
+    }
+}
+
 // The blocks that are reached in a graph whose ends exist.
-pub fn reach(g: &Words) -> BlockSet
+fn reach(g: &Words) -> BlockSet
     requires { ⌜ Ends (heldIn (now g) .graph) ⌝ }
     ensures { λ r. ⌜ Finds (heldIn (now (g .entry)) .graph) (r .words) ⌝ }
 {

@@ -227,7 +227,7 @@ fn region_in(s: &[u8], y: Layout, d: Drafts, h: usize) -> u64
 }
 
 // The block of the instruction that starts at a.
-fn block_at(s: &[u8], y: Layout, blocks: &[u16; 512], a: u64) -> u64
+pub fn block_at(s: &[u8], y: Layout, blocks: &[u16; 512], a: u64) -> u64
     requires { ⌜ Numbered (imageIn (now s) y) (now blocks) × (isStart (tableOf (imageIn (now s) y)) a ≡ true) ⌝ }
     ensures { λ r. ⌜ r ≡ blockAt (imageIn (now (s .entry)) y) a ⌝ }
 {

@@ -1,4 +1,4 @@
-// Rule 21, 'the graph is none, unless all of this holds', asked of any words: a function for each phrase.
+// Rule 21, 'the graph is none, unless all of this holds', asked of any words: `is_graph`, and a function for each phrase.
 use crate::blockset::all_below;
 use crate::store::Words;
 use crate::store::blocks::block_at;
@@ -7,6 +7,7 @@ use crate::store::calls::call_at;
 use crate::store::calls::call_count;
 use crate::store::edges::edge_at;
 use crate::store::edges::edge_count;
+use crate::store::entry;
 use crate::store::handlers::handler_at;
 use crate::store::handlers::handler_count;
 use crate::store::regions::region_at;
@@ -15,9 +16,9 @@ use crate::store::table::table_at;
 use crate::store::table::table_count;
 use crate::store::unresolved::unresolved_at;
 use crate::store::unresolved::unresolved_count;
+use crate::store::within_limits;
 ghost use mathlib.Core.Path.{_≡_};
-ghost use mathlib.Core.Bool.{not, _&&_, _||_};
-ghost use Prim.Native.Nat.{_<_};
+ghost use mathlib.Core.Bool.{true, not, _&&_, _||_};
 ghost use lib.Dec.{eqb, ltb, leb};
 ghost use lib.ListN.{length};
 ghost use Rattle.graph.specs.Fold.{some, all, sum};
@@ -25,7 +26,44 @@ ghost use Rattle.graph.specs.Build.{instructionCheck, tableCheck};
 ghost use Rattle.graph.specs.Graph.{block, edge, region, handler, unresolvedTransfer, callSite};
 ghost use Rattle.graph.specs.Table.{entryAt};
 ghost use Rattle.graph.specs.Words.{heldIn};
-ghost use Rattle.graph.specs.WellFormed.{passes, isBlock, edgeEndsExist, within, regionBlocksExist, parentsExist, namesHandler, sameReference, referencesMatch, inSets, isBuilt, Built, repeats, copiesRepeat, noneEmpty};
+ghost use Rattle.graph.specs.WellFormed.{passes, isBlock, edgeEndsExist, within, regionBlocksExist, parentsExist, namesHandler, sameReference, referencesMatch, inSets, Built, coversTable, repeats, copiesRepeat, noneEmpty, wellFormed};
+
+// Whether the words hold a graph: all of rule 21.
+pub fn is_graph(g: &Words) -> bool
+    ensures { λ r. ⌜ r ≡ wellFormed (heldIn (now (g .entry))) ⌝ }
+{
+    if !within_limits(g) {
+        return false;
+    }
+    if !table_passes(g) {
+        return false;
+    }
+    if !is_block(g, entry(g)) {
+        return false;
+    }
+    if !edge_ends_exist(g) {
+        return false;
+    }
+    if !region_blocks_exist(g) {
+        return false;
+    }
+    if !parents_exist(g) {
+        return false;
+    }
+    if !references_match(g) {
+        return false;
+    }
+    if !in_sets(g) {
+        return false;
+    }
+    if !covers_table(g) {
+        return false;
+    }
+    if !none_empty(g) {
+        return false;
+    }
+    copies_repeat(g)
+}
 
 // 'an instruction table .. that passes 3 to 5'
 fn table_passes(g: &Words) -> bool
@@ -305,6 +343,26 @@ fn calls_in_sets(g: &Words) -> bool
     true
 }
 
+// 'built blocks cover the table in order'
+fn covers_table(g: &Words) -> bool
+    ensures { λ r. ⌜ r ≡ coversTable (heldIn (now (g .entry)) .graph) ⌝ }
+{
+    let n = block_count(g);
+    let table = table_count(g) as u64;
+    let mut filled = 0;
+    for i in 0..n {
+        let b = block_at(g, i);
+        if (b.first != filled) | (table - filled < b.count) {
+            return false;
+        }
+        filled += b.count;
+        if filled == table {
+            return true;
+        }
+    }
+    filled == table
+}
+
 // How many blocks are built: the first ones, until their runs fill the table.
 fn built_count(g: &Words) -> usize
     ensures { λ r. ⌜ Built (heldIn (now (g .entry)) .graph) r ⌝ }
@@ -321,49 +379,42 @@ fn built_count(g: &Words) -> usize
     n
 }
 
-// 'copies follow and repeat a built run'
+// 'copies follow and repeat a built run', asked when the built blocks cover the table and none is empty
 fn copies_repeat(g: &Words) -> bool
+    requires { ⌜ (coversTable (heldIn (now g) .graph) ≡ true) × (noneEmpty (heldIn (now g) .graph) ≡ true) ⌝ }
     ensures { λ r. ⌜ r ≡ copiesRepeat (heldIn (now (g .entry)) .graph) ⌝ }
 {
     let built = built_count(g);
     let n = block_count(g);
-    for i in 0..n {
-        if !is_run(g, i, built) {
+    for i in built..n {
+        if !repeats_built(g, i, built) {
             return false;
         }
     }
     true
 }
 
-// Whether block b is built or repeats one that is.
-fn is_run(g: &Words, b: usize, built: usize) -> bool
-    requires { ⌜ Built (heldIn (now g) .graph) built × (b < length (heldIn (now g) .graph .blocks)) ⌝ }
-    ensures { λ r. ⌜ r ≡ (isBuilt (heldIn (now (g .entry)) .graph) b || some (repeats (heldIn (now (g .entry)) .graph) b) (length (heldIn (now (g .entry)) .graph .blocks))) ⌝ }
-{
-    if b < built {
-        return true;
-    }
-    repeats_built(g, b, built)
-}
-
+// Whether block b repeats a built one: found by halving, since the built ones rise.
 fn repeats_built(g: &Words, b: usize, built: usize) -> bool
-    requires { ⌜ Built (heldIn (now g) .graph) built ⌝ }
+    requires { ⌜ (coversTable (heldIn (now g) .graph) ≡ true) × (noneEmpty (heldIn (now g) .graph) ≡ true) × Built (heldIn (now g) .graph) built ⌝ }
     ensures { λ r. ⌜ r ≡ some (repeats (heldIn (now (g .entry)) .graph) b) (length (heldIn (now (g .entry)) .graph .blocks)) ⌝ }
 {
-    for i in 0..built {
-        if same_run(g, i, b) {
-            return true;
+    let copy = block_at(g, b);
+    let mut lo = 0;
+    let mut hi = built;
+    while lo < hi {
+        let mid = lo + (hi - lo) / 2;
+        let own = block_at(g, mid);
+        if own.first == copy.first {
+            return own.count == copy.count;
+        }
+        if own.first < copy.first {
+            lo = mid + 1;
+        } else {
+            hi = mid;
         }
     }
     false
-}
-
-fn same_run(g: &Words, a: usize, b: usize) -> bool
-    ensures { λ r. ⌜ r ≡ (eqb (block (heldIn (now (g .entry)) .graph) a .first) (block (heldIn (now (g .entry)) .graph) b .first) && eqb (block (heldIn (now (g .entry)) .graph) a .count) (block (heldIn (now (g .entry)) .graph) b .count)) ⌝ }
-{
-    let x = block_at(g, a);
-    let y = block_at(g, b);
-    (x.first == y.first) & (x.count == y.count)
 }
 
 // 'only an empty table's block is empty'

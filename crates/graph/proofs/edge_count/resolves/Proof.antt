@@ -1,0 +1,13 @@
+-- By what the look-up answers. Assumes nothing.
+use borrow.Author.Needs.{needs}
+use Rattle.graph.proofs.edge_count.resolves.Statement.{statement}
+use Rattle.graph.proofs.edge_count.resolves.Tie as tie
+
+returns : tie.Need-returns
+returns c = rw ((rw (c .enum-told .given .1) at (c .before .before .resolve .ensures)) .0)
+
+returns-2 : tie.Need-returns-2
+returns-2 c = rw (rw (c .enum-told2 .given .1) at (c .before .before .resolve .ensures))
+
+pub resolves-spec : {M : Type 1} → statement M
+resolves-spec = tie.close (tie.spec (λ c κs. search needs) (λ c. search needs) (λ c. search needs) returns returns-2)

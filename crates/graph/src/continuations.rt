@@ -1,0 +1,96 @@
+// Why given edges are refused where a block runs on without one (16).
+use crate::cursor::Given;
+use crate::cursor::Visit;
+use crate::cursor::cursor_start;
+use crate::cursor::visit_at;
+use crate::edges::is_terminator;
+use crate::error::AddressBuildError;
+use crate::error::Checked;
+use crate::lookup::Found;
+use crate::lookup::find;
+use crate::transfer::Slot;
+use crate::transfer::falls_through;
+use crate::transfer::flow_under;
+use crate::transfer::has_target;
+use crate::transfer::slot_transfer;
+use crate::transfer::slots_of;
+use image::record::Instruction;
+use image::section::Layout;
+ghost use mathlib.Core.Path.{_≡_};
+ghost use Prim.Native.Nat.{_<_};
+ghost use Rattle.image.specs.Refusal.{clear, refusal, unless};
+ghost use Rattle.image.specs.Image.{imageIn};
+ghost use Rattle.graph.specs.Error.{checkOf};
+ghost use Rattle.graph.specs.Fold.{checks};
+ghost use Rattle.graph.specs.Lookup.{Rising};
+ghost use Rattle.graph.specs.Transfer.{tableOf, size, slotTransfer};
+ghost use Rattle.graph.specs.Slots.{slotIn};
+ghost use Rattle.graph.specs.Cursor.{Sourced, visitAt};
+ghost use Rattle.graph.specs.Marks.{Leading};
+ghost use Rattle.graph.specs.Build.{givenCheck, continues, continuationCheck};
+
+const GIVEN_EDGES: u64 = 2;
+
+// In given mode a fall-through that no given edge replaces leads to a start: '16 MissingContinuation (source, target)'.
+pub fn check_continuations(s: &[u8], y: Layout, marks: &[bool; 512]) -> Checked
+    requires { ⌜ Sourced (imageIn (now s) y) × (checks (givenCheck (imageIn (now s) y)) (size (imageIn (now s) y)) ≡ clear) × Leading (imageIn (now s) y) (now marks) ⌝ }
+    ensures { λ r. ⌜ checkOf r ≡ checks (continuationCheck (imageIn (now (s .entry)) y)) (size (imageIn (now (s .entry)) y)) ⌝ }
+{
+    if y.header.mode != GIVEN_EDGES {
+        return Checked::Clear;
+    }
+    let n = y.code.instructions.count as usize;
+    let mut c = cursor_start();
+    while c.at < n {
+        let visit = visit_at(s, y, c);
+        let found = check_continuation(s, y, marks, c.at, visit);
+        let Checked::Clear = found else {
+            return found;
+        };
+        c = visit.next;
+    }
+    Checked::Clear
+}
+
+// The instruction at p: where it ends its block by its flow, its two slots.
+fn check_continuation(s: &[u8], y: Layout, marks: &[bool; 512], p: usize, visit: Visit) -> Checked
+    requires { ⌜ Sourced (imageIn (now s) y) × (checks (givenCheck (imageIn (now s) y)) (size (imageIn (now s) y)) ≡ clear) × Leading (imageIn (now s) y) (now marks) ⌝ }
+    requires { ⌜ (y .header .mode ≡ 2) × (p < size (imageIn (now s) y)) × (visit ≡ visitAt (imageIn (now s) y) p) ⌝ }
+    ensures { λ r. ⌜ checkOf r ≡ continuationCheck (imageIn (now (s .entry)) y) p ⌝ }
+{
+    let n = y.code.instructions.count as usize;
+    if !is_terminator(marks, n, p) {
+        return Checked::Clear;
+    }
+    let given = visit.given;
+    let Given::Flow = given else {
+        return Checked::Clear;
+    };
+    let i = visit.instruction;
+    let slots = slots_of(flow_under(y.header.calls, i.flow));
+    let found = check_slot(s, y, i, slots.0);
+    let Checked::Clear = found else {
+        return found;
+    };
+    check_slot(s, y, i, slots.1)
+}
+
+// The transfer that a slot makes of an instruction: where it falls through, it leads to a start.
+fn check_slot(s: &[u8], y: Layout, i: Instruction, slot: Slot) -> Checked
+    requires { ⌜ Rising (tableOf (imageIn (now s) y)) ⌝ }
+    ensures { λ r. ⌜ checkOf r ≡ unless (continues (imageIn (now (s .entry)) y) (slotTransfer i (slotIn slot))) (refusal 16 (i .address) (slotTransfer i (slotIn slot) .target)) ⌝ }
+{
+    let x = slot_transfer(i, slot);
+    let falls = has_target(x) & falls_through(x.role);
+    if !falls {
+        return Checked::Clear;
+    }
+    let target = x.target;
+    let Found::At(_) = find(s, y.code.instructions, target) else {
+        return Checked::Refused(AddressBuildError::MissingContinuation {
+            source: i.address,
+            target,
+        });
+    };
+    Checked::Clear
+}
