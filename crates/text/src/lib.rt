@@ -1,0 +1,6 @@
+// The text of the chart: each line as bytes in a buffer that the caller lends.
+pub mod chart;
+pub mod field;
+pub mod lines;
+mod put;
+mod refusal;
