@@ -97,21 +97,17 @@ fn read_code(s: &[u8], given: bool) -> ReadCode
             parents: instructions,
             children: cases,
             end: given_at,
-            grandchildren: _,
+            ..
         } => match read_pair(Kind::Sources, Kind::Edges, s, given_at, given) {
             ReadPair::Refused(e) => ReadCode::Refused(e),
             ReadPair::Read {
                 parents: sources,
                 children: edges,
                 end: at,
-                grandchildren: _,
+                ..
             } => match read_section(Kind::Handlers, s, at, true, Sum::Free) {
                 ReadSection::Refused(e) => ReadCode::Refused(e),
-                ReadSection::Read {
-                    count,
-                    end: _,
-                    children: _,
-                } => ReadCode::Read(CodeLayout {
+                ReadSection::Read { count, .. } => ReadCode::Read(CodeLayout {
                     instructions,
                     cases,
                     sources,
@@ -137,11 +133,7 @@ fn read_route_sections(s: &[u8], at: usize, used: bool) -> ReadRoutes
             grandchildren,
         } => match read_section(Kind::Steps, s, behind, used, Sum::Exactly(grandchildren)) {
             ReadSection::Refused(e) => ReadRoutes::Refused(e),
-            ReadSection::Read {
-                count,
-                end: _,
-                children: _,
-            } => ReadRoutes::Read(RouteLayout {
+            ReadSection::Read { count, .. } => ReadRoutes::Read(RouteLayout {
                 routes,
                 paths,
                 steps: section_of(Kind::Steps, behind, count),
