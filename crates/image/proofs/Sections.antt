@@ -2,7 +2,8 @@
 --     count-within                      its count is within its limit
 --     section-counted, section-is       so all its records are looked at
 --     limit-most                        no limit is above 512
---     section-ends, code-ends           where it ends at most, and where the handlers do
+--     section-ends                      where it ends at most,
+--     edges-end, code-ends              and where the given edges and the handlers do
 -- Assumes nothing.
 use mathlib.Core.Bool.{Bool}
 use mathlib.Core.Path.{_≡_, ap, _∙_}
@@ -60,11 +61,14 @@ section-ends Routes l at = omega (arith, min-le-right (le4 l at) 32)
 section-ends Paths l at = omega (arith, min-le-right (le4 l at) 128)
 section-ends Steps l at = omega (arith, min-le-right (le4 l at) 512)
 
-pub code-ends : (l : List ℕ) → endOf (codeLayoutOf l .handlers) ≤ 79392
+pub edges-end : (l : List ℕ) → endOf (codeLayoutOf l .edges) ≤ 63516
 unfolding codeLayoutOf
-code-ends l =
+edges-end l =
     let i = endOf (sectionAt Instructions l 12) in
     let c = endOf (sectionAt Cases l i) in
     let s = endOf (sectionAt Sources l c) in
-    let e = endOf (sectionAt Edges l s) in
-    omega (arith, section-ends Instructions l 12, section-ends Cases l i, section-ends Sources l c, section-ends Edges l s, section-ends Handlers l e)
+    omega (arith, section-ends Instructions l 12, section-ends Cases l i, section-ends Sources l c, section-ends Edges l s)
+
+pub code-ends : (l : List ℕ) → endOf (codeLayoutOf l .handlers) ≤ 79392
+unfolding codeLayoutOf
+code-ends l = omega (arith, edges-end l, section-ends Handlers l (endOf (codeLayoutOf l .edges)))

@@ -146,6 +146,9 @@ fn instruction_form(s: &[u8], at: usize) -> Verdict
     let v = check_end(v, s, at);
     let v = check_byte(v, s, at + 17, 1);
     let v = check_byte(v, s, at + 18, 12);
+    let Verdict::Clear = v else {
+        return v;
+    };
     let flow = byte_at(s, at + 18);
     let v = check_used8(v, s, at + 19, names_target(flow));
     check_used4(v, s, at + 27, flow == 12)

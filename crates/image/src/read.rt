@@ -20,15 +20,14 @@ ghost use Prim.Native.Nat.{_<_};
 ghost use Rattle.image.specs.Read.{readImage, readRoutes};
 ghost use Rattle.image.specs.Scanned.{PairRead, CodeRead, RoutesRead, imageAnswer, routesAnswer};
 
-// A section, that of its children, and how many children those have.
-pub struct Pair {
-    pub parents: Section,
-    pub children: Section,
-    pub grandchildren: u64,
-}
-
+// A section and that of its children, where this one ends, and how many children it has in turn.
 pub enum ReadPair {
-    Read(Pair),
+    Read {
+        parents: Section,
+        children: Section,
+        end: usize,
+        grandchildren: u64,
+    },
     Refused(ImageError),
 }
 
@@ -92,28 +91,31 @@ pub fn read_routes(s: &[u8]) -> ReadRoutes
 fn read_code(s: &[u8], given: bool) -> ReadCode
     ensures { λ r. ⌜ CodeRead (now (s .entry)) given r ⌝ }
 {
-    let first = match read_pair(Kind::Instructions, Kind::Cases, s, 12, true) {
-        ReadPair::Refused(e) => return ReadCode::Refused(e),
-        ReadPair::Read(pair) => pair,
-    };
-    let instructions = first.parents;
-    let cases = first.children;
-    let second = match read_pair(Kind::Sources, Kind::Edges, s, end_of(cases), given) {
-        ReadPair::Refused(e) => return ReadCode::Refused(e),
-        ReadPair::Read(pair) => pair,
-    };
-    let sources = second.parents;
-    let edges = second.children;
-    let at = end_of(edges);
-    match read_section(Kind::Handlers, s, at, true, Sum::Free) {
-        ReadSection::Refused(e) => ReadCode::Refused(e),
-        ReadSection::Read { count, children: _ } => ReadCode::Read(CodeLayout {
-            instructions,
-            cases,
-            sources,
-            edges,
-            handlers: section_of(Kind::Handlers, at, count),
-        }),
+    match read_pair(Kind::Instructions, Kind::Cases, s, 12, true) {
+        ReadPair::Refused(e) => ReadCode::Refused(e),
+        ReadPair::Read {
+            parents: instructions,
+            children: cases,
+            end: given_at,
+            ..
+        } => match read_pair(Kind::Sources, Kind::Edges, s, given_at, given) {
+            ReadPair::Refused(e) => ReadCode::Refused(e),
+            ReadPair::Read {
+                parents: sources,
+                children: edges,
+                end: at,
+                ..
+            } => match read_section(Kind::Handlers, s, at, true, Sum::Free) {
+                ReadSection::Refused(e) => ReadCode::Refused(e),
+                ReadSection::Read { count, .. } => ReadCode::Read(CodeLayout {
+                    instructions,
+                    cases,
+                    sources,
+                    edges,
+                    handlers: section_of(Kind::Handlers, at, count),
+                }),
+            },
+        },
     }
 }
 
@@ -122,21 +124,21 @@ fn read_route_sections(s: &[u8], at: usize, used: bool) -> ReadRoutes
     requires { ⌜ at < 8388608 ⌝ }
     ensures { λ r. ⌜ RoutesRead (now (s .entry)) at used r ⌝ }
 {
-    let pair = match read_pair(Kind::Routes, Kind::Paths, s, at, used) {
-        ReadPair::Refused(e) => return ReadRoutes::Refused(e),
-        ReadPair::Read(pair) => pair,
-    };
-    let routes = pair.parents;
-    let paths = pair.children;
-    let sum = Sum::Exactly(pair.grandchildren);
-    let behind = end_of(paths);
-    match read_section(Kind::Steps, s, behind, used, sum) {
-        ReadSection::Refused(e) => ReadRoutes::Refused(e),
-        ReadSection::Read { count, children: _ } => ReadRoutes::Read(RouteLayout {
-            routes,
-            paths,
-            steps: section_of(Kind::Steps, behind, count),
-        }),
+    match read_pair(Kind::Routes, Kind::Paths, s, at, used) {
+        ReadPair::Refused(e) => ReadRoutes::Refused(e),
+        ReadPair::Read {
+            parents: routes,
+            children: paths,
+            end: behind,
+            grandchildren,
+        } => match read_section(Kind::Steps, s, behind, used, Sum::Exactly(grandchildren)) {
+            ReadSection::Refused(e) => ReadRoutes::Refused(e),
+            ReadSection::Read { count, .. } => ReadRoutes::Read(RouteLayout {
+                routes,
+                paths,
+                steps: section_of(Kind::Steps, behind, count),
+            }),
+        },
     }
 }
 
@@ -147,19 +149,24 @@ fn read_pair(parent: Kind, child: Kind, s: &[u8], at: usize, used: bool) -> Read
 {
     match read_section(parent, s, at, used, Sum::Free) {
         ReadSection::Refused(e) => ReadPair::Refused(e),
-        ReadSection::Read { count, children } => {
+        ReadSection::Read {
+            count,
+            end: behind,
+            children: sum,
+        } => {
             let parents = section_of(parent, at, count);
-            let behind = end_of(parents);
-            match read_section(child, s, behind, used, Sum::Exactly(children)) {
+            match read_section(child, s, behind, used, Sum::Exactly(sum)) {
                 ReadSection::Refused(e) => ReadPair::Refused(e),
                 ReadSection::Read {
                     count: inner,
+                    end,
                     children: grandchildren,
-                } => ReadPair::Read(Pair {
+                } => ReadPair::Read {
                     parents,
                     children: section_of(child, behind, inner),
+                    end,
                     grandchildren,
-                }),
+                },
             }
         }
     }

@@ -19,9 +19,9 @@ pub enum Sum {
     Exactly(u64),
 }
 
-// The children of the records that were scanned, or the first refusal.
+// Where the records that were scanned end, and how many children they have in all, or the first refusal.
 pub enum Scan {
-    Children(u64),
+    Done { end: usize, children: u64 },
     Refused(ImageError),
 }
 
@@ -31,9 +31,13 @@ pub enum Counted {
     Refused(ImageError),
 }
 
-// How many records a section has, and how many children those have in all.
+// How many records a section has, where they end, and how many children they have in all.
 pub enum ReadSection {
-    Read { count: u32, children: u64 },
+    Read {
+        count: u32,
+        end: usize,
+        children: u64,
+    },
     Refused(ImageError),
 }
 
@@ -131,7 +135,7 @@ fn scan_records(kind: Kind, s: &[u8], base: usize, n: usize) -> Scan
         children += children_at(kind, s, at);
         at += width;
     }
-    Scan::Children(children)
+    Scan::Done { end: at, children }
 }
 
 // The section whose count stands at `at`, if it is used, with as many records as the sum says.
@@ -145,8 +149,9 @@ pub fn read_section(kind: Kind, s: &[u8], at: usize, used: bool, sum: Sum) -> Re
     };
     match scan_records(kind, s, at + 4, count as usize) {
         Scan::Refused(e) => ReadSection::Refused(e),
-        Scan::Children(children) => ReadSection::Read {
+        Scan::Done { end, children } => ReadSection::Read {
             count: count as u32,
+            end,
             children,
         },
     }

@@ -1,4 +1,5 @@
--- Each check goes on from the one before. Assumes nothing.
+-- Each check goes on from the one before; a flow is looked at where nothing was refused. Assumes nothing.
+use mathlib.Core.Path.{sym}
 use borrow.Author.Needs.{needs}
 use Rattle.image.proofs.form.instruction_form.Statement.{statement}
 use Rattle.image.proofs.form.instruction_form.Tie as tie
@@ -33,6 +34,24 @@ add-check-byte-3 c = search needs
 check-byte-requires-3 : tie.Need-check-byte-requires-3
 check-byte-requires-3 c κs = search needs
 
+enum-told : tie.Need-enum-told
+enum-told c = search needs
+
+enum-told-2 : tie.Need-enum-told-2
+enum-told-2 c = search needs
+
+returns : tie.Need-returns
+returns c =
+    let head =
+    rw (
+      c .before .before .before .check-byte2 .ensures,
+      c .before .before .before .before .check-end .ensures,
+      c .before .before .before .before .before .check-byte .ensures,
+      c .before .before .before .before .before .before .check-there2 .ensures,
+      c .before .before .before .before .before .before .before .check-there .ensures,
+    ) at (c .before .before .check-byte3 .ensures) in
+    rw (sym head, c .enum-told2 .given .1)
+
 add-byte-at : tie.Need-add-byte-at
 add-byte-at c = search needs
 
@@ -54,18 +73,18 @@ add-check-used4 c = search needs
 check-used4-requires : tie.Need-check-used4-requires
 check-used4-requires c κs = search needs
 
-returns : tie.Need-returns
-returns c =
+returns-2 : tie.Need-returns-2
+returns-2 c =
     rw (
       c .check-used4 .ensures,
       c .before .check-used8 .ensures,
       c .before .before .names-target .ensures,
-      c .before .before .before .before .check-byte3 .ensures,
-      c .before .before .before .before .before .check-byte2 .ensures,
-      c .before .before .before .before .before .before .check-end .ensures,
-      c .before .before .before .before .before .before .before .check-byte .ensures,
-      c .before .before .before .before .before .before .before .before .check-there2 .ensures,
-      c .before .before .before .before .before .before .before .before .before .check-there .ensures,
+      c .before .before .before .before .before .before .check-byte3 .ensures,
+      c .before .before .before .before .before .before .before .check-byte2 .ensures,
+      c .before .before .before .before .before .before .before .before .check-end .ensures,
+      c .before .before .before .before .before .before .before .before .before .check-byte .ensures,
+      c .before .before .before .before .before .before .before .before .before .before .check-there2 .ensures,
+      c .before .before .before .before .before .before .before .before .before .before .before .check-there .ensures,
       c .before .before .before .byte-at .ensures .0,
     )
 
@@ -83,6 +102,9 @@ instruction-form-spec =
     check-byte-requires-2
     add-check-byte-3
     check-byte-requires-3
+    enum-told
+    enum-told-2
+    returns
     add-byte-at
     byte-at-requires
     add-check-used8
@@ -90,4 +112,4 @@ instruction-form-spec =
     check-used8-requires
     add-check-used4
     check-used4-requires
-    returns)
+    returns-2)

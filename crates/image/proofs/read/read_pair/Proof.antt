@@ -1,6 +1,4 @@
 -- The parents, then the children, as many as the parents have. Assumes nothing.
-use mathlib.Core.Path.{ap, _∙_}
-use Rattle.image.specs.Read.{endOf}
 use Rattle.image.proofs.Sections.{section-ends}
 use native.Mathlib.Omega.{arith}
 use borrow.Author.Needs.{needs}
@@ -19,15 +17,11 @@ enum-known-count c = search needs
 section-of-requires : tie.Need-section-of-requires
 section-of-requires c κs = search needs
 
-end-of-requires : tie.Need-end-of-requires
-end-of-requires c κs = search needs
-
 read-section-requires-2 : tie.Need-read-section-requires-2
 read-section-requires-2 c κs =
-    let a = c .before .before .before .before .before .before .before .args in
-    let first = rw (c .before .before .before .count .given .1) at (c .before .before .before .before .before .read-section .ensures) in
-    let parents = c .before .section-of .ensures (a .s .now) (first .1) in
-    omega (arith, section-ends (a .parent) (a .s .now) (a .at), c .end-of .ensures ∙ ap endOf parents)
+    let a = c .before .before .before .before .before .before .args in
+    let first = rw (c .before .before .count .given .1) at (c .before .before .before .before .read-section .ensures) in
+    omega (arith, section-ends (a .parent) (a .s .now) (a .at), first .2)
 
 enum-known-e-2 : tie.Need-enum-known-e-2
 enum-known-e-2 c = search needs
@@ -37,30 +31,27 @@ enum-known-inner c = search needs
 
 section-of-requires-2 : tie.Need-section-of-requires-2
 section-of-requires-2 c κs =
-    let a = c .before .before .before .before .before .before .before .before .before .before .before .args in
-    let first = rw (c .before .before .before .before .before .before .before .count .given .1) at (c .before .before .before .before .before .before .before .before .before .read-section .ensures) in
-    let parents = c .before .before .before .before .before .section-of .ensures (a .s .now) (first .1) in
-    omega (arith, section-ends (a .parent) (a .s .now) (a .at), c .before .before .before .before .end-of .ensures ∙ ap endOf parents)
+    let a = c .before .before .before .before .before .before .before .before .before .before .args in
+    let first = rw (c .before .before .before .before .before .before .count .given .1) at (c .before .before .before .before .before .before .before .before .read-section .ensures) in
+    omega (arith, section-ends (a .parent) (a .s .now) (a .at), first .2)
 
 returns : tie.Need-returns
 returns c = rw (rw (c .before .e .given .1) at (c .before .before .before .read-section .ensures))
 
 returns-2 : tie.Need-returns-2
 returns-2 c =
-    let a = c .before .before .before .before .before .before .before .before .before .before .before .args in
-    let first = rw (c .before .before .before .before .before .before .before .count .given .1) at (c .before .before .before .before .before .before .before .before .before .read-section .ensures) in
-    let parents = c .before .before .before .before .before .section-of .ensures (a .s .now) (first .1) in
-    let second = rw (c .before .e2 .given .1, c .before .before .before .before .end-of .ensures, parents, first .2) at (c .before .before .before .read-section2 .ensures) in
+    let first = rw (c .before .before .before .before .before .before .count .given .1) at (c .before .before .before .before .before .before .before .before .read-section .ensures) in
+    let second = rw (c .before .e2 .given .1, first .2, first .3) at (c .before .before .before .read-section2 .ensures) in
     rw (first .0, second)
 
 returns-3 : tie.Need-returns-3
 returns-3 c =
-    let a = c .before .before .before .before .before .before .before .before .before .before .before .before .args in
-    let first = rw (c .before .before .before .before .before .before .before .before .count .given .1) at (c .before .before .before .before .before .before .before .before .before .before .read-section .ensures) in
-    let parents = c .before .before .before .before .before .before .section-of .ensures (a .s .now) (first .1) in
-    let second = rw (c .before .before .inner .given .1, c .before .before .before .before .before .end-of .ensures, parents, first .2) at (c .before .before .before .before .read-section2 .ensures) in
-    let children = rw (c .before .before .before .before .before .end-of .ensures, parents) at (c .section-of2 .ensures (a .s .now)) in
-    (rw (first .0, second .0), rw (parents, children (second .1), second .2))
+    let a = c .before .before .before .before .before .before .before .before .before .before .before .args in
+    let first = rw (c .before .before .before .before .before .before .before .count .given .1) at (c .before .before .before .before .before .before .before .before .before .read-section .ensures) in
+    let second = rw (c .before .before .inner .given .1, first .2, first .3) at (c .before .before .before .before .read-section2 .ensures) in
+    let parents = c .before .before .before .before .before .section-of .ensures (a .s .now) (first .1) in
+    let children = rw (first .2) at (c .section-of2 .ensures (a .s .now)) in
+    (rw (first .0, second .0), parents, children (second .1), second .2, second .3)
 
 pub read-pair-spec : {M : Type 1} → statement M
 read-pair-spec =
@@ -70,7 +61,6 @@ read-pair-spec =
     enum-known-e
     enum-known-count
     section-of-requires
-    end-of-requires
     read-section-requires-2
     enum-known-e-2
     enum-known-inner

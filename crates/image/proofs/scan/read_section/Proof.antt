@@ -3,7 +3,7 @@ use mathlib.Core.Path.{sym, ap, _∙_}
 use Prim.Native.Nat.{_+_, min}
 use Rattle.image.specs.Little.{le4}
 use Rattle.image.specs.Refusal.{Check, _then_}
-use Rattle.image.specs.Read.{limitOf, recordsForm, childrenOf}
+use Rattle.image.specs.Read.{limitOf, recordsForm, childrenOf, endOf}
 use Rattle.image.specs.declared.section.Section.{Section}
 use Rattle.image.proofs.Sections.{count-within, limit-most, section-counted, section-is}
 use native.Mathlib.Omega.{arith}
@@ -38,11 +38,11 @@ scan-records-requires c κs =
 enum-known-e-2 : tie.Need-enum-known-e-2
 enum-known-e-2 c = search needs
 
-enum-known-children : tie.Need-enum-known-children
-enum-known-children c = search needs
+enum-known-end : tie.Need-enum-known-end
+enum-known-end c = search needs
 
-cast-t17 : tie.Need-cast-t17
-cast-t17 c =
+cast-t18 : tie.Need-cast-t18
+cast-t18 c =
     let a = c .before .before .before .before .before .before .before .before .before .args in
     let counted = rw (c .before .before .before .before .before .count .given .1) at (c .before .before .before .before .before .before .before .read-count .ensures) in
     omega (arith, count-within (a .kind) (a .s .now) (a .at) (a .used) (a .sum) (counted .0), limit-most (a .kind), counted .1)
@@ -58,11 +58,12 @@ returns-3 : tie.Need-returns-3
 returns-3 c =
     let a = c .before .before .before .before .before .before .before .before .before .args in
     let counted = rw (c .before .before .before .before .before .count .given .1) at (c .before .before .before .before .before .before .before .read-count .ensures) in
-    let scanned = rw (c .before .children .given .1, counted .1) at (c .before .before .before .scan-records .ensures) in
+    let scanned = rw (c .before .end .given .1, counted .1) at (c .before .before .before .scan-records .ensures) in
     let same = section-is (a .kind) (a .s .now) (a .at) (a .used) (a .sum) (counted .0) in (
       section-counted (a .kind) (a .s .now) (a .at) (a .used) (a .sum) (counted .0) ∙ scanned .0,
       counted .1 ∙ ap (λ (y : Section). y .count) (sym same),
-      scanned .1 ∙ ap (childrenOf (a .kind) (a .s .now)) (sym same),
+      scanned .1 ∙ ap endOf (sym same),
+      scanned .2 ∙ ap (childrenOf (a .kind) (a .s .now)) (sym same),
     )
 
 pub read-section-spec : {M : Type 1} → statement M
@@ -76,7 +77,7 @@ read-section-spec =
     add-scan-records
     scan-records-requires
     enum-known-e-2
-    enum-known-children
-    cast-t17
+    enum-known-end
+    cast-t18
     returns-2
     returns-3)

@@ -78,7 +78,7 @@ returns-2 : tie.Need-returns-2 Inv-loop μ-loop
 returns-2 c =
     let end = c .before .loop in
     let all : end .i ≡ c .before .before .before .before .args .n = omega arith in
-    (rw all at (end .inv .4), rw all at (end .inv .5))
+    (rw all at (end .inv .4), rw all at (end .inv .1), rw all at (end .inv .5))
 
 pub scan-records-spec : {M : Type 1} → statement M
 scan-records-spec =
