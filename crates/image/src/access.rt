@@ -1,5 +1,7 @@
 // Record i of a section, straight from the bytes. Past the section's end it is the record of zeros.
 use crate::little::byte_at;
+use crate::little::octet;
+use crate::little::quad;
 use crate::little::u32_at;
 use crate::little::u64_at;
 use crate::record::Case;
@@ -14,8 +16,8 @@ use crate::section::Section;
 use crate::section::place;
 ghost use mathlib.Core.List.{[]};
 ghost use mathlib.Core.Path.{_≡_};
-ghost use Prim.Native.Nat.{_≤_};
-ghost use lib.ListN.{getD};
+ghost use Prim.Native.Nat.{_+_, _≤_};
+ghost use lib.ListN.{length, getD};
 ghost use Rattle.image.specs.Record.{instructionFrom, caseFrom, sourceFrom, edgeFrom, handlerFrom, routeFrom, pathFrom, stepFrom};
 ghost use Rattle.image.specs.Image.{recordsIn};
 
@@ -137,6 +139,36 @@ pub fn step_at(s: &[u8], y: Section, i: usize) -> Step
 }
 
 fn instruction_from(s: &[u8], at: usize) -> Instruction
+    requires { ⌜ at ≤ 18446744069414584320 ⌝ }
+    ensures { λ r. ⌜ r ≡ instructionFrom (now (s .entry)) at ⌝ }
+{
+    if s.len() < at + 31 {
+        instruction_cut(s, at)
+    } else {
+        instruction_there(s, at)
+    }
+}
+
+// A record that is there: each field is one load.
+fn instruction_there(s: &[u8], at: usize) -> Instruction
+    requires { ⌜ at + 31 ≤ length (now s) ⌝ }
+    ensures { λ r. ⌜ r ≡ instructionFrom (now (s .entry)) at ⌝ }
+{
+    let has_end = byte_at(s, at + 16) == 1;
+    let keeps = byte_at(s, at + 17) == 1;
+    Instruction {
+        address: octet(s, at),
+        end: octet(s, at + 8),
+        has_end,
+        keeps,
+        flow: byte_at(s, at + 18),
+        target: octet(s, at + 19),
+        cases: quad(s, at + 27) as usize,
+    }
+}
+
+// A record of which some bytes may be past the end.
+fn instruction_cut(s: &[u8], at: usize) -> Instruction
     requires { ⌜ at ≤ 18446744069414584320 ⌝ }
     ensures { λ r. ⌜ r ≡ instructionFrom (now (s .entry)) at ⌝ }
 {
