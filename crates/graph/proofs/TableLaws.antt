@@ -1,6 +1,6 @@
 -- The table: starts and positions.
 --     length-entries, entry-is        the entries of a list of instructions
---     size-is, address-is             the same of the records in the bytes, and of what is read there
+--     size-is, address-is, end-is     the same of the records in the bytes, and of what is read there
 --     entry-address                   the same of an image
 --     start-at, start-none            where an instruction starts, and where none does
 --     start-has                       the place of a start
@@ -44,6 +44,10 @@ size-is l y = length-entries (recordsIn instructionFrom l y) ∙ length-records 
 pub address-is : (is : List Instruction) (p : ℕ) (i : Instruction) → i ≡ getD is p (instructionFrom [] 0) → entryAt (entriesOf is) p .address ≡ i .address
 unfolding tableEntry
 address-is is p i e = ap (λ (x : TableEntry). x .address) (entry-is is p) ∙ ap (λ (x : Instruction). x .address) (sym e)
+
+pub end-is : (is : List Instruction) (p : ℕ) (i : Instruction) → i ≡ getD is p (instructionFrom [] 0) → entryAt (entriesOf is) p .end ≡ i .end
+unfolding tableEntry
+end-is is p i e = ap (λ (x : TableEntry). x .end) (entry-is is p) ∙ ap (λ (x : Instruction). x .end) (sym e)
 
 pub entry-address : (m : Image) (p : ℕ) → entryAt (tableOf m) p .address ≡ addressAt m p
 unfolding instructionAt

@@ -7,6 +7,7 @@ use crate::cursor::visit_at;
 use crate::error::AddressBuildError;
 use crate::error::Checked;
 use crate::lookup::Found;
+use crate::lookup::address_at;
 use crate::lookup::find;
 use crate::transfer::is_call;
 use image::access::edge_at;
@@ -48,6 +49,7 @@ pub fn check_table(s: &[u8], y: Section) -> Checked
 }
 
 fn check_instruction(s: &[u8], y: Section, p: usize) -> Checked
+    requires { ⌜ p < y .count ⌝ }
     ensures { λ r. ⌜ checkOf r ≡ instructionCheck (entriesOf (recordsIn instructionFrom (now (s .entry)) y)) p ⌝ }
 {
     let i = instruction_at(s, y, p);
@@ -63,13 +65,14 @@ fn check_instruction(s: &[u8], y: Section, p: usize) -> Checked
 
 // An instruction stands behind the one before it.
 fn check_order(s: &[u8], y: Section, p: usize) -> Checked
+    requires { ⌜ p < y .count ⌝ }
     ensures { λ r. ⌜ checkOf r ≡ orderCheck (entriesOf (recordsIn instructionFrom (now (s .entry)) y)) p ⌝ }
 {
     if p == 0 {
         return Checked::Clear;
     }
-    let previous = instruction_at(s, y, p - 1).address;
-    let address = instruction_at(s, y, p).address;
+    let previous = address_at(s, y, p - 1);
+    let address = address_at(s, y, p);
     if previous < address {
         return Checked::Clear;
     }

@@ -184,7 +184,7 @@ fn resolves(s: &[u8], y: Layout, x: Transfer) -> usize
     requires { ⌜ Rising (tableOf (imageIn (now s) y)) ⌝ }
     ensures { λ r. ⌜ r ≡ word (resolved (imageIn (now (s .entry)) y) (transferIn x)) ⌝ }
 {
-    match resolve(s, y, x) {
+    match resolve(s, y, 0, x) {
         Found::At(_) => 1,
         Found::Nothing => 0,
     }

@@ -6,6 +6,7 @@ use crate::cursor::cursor_start;
 use crate::cursor::visit_at;
 use crate::lookup::Found;
 use crate::lookup::find;
+use crate::lookup::find_near;
 use crate::record::Edge;
 use crate::record::UnresolvedTransfer;
 use crate::store::Words;
@@ -198,7 +199,7 @@ fn add_transfer(
     requires { ⌜ (p < size (imageIn (now s) y)) × (source ≡ addressAt (imageIn (now s) y) p) ⌝ }
     ensures { λ _. ⌜ Added (now (g .entry)) (now (g .exit)) (transferEdges (imageIn (now (s .entry)) y) p (transferIn x)) (transferUnresolved (imageIn (now (s .entry)) y) p (transferIn x)) [] ⌝ }
 {
-    match resolve(s, y, x) {
+    match resolve(s, y, p + 1, x) {
         Found::At(to) => add_edge(
             g,
             edge_between(block_of(blocks, p), block_of(blocks, to), source, x),
@@ -207,13 +208,13 @@ fn add_transfer(
     }
 }
 
-// Where a transfer leads: the position of its target, if it has one that starts an instruction.
-pub fn resolve(s: &[u8], y: Layout, x: Transfer) -> Found
+// Where a transfer leads: the position of its target, if it has one that starts an instruction. It is likely to be `near`.
+pub fn resolve(s: &[u8], y: Layout, near: usize, x: Transfer) -> Found
     requires { ⌜ Rising (tableOf (imageIn (now s) y)) ⌝ }
     ensures { λ r. ⌜ Resolves (imageIn (now (s .entry)) y) (transferIn x) r ⌝ }
 {
     if has_target(x) {
-        return find(s, y.code.instructions, x.target);
+        return find_near(s, y.code.instructions, near, x.target);
     }
     Found::Nothing
 }

@@ -1,6 +1,10 @@
 // Address look-up: the position of the instruction that starts at an address.
-use image::access::instruction_at;
+use image::little::u64_at;
 use image::section::Section;
+use image::section::place;
+ghost use mathlib.Core.Path.{_≡_};
+ghost use Prim.Native.Nat.{_<_};
+ghost use Rattle.graph.specs.Table.{entryAt};
 ghost use Rattle.graph.specs.Lookup.{entriesIn, Rising, Finds};
 
 pub enum Found {
@@ -17,8 +21,7 @@ pub fn find(s: &[u8], y: Section, a: u64) -> Found
     let mut hi = y.count as usize;
     while lo < hi {
         let mid = lo + (hi - lo) / 2;
-        let i = instruction_at(s, y, mid);
-        let x = i.address;
+        let x = address_at(s, y, mid);
         if x == a {
             return Found::At(mid);
         }
@@ -29,4 +32,34 @@ pub fn find(s: &[u8], y: Section, a: u64) -> Found
         }
     }
     Found::Nothing
+}
+
+// The same, where the position is likely to be `near`.
+pub fn find_near(s: &[u8], y: Section, near: usize, a: u64) -> Found
+    requires { ⌜ Rising (entriesIn (now s) y) ⌝ }
+    ensures { λ r. ⌜ Finds (entriesIn (now (s .entry)) y) a r ⌝ }
+{
+    let n = y.count as usize;
+    if near < n {
+        let x = address_at(s, y, near);
+        if x == a {
+            return Found::At(near);
+        }
+    }
+    find(s, y, a)
+}
+
+// Where the instruction at position i starts, and where it ends: of its record that alone is read.
+pub fn address_at(s: &[u8], y: Section, i: usize) -> u64
+    requires { ⌜ i < y .count ⌝ }
+    ensures { λ r. ⌜ r ≡ entryAt (entriesIn (now (s .entry)) y) i .address ⌝ }
+{
+    u64_at(s, place(y, i))
+}
+
+pub fn end_at(s: &[u8], y: Section, i: usize) -> u64
+    requires { ⌜ i < y .count ⌝ }
+    ensures { λ r. ⌜ r ≡ entryAt (entriesIn (now (s .entry)) y) i .end ⌝ }
+{
+    u64_at(s, place(y, i) + 8)
 }

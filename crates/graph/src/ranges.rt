@@ -2,9 +2,9 @@
 use crate::error::AddressBuildError;
 use crate::error::Checked;
 use crate::lookup::Found;
+use crate::lookup::end_at;
 use crate::lookup::find;
 use image::access::handler_at;
-use image::access::instruction_at;
 use image::section::Layout;
 use image::section::Section;
 ghost use mathlib.Core.Path.{_≡_};
@@ -29,7 +29,7 @@ pub fn code_end(s: &[u8], y: Section) -> u64
     let n = y.count as usize;
     let mut greatest: u64 = 0;
     for i in 0..n {
-        let end = instruction_at(s, y, i).end;
+        let end = end_at(s, y, i);
         if greatest < end {
             greatest = end;
         }

@@ -9,6 +9,9 @@ use borrow.Author.Needs.{needs}
 use Rattle.graph.proofs.edges.add_transfer.Statement.{statement}
 use Rattle.graph.proofs.edges.add_transfer.Tie as tie
 
+add-resolve : tie.Need-add-resolve
+add-resolve c = let start = c .before in omega (arith, start .pre .1 .0, start .pre .0 .sourced .accepted .instructions-most)
+
 block-of-requires-2 : tie.Need-block-of-requires-2
 block-of-requires-2 c κs =
     let r = rw (c .before .before .before .to .given .1) at (c .before .before .before .before .before .resolve .ensures) in
@@ -37,6 +40,7 @@ pub add-transfer-spec : {M : Type 1} → statement M
 add-transfer-spec =
     tie.close
     (tie.spec
+    add-resolve
     (λ c κs. search needs)
     (λ c. search needs)
     (λ c κs. search needs)

@@ -11,7 +11,7 @@ use Rattle.graph.proofs.edges.resolve.Tie as tie
 returns : tie.Need-returns
 returns c =
     let a = c .before .before .before .before .args in
-    resolves (imageIn (a .s .now) (a .y)) (transferIn (a .x)) (c .find .result) (sym (c .before .before .has-target .ensures) ∙ c .before .if1 .taken) (c .find .ensures)
+    resolves (imageIn (a .s .now) (a .y)) (transferIn (a .x)) (c .find-near .result) (sym (c .before .before .has-target .ensures) ∙ c .before .if1 .taken) (c .find-near .ensures)
 
 returns-2 : tie.Need-returns-2
 returns-2 c =

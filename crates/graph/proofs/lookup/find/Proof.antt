@@ -1,11 +1,11 @@
 -- The invariant: wherever the address stands, it stands from lo on and before hi. Assumes nothing.
-use mathlib.Core.Path.{_∙_}
+use mathlib.Core.Path.{sym, _∙_}
 use Prim.Native.Nat.{_+_, _-_, _/_, _<_, _≤_}
 use lib.ListN.{length}
 use Rattle.image.specs.Image.{recordsIn}
 use Rattle.image.specs.Record.{instructionFrom}
 use Rattle.graph.specs.Transfer.{entriesOf}
-use Rattle.graph.proofs.TableLaws.{size-is, address-is, start-at, start-none, below-at, Between, go-left, go-right}
+use Rattle.graph.proofs.TableLaws.{size-is, start-at, start-none, below-at, Between, go-left, go-right}
 use native.Mathlib.Omega.{arith}
 use borrow.Author.Needs.{needs}
 use Rattle.graph.proofs.lookup.find.Statement.{statement}
@@ -29,8 +29,8 @@ sub-mid c = search needs
 add-mid : tie.Need-add-mid Inv-loop μ-loop
 add-mid c = search needs
 
-instruction-at-requires : tie.Need-instruction-at-requires Inv-loop μ-loop
-instruction-at-requires c κs = search needs
+address-at-requires : tie.Need-address-at-requires Inv-loop μ-loop
+address-at-requires c κs = search needs
 
 returns : tie.Need-returns Inv-loop μ-loop
 returns c =
@@ -39,7 +39,7 @@ returns c =
     let mid = top .lo + (top .hi - top .lo) / 2 in
     let is = recordsIn instructionFrom (start .args .s .now) (start .args .y) in
     let inside : mid < length (entriesOf is) = rw (size-is (start .args .s .now) (start .args .y)) (omega arith) in
-    let here = address-is is mid _ (c .before .instruction-at .ensures) ∙ c .if1 .taken in
+    let here = sym (c .before .address-at .ensures) ∙ c .if1 .taken in
     (start-at (entriesOf is) (start .args .a) mid inside here, rw here at (below-at (entriesOf is) (start .pre) mid inside), inside)
 
 add-lo : tie.Need-add-lo Inv-loop μ-loop
@@ -55,8 +55,8 @@ loop-again c =
     let mid = top .lo + (top .hi - top .lo) / 2 in
     let is = recordsIn instructionFrom (start .args .s .now) (start .args .y) in
     let inside : mid < length (entriesOf is) = rw (size-is (start .args .s .now) (start .args .y)) (omega arith) in
-    let here = address-is is mid _ (c .before .before .instruction-at .ensures) in
-    (search needs, search needs, go-right (entriesOf is) (start .pre) (start .args .a) (top .lo) (top .hi) mid (top .inv .2) inside (rw here (c .if2 .taken)))
+    let here = c .before .before .address-at .ensures in
+    (search needs, search needs, go-right (entriesOf is) (start .pre) (start .args .a) (top .lo) (top .hi) mid (top .inv .2) inside (rw (← here) (c .if2 .taken)))
 
 loop-less-2 : tie.Need-loop-less-2 Inv-loop μ-loop
 loop-less-2 c = search needs
@@ -68,8 +68,8 @@ loop-again-2 c =
     let mid = top .lo + (top .hi - top .lo) / 2 in
     let is = recordsIn instructionFrom (start .args .s .now) (start .args .y) in
     let inside : mid < length (entriesOf is) = rw (size-is (start .args .s .now) (start .args .y)) (omega arith) in
-    let here = address-is is mid _ (c .before .before .instruction-at .ensures) in
-    (search needs, search needs, go-left (entriesOf is) (start .pre) (start .args .a) (top .lo) (top .hi) mid (top .inv .2) inside (rw here (omega arith)))
+    let here = c .before .before .address-at .ensures in
+    (search needs, search needs, go-left (entriesOf is) (start .pre) (start .args .a) (top .lo) (top .hi) mid (top .inv .2) inside (rw (← here) (omega arith)))
 
 returns-2 : tie.Need-returns-2 Inv-loop μ-loop
 returns-2 c =
@@ -87,7 +87,7 @@ find-spec =
     loop-holds
     sub-mid
     add-mid
-    instruction-at-requires
+    address-at-requires
     returns
     add-lo
     loop-less

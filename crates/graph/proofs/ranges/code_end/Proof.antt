@@ -7,12 +7,10 @@ use lib.ListN.{length, take}
 use lib.Seq.{take-all}
 use Rattle.image.specs.Image.{recordsIn}
 use Rattle.image.specs.Record.{instructionFrom}
-use Rattle.image.specs.declared.record.Instruction.{Instruction}
-use Rattle.graph.specs.declared.record.TableEntry.{TableEntry}
 use Rattle.graph.specs.Table.{codeEnd}
 use Rattle.graph.specs.Lookup.{entriesIn}
-use Rattle.graph.specs.Transfer.{tableEntry, entriesOf}
-use Rattle.graph.proofs.TableLaws.{size-is, entry-is}
+use Rattle.graph.specs.Transfer.{entriesOf}
+use Rattle.graph.proofs.TableLaws.{size-is}
 use Rattle.graph.proofs.RangeLaws.{code-end-more}
 use borrow.Author.Needs.{needs}
 use Rattle.graph.proofs.ranges.code_end.Statement.{statement}
@@ -29,13 +27,12 @@ unfolding codeEnd
 loop-holds c = (search needs, refl)
 
 loop-again : tie.Need-loop-again Inv-loop μ-loop
-unfolding tableEntry
 loop-again c =
     let top = c .before .before .before .loop in
     let a = c .before .before .before .before .before .before .args in
     let is = recordsIn instructionFrom (a .s .now) (a .y) in
     let inside : top .i < length (entriesOf is) = rw (size-is (a .s .now) (a .y)) (omega arith) in
-    let here = ap (λ (x : TableEntry). x .end) (entry-is is (top .i)) ∙ ap (λ (x : Instruction). x .end) (sym (c .before .instruction-at .ensures)) in
+    let here = sym (c .before .end-at .ensures) in
     let more = code-end-more (entriesOf is) (top .i) inside in
     (search needs, ⊎-elim (λ w. omega (arith, more, here)) (λ w. omega (arith, more, here)) (c .if1 .came))
 
