@@ -20,7 +20,7 @@ use native.Mathlib.Nat.{eq-or-lt-of-le, le-of-suc-le-suc}
 use native.Mathlib.Numerals.{add-one}
 use native.Mathlib.Omega.{arith}
 use borrow.Author.Tests.{le-leb, lt-leb}
-use lib.Dec.{eqb, leb}
+use lib.Dec.{eqb}
 use lib.ListN.{length, getD, take, drop, set, replicate, length-set, drop-of-length-le, List·getD-eq-default}
 use lib.Seq.{length-take-le, take-suc, drop-cons, append-snoc, take-suc-set, take-take, getD-take, getD-set-same, getD-set-other}
 use Rattle.image.specs.Image.{Image}

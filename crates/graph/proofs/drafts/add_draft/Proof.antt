@@ -2,7 +2,6 @@
 use mathlib.Core.Path.{sym, ap, _∙_}
 use Rattle.graph.specs.Regions.{place}
 use Rattle.graph.proofs.DraftLaws.{drafts-in, drafts-out}
-use native.Mathlib.Omega.{arith}
 use borrow.Author.Needs.{needs}
 use Rattle.graph.proofs.drafts.add_draft.Statement.{statement}
 use Rattle.graph.proofs.drafts.add_draft.Tie as tie

@@ -1,6 +1,5 @@
 -- `same_range` meets its contract. Assumes nothing.
 use Rattle.graph.proofs.DraftLaws.{same-is}
-use native.Mathlib.Omega.{arith}
 use borrow.Author.Needs.{needs}
 use Rattle.graph.proofs.drafts.same_range.Statement.{statement}
 use Rattle.graph.proofs.drafts.same_range.Tie as tie

@@ -7,7 +7,6 @@ use Rattle.image.proofs.Tables.{length-records}
 use Rattle.graph.proofs.DraftLaws.{counted-none, drafted-all}
 use Rattle.graph.proofs.RegionLaws.{regions-whole, regions-keep, both, none-stored}
 use native.Mathlib.Omega.{arith}
-use borrow.Author.Needs.{needs}
 use Rattle.graph.proofs.regions.add_regions.Statement.{statement}
 use Rattle.graph.proofs.regions.add_regions.Tie as tie
 

@@ -1,6 +1,5 @@
 -- `contains` meets its contract. Assumes nothing.
 use Rattle.graph.proofs.RegionLaws.{contains-is}
-use native.Mathlib.Omega.{arith}
 use borrow.Author.Needs.{needs}
 use Rattle.graph.proofs.regions.contains.Statement.{statement}
 use Rattle.graph.proofs.regions.contains.Tie as tie

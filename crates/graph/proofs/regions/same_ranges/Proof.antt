@@ -1,8 +1,7 @@
 -- `same_ranges` meets its contract. The loop's invariant: so many of the handlers passed have the range. Assumes nothing.
 use mathlib.Core.Path.{_≡_, refl, sym, _∙_}
 use mathlib.Core.Logic.{⊎-elim}
-use mathlib.Core.Bool.{Bool}
-use Prim.Native.Nat.{ℕ, _-_, _≤_}
+use Prim.Native.Nat.{_-_, _≤_}
 use native.Mathlib.Numerals.{add-one}
 use Rattle.image.specs.Image.{Image}
 use Rattle.graph.specs.Fold.{count}
