@@ -1,34 +1,90 @@
 -- Drafts of regions.
---     same-is                         what is read of two handlers
+--     Filled, filled-none, filled-more, filled-all     an array of the first values of f, and zeros behind them
+--     extents-read                    arrays that are filled with the ranges of all handlers
+--     same-is, span-is                what is read of the ranges of handlers
 --     place-on, place-here, place-end the place of a handler: behind the drafts of no lesser span
 --     drafts-in, drafts-out           a handler that is a draft, and one that is not
---     drafts-most                     no more than there are handlers
 --     put-none, put-on, put-end       one more among them, each behind it moved up after the other
---     counted-size, counted-at, counted-past     the drafts that an array holds: how many, and which stands at j
---     drafted-size, drafted-at        the same of a list of drafts that it holds
+--     below-set                       the numbers in an array stay places of it
+--     counted-none, counted-size      an array with no place in use, and how many drafts one holds
+--     drafted-all                     an array that holds the drafts of all handlers
+--     drafted-size, drafted-at        how many drafts those are, and which stands at j
 -- Assumes nothing.
 use mathlib.Core.Path.{_≡_, refl, sym, ap, _∙_}
-use mathlib.Core.Bool.{Bool, true, false, cond, _&&_}
+use mathlib.Core.Logic.{⊎-elim}
+use mathlib.Core.Bool.{true, false, _&&_}
 use mathlib.Core.List.{List, [], _∷_, _++_}
-use Prim.Native.Nat.{ℕ, zero, suc, _+_, _<_, _≤_}
+use Prim.Native.Nat.{ℕ, zero, suc, _+_, _-_, _<_, _≤_}
+use native.Mathlib.Decide.{ℕ-discrete, decLt}
+use native.Mathlib.Nat.{eq-or-lt-of-le, le-of-suc-le-suc}
 use native.Mathlib.Numerals.{add-one}
 use native.Mathlib.Omega.{arith}
 use borrow.Author.Tests.{le-leb, lt-leb}
-use lib.Dec.{eqb, leb}
-use lib.ListN.{length, getD, take, drop, set, drop-of-length-le, List·getD-eq-default}
-use lib.Seq.{length-take-le, take-suc, drop-cons, append-snoc, take-suc-set, take-take, getD-take}
+use lib.Dec.{eqb}
+use lib.ListN.{length, getD, take, drop, set, replicate, length-set, drop-of-length-le, List·getD-eq-default}
+use lib.Seq.{length-take-le, take-suc, drop-cons, append-snoc, take-suc-set, take-take, getD-take, getD-set-same, getD-set-other}
 use Rattle.image.specs.Image.{Image}
+use Rattle.image.specs.Record.{handlerFrom}
 use Rattle.image.specs.declared.record.Handler.{Handler}
 use Rattle.graph.specs.Leaders.{handlerAt}
-use Rattle.graph.specs.Regions.{sameRange, isDraft, span, place, draftsBelow}
-use Rattle.graph.specs.Drafts.{draftsIn, Counted, Drafted, put}
-use Rattle.graph.specs.declared.drafts.Drafts.{Drafts}
+use Rattle.graph.specs.Regions.{sameRange, isDraft, span, place, draftsBelow, drafts}
+use Rattle.graph.specs.Drafts.{Extents, Counted, Drafted, put}
+
+-- ---- the ranges of handlers, in arrays
+
+zeros : (n i : ℕ) → getD {A = ℕ} (replicate n 0) i 0 ≡ 0
+zeros zero i = refl
+zeros (suc n) zero = refl
+zeros (suc n) (suc i) = zeros n i
+
+pub record Filled (f : ℕ → ℕ) (n : ℕ) (l : List ℕ) : Type 0 where
+  pub room : length l ≡ 32
+  pub before : (i : ℕ) → i < n → getD l i 0 ≡ f i
+  pub behind : (i : ℕ) → n ≤ i → getD l i 0 ≡ 0
+
+pub filled-none : (f : ℕ → ℕ) → Filled f 0 (replicate 32 0)
+filled-none f = record { room = refl; before = λ i h. absurd (omega arith); behind = λ i h. zeros 32 i }
+
+module _ {f : ℕ → ℕ} {n : ℕ} {l : List ℕ} (filled : Filled f n l) where
+  pub filled-more : (v : ℕ) → n < 32 → v ≡ f n → Filled f (n + 1) (set l n v)
+  filled-more v lt is =
+      let long = filled .room in
+      record {
+        room = length-set l n v ∙ long;
+        before = λ i h.
+            ⊎-elim
+            (λ same. rw same (getD-set-same l n v 0 (omega arith) ∙ is))
+            (λ less. getD-set-other l n i v 0 (λ e. omega arith) ∙ filled .before i less)
+            (eq-or-lt-of-le (le-of-suc-le-suc (rw (add-one n) at h)));
+        behind = λ i h. getD-set-other l n i v 0 (λ e. omega arith) ∙ filled .behind i (omega arith);
+      }
+
+  pub filled-all : ((i : ℕ) → n ≤ i → f i ≡ 0) → (i : ℕ) → getD l i 0 ≡ f i
+  filled-all none i = elim (decLt i n) [ yes lt ↦ filled .before i lt | no ge ↦ filled .behind i (omega arith) ∙ sym (none i (omega arith)) ]
+
+handler-past : (m : Image) (h : ℕ) → length (m .handlers) ≤ h → handlerAt m h ≡ handlerFrom [] 0
+unfolding handlerAt
+handler-past m h le = List·getD-eq-default (m .handlers) (handlerFrom [] 0) {n = h} le
+
+pub extents-read : (m : Image) (starts ends : List ℕ) (n : ℕ) → n ≡ length (m .handlers) → Filled (λ h. handlerAt m h .start) n starts → Filled (λ h. handlerAt m h .end) n ends → Extents m starts ends
+extents-read m starts ends n all from to =
+    record {
+      start = filled-all from (λ i h. ap (λ (x : Handler). x .start) (handler-past m i (rw all at h)));
+      end = filled-all to (λ i h. ap (λ (x : Handler). x .end) (handler-past m i (rw all at h)));
+    }
+
+module _ {m : Image} {starts ends : List ℕ} (extents : Extents m starts ends) where
+  pub same-is : (a b : ℕ) → (eqb (getD starts a 0) (getD starts b 0) && eqb (getD ends a 0) (getD ends b 0)) ≡ sameRange m a b
+  unfolding sameRange
+  same-is a b = rw (extents .start a, extents .start b, extents .end a, extents .end b)
+
+  pub span-is : (h : ℕ) → getD ends h 0 - getD starts h 0 ≡ span m h
+  unfolding span
+  span-is h = rw (extents .start h, extents .end h)
+
+-- ---- drafts
 
 module _ (m : Image) where
-  pub same-is : (g h : ℕ) (a b : Handler) → a ≡ handlerAt m g → b ≡ handlerAt m h → (eqb (a .start) (b .start) && eqb (a .end) (b .end)) ≡ sameRange m g h
-  unfolding sameRange
-  same-is g h a b e f = rw (e, f)
-
   module _ (h : ℕ) (gs : List ℕ) where
     pub place-on : (j : ℕ) → j < length gs → span m h ≤ span m (getD gs j 0) → take j gs ++ place m h (drop j gs) ≡ take (j + 1) gs ++ place m h (drop (j + 1) gs)
     unfolding place
@@ -44,15 +100,6 @@ module _ (m : Image) where
     unfolding place
     place-end n e = rw (drop-of-length-le gs {i = n} (omega arith))
 
-  length-place : (h : ℕ) (gs : List ℕ) → length (place m h gs) ≡ suc (length gs)
-  unfolding place
-  length-place h [] = refl
-  length-place h (g ∷ gs) = go (leb (span m h) (span m g)) (length-place h gs)
-    where
-      go : (b : Bool) → length (place m h gs) ≡ suc (length gs) → length (cond b (g ∷ place m h gs) (h ∷ g ∷ gs)) ≡ suc (suc (length gs))
-      go true e = ap suc e
-      go false e = refl
-
   pub drafts-in : (h : ℕ) → isDraft m h ≡ true → draftsBelow m (h + 1) ≡ place m h (draftsBelow m h)
   unfolding draftsBelow
   drafts-in h e = rw (add-one h, e)
@@ -60,15 +107,6 @@ module _ (m : Image) where
   pub drafts-out : (h : ℕ) → isDraft m h ≡ false → draftsBelow m (h + 1) ≡ draftsBelow m h
   unfolding draftsBelow
   drafts-out h e = rw (add-one h, e)
-
-  pub drafts-most : (n : ℕ) → length (draftsBelow m n) ≤ n
-  unfolding draftsBelow
-  drafts-most zero = omega arith
-  drafts-most (suc n) = go (isDraft m n) (drafts-most n)
-    where
-      go : (b : Bool) → length (draftsBelow m n) ≤ n → length (cond b (place m n (draftsBelow m n)) (draftsBelow m n)) ≤ suc n
-      go true most = omega (arith, length-place n (draftsBelow m n))
-      go false most = omega arith
 
 pub put-none : (j h : ℕ) (l : List ℕ) (n : ℕ) → j ≤ n → take j l ++ h ∷ drop j (take n l) ≡ put j h (take n l)
 put-none j h l n le = rw (take-take j n l le)
@@ -80,18 +118,23 @@ module _ (l gs : List ℕ) (k next : ℕ) (h : k < length l) where
   pub put-end : k ≡ length gs → take (k + 1) (set l k next) ≡ take k l ++ next ∷ drop k gs
   put-end e = rw (add-one k, take-suc-set l k next h, drop-of-length-le gs {i = k} (omega arith))
 
-module _ {d : Drafts} where
-  pub counted-size : Counted d → length (draftsIn d) ≡ d .count
-  counted-size counted = length-take-le (d .count) (d .list) (omega arith)
+pub below-set : (l : List ℕ) (k v : ℕ) → k < length l → v < 32 → ((i : ℕ) → getD l i 0 < 32) → (i : ℕ) → getD (set l k v) i 0 < 32
+below-set l k v h lt below i =
+    elim (ℕ-discrete i k) [ yes e ↦ rw (e, getD-set-same l k v 0 h) lt | no ne ↦ rw (getD-set-other l k i v 0 ne) (below i) ]
 
-  pub counted-at : Counted d → (j : ℕ) → j < d .count → getD (draftsIn d) j 0 ≡ getD (d .list) j 0
-  counted-at counted j h = getD-take (d .count) (d .list) j 0 h
+pub counted-none : Counted (replicate 32 0) 0
+counted-none = record { room = refl; within = omega arith; below = λ k. rw (zeros 32 k) (omega arith) }
 
-  pub counted-past : Counted d → (j : ℕ) → d .count ≤ j → getD (draftsIn d) j 0 ≡ 0
-  counted-past counted j h = List·getD-eq-default (draftsIn d) 0 {n = j} (omega (arith, counted-size counted))
+module _ {l : List ℕ} {n : ℕ} where
+  pub counted-size : Counted l n → length (take n l) ≡ n
+  counted-size counted = length-take-le n l (omega arith)
 
-  pub drafted-size : {gs : List ℕ} → Drafted d gs → length gs ≡ d .count
+  pub drafted-all : (m : Image) (h : ℕ) → h ≡ length (m .handlers) → Counted l n → take n l ≡ draftsBelow m h → Drafted l n (drafts m)
+  unfolding drafts
+  drafted-all m h all counted e = record { counted = counted; list = rw all at e }
+
+  pub drafted-size : {gs : List ℕ} → Drafted l n gs → length gs ≡ n
   drafted-size drafted = ap length (sym (drafted .list)) ∙ counted-size (drafted .counted)
 
-  pub drafted-at : {gs : List ℕ} → Drafted d gs → (j : ℕ) → getD (draftsIn d) j 0 ≡ getD gs j 0
-  drafted-at drafted j = ap (λ (l : List ℕ). getD l j 0) (drafted .list)
+  pub drafted-at : {gs : List ℕ} → Drafted l n gs → (j : ℕ) → j < n → getD l j 0 ≡ getD gs j 0
+  drafted-at drafted j h = sym (getD-take n l j 0 h) ∙ ap (λ (k : List ℕ). getD k j 0) (drafted .list)

@@ -1,5 +1,5 @@
 -- Regions and handler records, field by field.
---     contains-is                     what is read of two handlers
+--     contains-is                     what is read of the ranges of two handlers
 --     parent-in, parent-out           one region more: whether it contains region r
 --     same-count                      the handlers of a range, counted the other way round
 --     set-none, set-more, set-same    the blocks from a position on: none, one more, and they hang on f alone
@@ -11,6 +11,7 @@
 --     regions-none, handlers-none     a graph with no region, or no handler, before the first store
 --     regions-more, handlers-more     a graph with so many of them, and one more
 --     regions-whole, regions-keep, both             a graph with its regions, and with its handlers behind them
+--     none-stored                     a graph of an image with no handler
 -- Assumes nothing.
 use mathlib.Core.Path.{_≡_, refl, sym, ap, ap₂, _∙_}
 use mathlib.Core.Bool.{Bool, true, false, cond, not, _&&_}
@@ -46,8 +47,8 @@ use Rattle.graph.specs.Words.{heldIn}
 use Rattle.graph.specs.Stored.{withRegion, withHandler, Stored}
 use Rattle.graph.specs.declared.record.Region.{Region}
 use Rattle.graph.specs.declared.record.HandlerRecord.{HandlerRecord}
-use Rattle.graph.specs.Drafts.{Whole, withRegions, withHandlers}
-use Rattle.graph.specs.Regions.{sameRange, contains, span, place, isDraft, draftsBelow, drafts, draft, smaller, parentBelow, setBelow, regionIn}
+use Rattle.graph.specs.Drafts.{Extents, Whole, withRegions, withHandlers}
+use Rattle.graph.specs.Regions.{sameRange, contains, span, place, isDraft, draftsBelow, drafts, draft, smaller, parentBelow, setBelow, regionsOf, regionIn, handlersOf}
 use Rattle.graph.proofs.FoldLaws.{length-table, count-same}
 use Rattle.graph.proofs.StoredLaws.{stored-then, region-more, handler-more}
 use Rattle.graph.proofs.TableLaws.{length-entries}
@@ -73,16 +74,15 @@ module _ (f : ℕ → ℕ) (first : ℕ) where
       let here : first + (p - first) ≡ p = omega arith in
       rw (more, here)
 
+pub contains-is : {m : Image} {starts ends : List ℕ} → Extents m starts ends → (a b : ℕ) → (not (sameRange m a b) && leb (getD starts a 0) (getD starts b 0) && leb (getD ends b 0) (getD ends a 0)) ≡ contains m a b
+unfolding contains
+contains-is extents a b = rw (extents .start a, extents .start b, extents .end a, extents .end b)
+
 module _ (m : Image) where
   pub block-found : (blocks : List ℕ) (a p b : ℕ) → Numbered m blocks → Finds (tableOf m) a (At p) → b ≡ getD blocks p 0 → b ≡ blockAt m a
   unfolding blockAt
   block-found blocks a p b numbered found e =
       e ∙ numbered .block p (rw (length-entries (m .instructions)) at (found .2)) ∙ ap (blockOf m) (sym (found .1))
-
-  pub contains-is : (g h : ℕ) (a b : Handler) → a ≡ handlerAt m g → b ≡ handlerAt m h
-      → (not (eqb (a .start) (b .start) && eqb (a .end) (b .end)) && leb (a .start) (b .start) && leb (b .end) (a .end)) ≡ contains m g h
-  unfolding contains sameRange
-  contains-is g h a b e f = rw (e, f)
 
   pub same-count : (h n : ℕ) → count (sameRange m h) n ≡ count (λ g. sameRange m g h) n
   unfolding sameRange
@@ -179,6 +179,18 @@ module _ {l k : List ℕ} (rs : List Region) (stored : Stored l k (held (withReg
 
   pub both : {n : List ℕ} (hs : List HandlerRecord) → Stored k n (held (withHandlers (heldIn k .graph) hs)) → Stored l n (held (withHandlers (withRegions (heldIn l .graph) rs) hs))
   both hs then = rw graph-is at (stored-then stored then)
+
+no-regions : (m : Image) → length (m .handlers) ≡ 0 → regionsOf m ≡ []
+unfolding regionsOf drafts draftsBelow table
+no-regions m none = rw none
+
+no-handlers : (m : Image) → length (m .handlers) ≡ 0 → handlersOf m ≡ []
+unfolding handlersOf table
+no-handlers m none = rw none
+
+pub none-stored : (m : Image) (l : List ℕ) → length (m .handlers) ≡ 0 → Whole l → heldIn l .graph .regions ≡ [] → heldIn l .graph .handlers ≡ [] → Stored l l (held (withHandlers (withRegions (heldIn l .graph) (regionsOf m)) (handlersOf m)))
+none-stored m l none whole no-region no-handler =
+    rw (no-regions m none, no-handlers m none) (both [] (regions-none l whole no-region) [] (handlers-none l whole no-handler))
 
 module _ (g : Graph) where
   pub regions-more : (f : ℕ → Region) (r : ℕ) (x : Region) → r < 32 → x ≡ f r → withRegion (held (withRegions g (table f r))) x ≡ held (withRegions g (table f (r + 1)))

@@ -1,11 +1,10 @@
--- What the code that adds regions is lent, and what it answers on the way: the drafts in an array, and the parent of one.
+-- What the code that adds regions is lent, and what it answers on the way: ranges and drafts in arrays, and the parent of one.
 use mathlib.Core.Path.{_≡_}
 use mathlib.Core.List.{List, [], _∷_, _++_}
-use Prim.Native.Nat.{ℕ, _≤_}
-use lib.ListN.{length, take, drop}
+use Prim.Native.Nat.{ℕ, _≤_, _<_}
+use lib.ListN.{length, getD, take, drop}
 use Rattle.image.specs.Refusal.{clear}
 use Rattle.image.specs.Image.{Image}
-use Rattle.graph.specs.declared.drafts.Drafts.{Drafts}
 use Rattle.graph.specs.declared.regions.Parent.{Parent}
 use Rattle.graph.specs.declared.regions.Parent.the-variants.{At, Nothing}
 use Rattle.graph.specs.declared.record.Region.{Region}
@@ -14,29 +13,29 @@ use Rattle.graph.specs.Graph.{Graph, held}
 use Rattle.graph.specs.Words.{heldIn}
 use Rattle.graph.specs.Fold.{checks}
 use Rattle.graph.specs.Transfer.{tableOf}
+use Rattle.graph.specs.Leaders.{handlerAt}
 use Rattle.graph.specs.Emit.{Numbered}
 use Rattle.graph.specs.Build.{tableCheck, handlerCheck}
-use Rattle.graph.specs.Regions.{place}
 
--- the drafts that an array holds
-abbrev pub draftsIn : Drafts → List ℕ
-draftsIn d = take (d .count) (d .list)
+-- two arrays hold the ranges of the handlers, and zeros past the last
+pub record Extents (m : Image) (starts ends : List ℕ) : Type 0 where
+  pub start : (h : ℕ) → getD starts h 0 ≡ handlerAt m h .start
+  pub end : (h : ℕ) → getD ends h 0 ≡ handlerAt m h .end
 
-pub record Counted (d : Drafts) : Type 0 where
-  pub room : length (d .list) ≡ 32
-  pub within : d .count ≤ 32
+-- an array of 32 numbers of handlers, the first n in use
+pub record Counted (l : List ℕ) (n : ℕ) : Type 0 where
+  pub room : length l ≡ 32
+  pub within : n ≤ 32
+  pub below : (k : ℕ) → getD l k 0 < 32
 
-pub record Drafted (d : Drafts) (gs : List ℕ) : Type 0 where
-  pub counted : Counted d
-  pub list : draftsIn d ≡ gs
+-- those in use are these drafts
+pub record Drafted (l : List ℕ) (n : ℕ) (gs : List ℕ) : Type 0 where
+  pub counted : Counted l n
+  pub list : take n l ≡ gs
 
 -- h in place j of a list
 abbrev pub put : ℕ → ℕ → List ℕ → List ℕ
 put j h gs = take j gs ++ h ∷ drop j gs
-
-pub record Placed (m : Image) (d : Drafts) (h j : ℕ) : Type 0 where
-  pub within : j ≤ d .count
-  pub place : place m h (draftsIn d) ≡ put j h (draftsIn d)
 
 -- a list of one region, or of none
 abbrev pub parentIn : Parent → List ℕ

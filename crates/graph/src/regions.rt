@@ -1,9 +1,8 @@
 // Regions and handler records, from the drafts: `add_regions`.
 use crate::blockset::put_in;
-use crate::drafts::Drafts;
-use crate::drafts::draft_at;
 use crate::drafts::drafts_of;
 use crate::drafts::handler;
+use crate::drafts::read_ranges;
 use crate::drafts::same_range;
 use crate::drafts::span;
 use crate::edges::block_of;
@@ -16,16 +15,14 @@ use crate::record::Region;
 use crate::store::Words;
 use crate::store::handlers::add_handler;
 use crate::store::regions::add_region;
-use image::record::Handler;
 use image::section::Layout;
-ghost use mathlib.Core.Bool.{cond, not, true, _&&_};
+ghost use mathlib.Core.Bool.{cond, true};
 ghost use mathlib.Core.List.{[], _∷_};
 ghost use mathlib.Core.Path.{_≡_};
-ghost use Prim.Native.Nat.{_+_, _-_, _≤_, _<_};
-ghost use lib.Dec.{eqb, leb};
-ghost use lib.ListN.{length, getD};
+ghost use Prim.Native.Nat.{ℕ, _+_, _-_, _≤_, _<_};
+ghost use lib.ListN.{length, getD, take};
 ghost use Rattle.image.specs.Refusal.{clear};
-ghost use Rattle.image.specs.Image.{imageIn};
+ghost use Rattle.image.specs.Image.{Image, imageIn};
 ghost use Rattle.graph.specs.Graph.{held};
 ghost use Rattle.graph.specs.Words.{heldIn};
 ghost use Rattle.graph.specs.Stored.{Stored};
@@ -36,8 +33,8 @@ ghost use Rattle.graph.specs.Blocks.{blockOf, blockAt};
 ghost use Rattle.graph.specs.Build.{handlerCheck};
 ghost use Rattle.graph.specs.Edges.{rangeFirst, rangeSize};
 ghost use Rattle.graph.specs.Emit.{Numbered};
-ghost use Rattle.graph.specs.Regions.{sameRange, drafts, smaller, parentBelow, setBelow, regionAt, regionsOf, regionIn, handlerRecord, handlersOf};
-ghost use Rattle.graph.specs.Drafts.{Drafted, parentIn, Handled, Whole, withRegions, withHandlers};
+ghost use Rattle.graph.specs.Regions.{sameRange, drafts, draft, contains, smaller, parentBelow, setBelow, regionAt, regionsOf, regionIn, handlerRecord, handlersOf};
+ghost use Rattle.graph.specs.Drafts.{Extents, Counted, Drafted, parentIn, Handled, Whole, withRegions, withHandlers};
 
 pub enum Parent {
     At(usize),
@@ -50,49 +47,94 @@ pub fn add_regions(g: &mut Words, s: &[u8], y: Layout, code_end: u64, blocks: &[
     requires { ⌜ Whole (now g) × (heldIn (now g) .graph .regions ≡ []) × (heldIn (now g) .graph .handlers ≡ []) ⌝ }
     ensures { λ _. ⌜ Stored (now (g .entry)) (now (g .exit)) (held (withHandlers (withRegions (heldIn (now (g .entry)) .graph) (regionsOf (imageIn (now (s .entry)) y))) (handlersOf (imageIn (now (s .entry)) y)))) ⌝ }
 {
-    let d = drafts_of(s, y);
-    store_regions(g, s, y, code_end, blocks, d);
-    store_handlers(g, s, y, blocks, d);
+    let n = y.code.handlers.count as usize;
+    if n == 0 {
+        return;
+    }
+    let mut starts = [0u64; 32];
+    let mut ends = [0u64; 32];
+    read_ranges(&mut starts, &mut ends, s, y);
+    let mut list = [0usize; 32];
+    let count = drafts_of(&mut list, &starts, &ends, n);
+    store_regions(g, s, y, code_end, blocks, &starts, &ends, &list, count);
+    store_handlers(g, s, y, blocks, &starts, &ends, &list, count);
 }
 
-fn store_regions(g: &mut Words, s: &[u8], y: Layout, code_end: u64, blocks: &[u16; 512], d: Drafts)
+fn store_regions(
+    g: &mut Words,
+    s: &[u8],
+    y: Layout,
+    code_end: u64,
+    blocks: &[u16; 512],
+    starts: &[u64; 32],
+    ends: &[u64; 32],
+    list: &[usize; 32],
+    count: usize,
+)
     requires { ⌜ Handled (imageIn (now s) y) (now blocks) × («code_end» ≡ codeEnd (tableOf (imageIn (now s) y))) ⌝ }
-    requires { ⌜ Drafted d (drafts (imageIn (now s) y)) ⌝ }
+    requires { ⌜ Extents (imageIn (now s) y) (now starts) (now ends) × Drafted (now list) count (drafts (imageIn (now s) y)) ⌝ }
     requires { ⌜ Whole (now g) × (heldIn (now g) .graph .regions ≡ []) ⌝ }
     ensures { λ _. ⌜ Stored (now (g .entry)) (now (g .exit)) (held (withRegions (heldIn (now (g .entry)) .graph) (regionsOf (imageIn (now (s .entry)) y)))) ⌝ }
 {
-    let count = d.count;
     for r in 0..count {
-        add_region(g, region_of(s, y, code_end, blocks, d, r));
+        add_region(
+            g,
+            region_of(s, y, code_end, blocks, starts, ends, list, count, r),
+        );
     }
 }
 
-fn store_handlers(g: &mut Words, s: &[u8], y: Layout, blocks: &[u16; 512], d: Drafts)
-    requires { ⌜ Handled (imageIn (now s) y) (now blocks) × Drafted d (drafts (imageIn (now s) y)) ⌝ }
+fn store_handlers(
+    g: &mut Words,
+    s: &[u8],
+    y: Layout,
+    blocks: &[u16; 512],
+    starts: &[u64; 32],
+    ends: &[u64; 32],
+    list: &[usize; 32],
+    count: usize,
+)
+    requires { ⌜ Handled (imageIn (now s) y) (now blocks) ⌝ }
+    requires { ⌜ Extents (imageIn (now s) y) (now starts) (now ends) × Drafted (now list) count (drafts (imageIn (now s) y)) ⌝ }
     requires { ⌜ Whole (now g) × (heldIn (now g) .graph .handlers ≡ []) ⌝ }
     ensures { λ _. ⌜ Stored (now (g .entry)) (now (g .exit)) (held (withHandlers (heldIn (now (g .entry)) .graph) (handlersOf (imageIn (now (s .entry)) y)))) ⌝ }
 {
     let n = y.code.handlers.count as usize;
     for h in 0..n {
-        add_handler(g, handler_record(s, y, blocks, d, h));
+        add_handler(
+            g,
+            handler_record(s, y, blocks, starts, ends, list, count, h),
+        );
     }
 }
 
-fn region_of(s: &[u8], y: Layout, code_end: u64, blocks: &[u16; 512], d: Drafts, r: usize) -> Region
+fn region_of(
+    s: &[u8],
+    y: Layout,
+    code_end: u64,
+    blocks: &[u16; 512],
+    starts: &[u64; 32],
+    ends: &[u64; 32],
+    list: &[usize; 32],
+    count: usize,
+    r: usize,
+) -> Region
     requires { ⌜ Handled (imageIn (now s) y) (now blocks) × («code_end» ≡ codeEnd (tableOf (imageIn (now s) y))) ⌝ }
-    requires { ⌜ Drafted d (drafts (imageIn (now s) y)) × (r < d .count) ⌝ }
+    requires { ⌜ Extents (imageIn (now s) y) (now starts) (now ends) × Drafted (now list) count (drafts (imageIn (now s) y)) ⌝ }
+    requires { ⌜ r < count ⌝ }
     ensures { λ n. ⌜ n ≡ regionAt (imageIn (now (s .entry)) y) r ⌝ }
 {
-    let h = draft_at(d, r);
-    let own = handler(s, y, h);
-    let parent = parent_of(s, y, d, r);
+    let h = list[r];
+    let start = starts[h];
+    let end = ends[h];
+    let parent = parent_of(starts, ends, list, count, r);
     let n = y.code.handlers.count as usize;
     Region {
         has_parent: has_parent(parent),
         parent: parent_number(parent),
-        start: own.start,
-        end: own.end,
-        handlers: same_ranges(s, y, h, n),
+        start,
+        end,
+        handlers: same_ranges(starts, ends, h, n),
         protected: protected_by(s, y, code_end, blocks, h),
     }
 }
@@ -116,53 +158,59 @@ fn parent_number(p: Parent) -> u64
 }
 
 // The smallest region that contains region r, the earlier of equal spans.
-fn parent_of(s: &[u8], y: Layout, d: Drafts, r: usize) -> Parent
-    requires { ⌜ Drafted d (drafts (imageIn (now s) y)) ⌝ }
-    ensures { λ p. ⌜ parentIn p ≡ parentBelow (imageIn (now (s .entry)) y) r (length (drafts (imageIn (now (s .entry)) y))) ⌝ }
+fn parent_of(
+    starts: &[u64; 32],
+    ends: &[u64; 32],
+    list: &[usize; 32],
+    count: usize,
+    r: usize,
+) -> Parent
+    requires { ⌜ Counted (now list) count × (r < count) ⌝ }
+    ensures { λ p. ⌜ ((m : Image) → Extents m (now (starts .entry)) (now (ends .entry)) → Drafted (now (list .entry)) count (drafts m) → parentIn p ≡ parentBelow m r (length (drafts m))) ⌝ }
 {
-    let own = handler(s, y, draft_at(d, r));
-    let count = d.count;
+    let own = list[r];
     let mut parent = Parent::Nothing;
     for k in 0..count {
-        if contains(handler(s, y, draft_at(d, k)), own) {
-            parent = nearer(parent, s, y, d, k);
+        if contains(starts, ends, list[k], own) {
+            parent = nearer(parent, starts, ends, list, k);
         }
     }
     parent
 }
 
 // The nearer of the parent so far and region k.
-fn nearer(p: Parent, s: &[u8], y: Layout, d: Drafts, k: usize) -> Parent
-    requires { ⌜ Drafted d (drafts (imageIn (now s) y)) ⌝ }
-    ensures { λ r. ⌜ parentIn r ≡ cond (smaller (imageIn (now (s .entry)) y) (parentIn p) k) (k ∷ []) (parentIn p) ⌝ }
+fn nearer(p: Parent, starts: &[u64; 32], ends: &[u64; 32], list: &[usize; 32], k: usize) -> Parent
+    requires { ⌜ Counted (now list) (k + 1) × (getD (parentIn p) 0 0 ≤ k) ⌝ }
+    ensures { λ r. ⌜ (getD (parentIn r) 0 0 ≤ k) × ((m : Image) → Extents m (now (starts .entry)) (now (ends .entry)) → ((i : ℕ) → i ≤ k → getD (now (list .entry)) i 0 ≡ draft m i) → parentIn r ≡ cond (smaller m (parentIn p) k) (k ∷ []) (parentIn p)) ⌝ }
 {
     let Parent::At(j) = p else {
         return Parent::At(k);
     };
-    if span(s, y, draft_at(d, k)) < span(s, y, draft_at(d, j)) {
+    if span(starts, ends, list[k]) < span(starts, ends, list[j]) {
         return Parent::At(k);
     }
     p
 }
 
 // Whether b's range lies in a's and is another.
-fn contains(a: Handler, b: Handler) -> bool
-    ensures { λ r. ⌜ r ≡ (not (eqb (a .start) (b .start) && eqb (a .end) (b .end)) && leb (a .start) (b .start) && leb (b .end) (a .end)) ⌝ }
+fn contains(starts: &[u64; 32], ends: &[u64; 32], a: usize, b: usize) -> bool
+    requires { ⌜ (a < 32) × (b < 32) ⌝ }
+    ensures { λ r. ⌜ ((m : Image) → Extents m (now (starts .entry)) (now (ends .entry)) → r ≡ contains m a b) ⌝ }
 {
-    let other = !same_range(a, b);
-    let after = a.start <= b.start;
-    let before = b.end <= a.end;
+    let other = !same_range(starts, ends, a, b);
+    let after = starts[a] <= starts[b];
+    let before = ends[b] <= ends[a];
     other & after & before
 }
 
 // How many of the first n handlers have the range of h.
-fn same_ranges(s: &[u8], y: Layout, h: usize, n: usize) -> u64
-    ensures { λ r. ⌜ r ≡ count (λ g. sameRange (imageIn (now (s .entry)) y) g h) n ⌝ }
+fn same_ranges(starts: &[u64; 32], ends: &[u64; 32], h: usize, n: usize) -> u64
+    requires { ⌜ (h < 32) × (n ≤ 32) ⌝ }
+    ensures { λ r. ⌜ ((m : Image) → Extents m (now (starts .entry)) (now (ends .entry)) → r ≡ count (λ g. sameRange m g h) n) ⌝ }
 {
-    let own = handler(s, y, h);
     let mut same: u64 = 0;
     for g in 0..n {
-        if same_range(handler(s, y, g), own) {
+        if same_range(starts, ends, g, h) {
             same += 1;
         }
     }
@@ -197,14 +245,24 @@ fn blocks_between(blocks: &[u16; 512], first: usize, past: usize) -> [u64; 16]
     set
 }
 
-fn handler_record(s: &[u8], y: Layout, blocks: &[u16; 512], d: Drafts, h: usize) -> HandlerRecord
-    requires { ⌜ Numbered (imageIn (now s) y) (now blocks) × Drafted d (drafts (imageIn (now s) y)) × (handlerCheck (imageIn (now s) y) h ≡ clear) ⌝ }
+fn handler_record(
+    s: &[u8],
+    y: Layout,
+    blocks: &[u16; 512],
+    starts: &[u64; 32],
+    ends: &[u64; 32],
+    list: &[usize; 32],
+    count: usize,
+    h: usize,
+) -> HandlerRecord
+    requires { ⌜ Numbered (imageIn (now s) y) (now blocks) × (handlerCheck (imageIn (now s) y) h ≡ clear) × (h < 32) ⌝ }
+    requires { ⌜ Extents (imageIn (now s) y) (now starts) (now ends) × Drafted (now list) count (drafts (imageIn (now s) y)) ⌝ }
     ensures { λ r. ⌜ r ≡ handlerRecord (imageIn (now (s .entry)) y) h ⌝ }
 {
     let own = handler(s, y, h);
     HandlerRecord {
-        region: region_in(s, y, d, h),
-        place: same_ranges(s, y, h, h),
+        region: region_in(starts, ends, list, count, h),
+        place: same_ranges(starts, ends, h, h),
         entry: block_at(s, y, blocks, own.entry),
         kind: own.kind,
         filter: own.filter,
@@ -212,14 +270,18 @@ fn handler_record(s: &[u8], y: Layout, blocks: &[u16; 512], d: Drafts, h: usize)
 }
 
 // The region of handler h.
-fn region_in(s: &[u8], y: Layout, d: Drafts, h: usize) -> u64
-    requires { ⌜ Drafted d (drafts (imageIn (now s) y)) ⌝ }
-    ensures { λ r. ⌜ r ≡ regionIn (imageIn (now (s .entry)) y) (drafts (imageIn (now (s .entry)) y)) h ⌝ }
+fn region_in(
+    starts: &[u64; 32],
+    ends: &[u64; 32],
+    list: &[usize; 32],
+    count: usize,
+    h: usize,
+) -> u64
+    requires { ⌜ Counted (now list) count × (h < 32) ⌝ }
+    ensures { λ r. ⌜ ((m : Image) → Extents m (now (starts .entry)) (now (ends .entry)) → r ≡ regionIn m (take count (now (list .entry))) h) ⌝ }
 {
-    let own = handler(s, y, h);
-    let count = d.count;
     for k in 0..count {
-        if same_range(handler(s, y, draft_at(d, k)), own) {
+        if same_range(starts, ends, list[k], h) {
             return k as u64;
         }
     }

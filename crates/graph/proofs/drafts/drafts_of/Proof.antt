@@ -1,43 +1,39 @@
 -- `drafts_of` meets its contract. The loop's invariant: these are the drafts of the handlers passed. Assumes nothing.
 use mathlib.Core.Path.{_≡_, refl}
 use Prim.Native.Nat.{_-_, _≤_}
-use lib.ListN.{length}
-use Rattle.image.specs.Record.{handlerFrom}
-use Rattle.image.specs.Image.{recordsIn, imageIn}
-use Rattle.image.proofs.Tables.{length-records}
-use Rattle.graph.specs.Regions.{draftsBelow, drafts}
-use Rattle.graph.specs.Drafts.{Drafted}
+use lib.ListN.{take}
+use Rattle.image.specs.Image.{Image}
+use Rattle.graph.specs.Regions.{draftsBelow}
+use Rattle.graph.specs.Drafts.{Extents, Counted}
 use native.Mathlib.Omega.{arith}
 use borrow.Author.Needs.{needs}
 use Rattle.graph.proofs.drafts.drafts_of.Statement.{statement}
 use Rattle.graph.proofs.drafts.drafts_of.Tie as tie
 
 abbrev Inv-loop : tie.InvT-loop
-Inv-loop s y n d₀ h₀ d h = (h ≤ n) × (n ≤ 32) × Drafted d (draftsBelow (imageIn s y) h)
+Inv-loop list₀ starts ends n count₀ h₀ list count h =
+    (h ≤ n) × (count ≤ h) × Counted list count × ((m : Image) → Extents m starts ends → take count list ≡ draftsBelow m h)
 
 abbrev μ-loop : tie.MeasureT-loop
-μ-loop s y n d₀ h₀ d h = n - h
+μ-loop list₀ starts ends n count₀ h₀ list count h = n - h
 
 loop-holds : tie.Need-loop-holds Inv-loop μ-loop
 unfolding draftsBelow
-loop-holds c =
-    let a = c .before .before .args in
-    let size = length-records handlerFrom (a .s .now) (a .y .code .handlers) in
-    (search needs, omega arith, record { counted = record { room = refl; within = search needs }; list = refl })
+loop-holds c = (search needs, search needs, c .pre .0, λ m e. refl)
 
-drafts-with-requires : tie.Need-drafts-with-requires Inv-loop μ-loop
-drafts-with-requires c κs = (search needs, c .before .loop .inv .2)
+add-draft-requires : tie.Need-add-draft-requires Inv-loop μ-loop
+add-draft-requires c κs = (c .before .before .loop .inv .2, search needs, search needs)
 
 loop-again : tie.Need-loop-again Inv-loop μ-loop
-loop-again c = (search needs, search needs, c .drafts-with .ensures)
+loop-again c =
+    let added = c .add-draft .ensures in
+    (search needs, search needs, added .0, λ m e. added .2 m e (c .before .before .before .loop .inv .3 m e))
 
 returns : tie.Need-returns Inv-loop μ-loop
-unfolding drafts
 returns c =
-    let a = c .before .before .before .before .args in
     let end = c .before .loop in
-    let all : end .h ≡ length (recordsIn handlerFrom (a .s .now) (a .y .code .handlers)) = omega (arith, length-records handlerFrom (a .s .now) (a .y .code .handlers)) in
-    rw all at (end .inv .2)
+    let all : end .h ≡ c .before .before .args .n = omega arith in
+    (end .inv .2, λ m e. rw all at (end .inv .3 m e))
 
 pub drafts-of-spec : {M : Type 1} → statement M
 drafts-of-spec =
@@ -45,9 +41,8 @@ drafts-of-spec =
     (tie.spec
     Inv-loop
     μ-loop
-    (λ c. search needs)
     loop-holds
-    drafts-with-requires
+    add-draft-requires
     (λ c. search needs)
     (λ c. search needs)
     loop-again

@@ -20,34 +20,64 @@ use borrow.Author.Needs.{needs}
 use Rattle.graph.proofs.regions.region_of.Statement.{statement}
 use Rattle.graph.proofs.regions.region_of.Tie as tie
 
+mul-h : tie.Need-mul-h
+mul-h c = let within = c .before .pre .1 .0 .1 .counted .within in omega arith
+
+element-copy-out-h : tie.Need-element-copy-out-h
+element-copy-out-h c = let within = c .before .pre .1 .0 .1 .counted .within in omega arith
+
+mul-start : tie.Need-mul-start
+mul-start c = let start = c .before .before in let below = start .pre .1 .0 .1 .counted .below (start .args .r) in omega arith
+
+element-copy-out-start : tie.Need-element-copy-out-start
+element-copy-out-start c = let start = c .before .before in let below = start .pre .1 .0 .1 .counted .below (start .args .r) in omega arith
+
+mul-end : tie.Need-mul-end
+mul-end c = let start = c .before .before .before in let below = start .pre .1 .0 .1 .counted .below (start .args .r) in omega arith
+
+element-copy-out-end : tie.Need-element-copy-out-end
+element-copy-out-end c = let start = c .before .before .before in let below = start .pre .1 .0 .1 .counted .below (start .args .r) in omega arith
+
+parent-of-requires : tie.Need-parent-of-requires
+parent-of-requires c κs = let start = c .before .before .before .before in (start .pre .1 .0 .1 .counted, start .pre .1 .1)
+
 cast-n : tie.Need-cast-n
 cast-n c =
-    let a = c .before .before .before .before .before .args in
+    let a = c .before .before .before .before .before .before .args in
     omega (arith, length-records handlerFrom (a .s .now) (a .y .code .handlers))
+
+same-ranges-requires : tie.Need-same-ranges-requires
+same-ranges-requires c κs =
+    let start = c .before .before .before .before .before .before .before .before in
+    let a = start .args in
+    (start .pre .1 .0 .1 .counted .below (a .r), omega (arith, start .pre .0 .0 .few, length-records handlerFrom (a .s .now) (a .y .code .handlers)))
 
 protected-by-requires : tie.Need-protected-by-requires
 protected-by-requires c κs =
-    let start = c .before .before .before .before .before .before .before .before in
+    let start = c .before .before .before .before .before .before .before .before .before in
     let m = imageIn (start .args .s .now) (start .args .y) in
-    let own = c .before .before .before .before .before .before .draft-at .ensures ∙ drafted-at (start .pre .1 .0) (start .args .r) in
-    (start .pre .0, rw own (checks-at (handlerCheck m) (length (m .handlers)) (draft m (start .args .r)) (start .pre .0 .0 .passed) (draft-below m (start .args .r) (omega (arith, drafted-size (start .pre .1 .0))))))
+    let drafted = start .pre .1 .0 .1 in
+    let r = start .args .r in
+    (start .pre .0, rw (drafted-at drafted r (start .pre .1 .1)) (checks-at (handlerCheck m) (length (m .handlers)) (draft m r) (start .pre .0 .0 .passed) (draft-below m r (omega (arith, drafted-size drafted)))))
 
 returns : tie.Need-returns
 unfolding regionAt
 returns c =
-    let start = c .before .before .before .before .before .before .before .before .before in
+    let start = c .before .before .before .before .before .before .before .before .before .before in
     let a = start .args in
     let m = imageIn (a .s .now) (a .y) in
-    let own = c .before .before .before .before .before .before .before .draft-at .ensures ∙ drafted-at (start .pre .1 .0) (a .r) in
-    let handler = c .before .before .before .before .before .before .handler .ensures ∙ ap (handlerAt m) own in
-    let parent = c .before .before .before .before .before .parent-of .ensures in
+    let extents = start .pre .1 .0 .0 in
+    let drafted = start .pre .1 .0 .1 in
+    let h = getD (a .list .now) (a .r) 0 in
+    let own = drafted-at drafted (a .r) (start .pre .1 .1) in
+    let parent = c .before .before .before .before .before .parent-of .ensures m extents drafted in
     λ t.
     record {
       «has_parent» = (c .before .before .before .has-parent .ensures ∙ ap length parent) t;
       parent = (c .before .before .parent-number .ensures ∙ ap (λ (l : List ℕ). getD l 0 0) parent) t;
-      start = handler t .start;
-      end = handler t .end;
-      handlers = (c .before .same-ranges .ensures ∙ ap₂ (λ (h n : ℕ). count (λ g. sameRange m g h) n) own (sym (length-records handlerFrom (a .s .now) (a .y .code .handlers))) ∙ sym (same-count m (draft m (a .r)) (length (m .handlers)))) t;
+      start = (extents .start h ∙ ap (λ (h : ℕ). handlerAt m h .start) own) t;
+      end = (extents .end h ∙ ap (λ (h : ℕ). handlerAt m h .end) own) t;
+      handlers = (c .before .same-ranges .ensures m extents ∙ ap₂ (λ (h n : ℕ). count (λ g. sameRange m g h) n) own (sym (length-records handlerFrom (a .s .now) (a .y .code .handlers))) ∙ sym (same-count m (draft m (a .r)) (length (m .handlers)))) t;
       protected = (c .protected-by .ensures ∙ ap (λ (h : ℕ). setBelow (λ i. blockOf m (rangeFirst m h + i)) (rangeSize m h)) own) t;
     }
 
@@ -55,12 +85,16 @@ pub region-of-spec : {M : Type 1} → statement M
 region-of-spec =
     tie.close
     (tie.spec
-    (λ c κs. search needs)
-    (λ c κs. search needs)
-    (λ c κs. search needs)
+    mul-h
+    element-copy-out-h
+    mul-start
+    element-copy-out-start
+    mul-end
+    element-copy-out-end
+    parent-of-requires
     cast-n
     (λ c κs. search needs)
     (λ c κs. search needs)
-    (λ c κs. search needs)
+    same-ranges-requires
     protected-by-requires
     returns)

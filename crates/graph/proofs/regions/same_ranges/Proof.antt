@@ -1,45 +1,44 @@
 -- `same_ranges` meets its contract. The loop's invariant: so many of the handlers passed have the range. Assumes nothing.
 use mathlib.Core.Path.{_≡_, refl, sym, _∙_}
 use mathlib.Core.Logic.{⊎-elim}
-use mathlib.Core.Bool.{Bool}
-use Prim.Native.Nat.{ℕ, _-_, _≤_}
+use Prim.Native.Nat.{_-_, _≤_}
 use native.Mathlib.Numerals.{add-one}
-use Rattle.image.specs.Image.{imageIn}
+use Rattle.image.specs.Image.{Image}
 use Rattle.graph.specs.Fold.{count}
 use Rattle.graph.specs.Regions.{sameRange}
+use Rattle.graph.specs.Drafts.{Extents}
 use Rattle.graph.proofs.FoldLaws.{count-yes, count-no}
-use Rattle.graph.proofs.DraftLaws.{same-is}
 use native.Mathlib.Omega.{arith}
 use borrow.Author.Needs.{needs}
 use Rattle.graph.proofs.regions.same_ranges.Statement.{statement}
 use Rattle.graph.proofs.regions.same_ranges.Tie as tie
 
 abbrev Inv-loop : tie.InvT-loop
-Inv-loop s y h n own same₀ g₀ same g = (g ≤ n) × (same ≤ g) × (same ≡ count (λ g. sameRange (imageIn s y) g h) g)
+Inv-loop starts ends h n same₀ g₀ same g =
+    (g ≤ n) × (same ≤ g) × ((m : Image) → Extents m starts ends → same ≡ count (λ g. sameRange m g h) g)
 
 abbrev μ-loop : tie.MeasureT-loop
-μ-loop s y h n own same₀ g₀ same g = n - g
+μ-loop starts ends h n same₀ g₀ same g = n - g
 
 loop-holds : tie.Need-loop-holds Inv-loop μ-loop
 unfolding count
-loop-holds c = (search needs, search needs, refl)
+loop-holds c = (search needs, search needs, λ m e. refl)
 
 loop-again : tie.Need-loop-again Inv-loop μ-loop
 loop-again c =
-    let a = c .before .before .before .before .before .before .before .args in
-    let m = imageIn (a .s .now) (a .y) in
-    let top = c .before .before .before .before .loop in
-    let f : ℕ → Bool = λ g. sameRange m g (a .h) in
-    let is = c .before .same-range .ensures ∙ same-is m (top .g) (a .h) _ _ (c .before .before .handler2 .ensures) (c .before .before .before .before .before .handler .ensures) in
+    let h = c .before .before .before .before .args .h in
+    let top = c .before .before .before .loop in
+    let is = c .before .same-range .ensures in
     ⊎-elim
-    (λ w. (search needs, omega arith, rw (add-one (top .g)) (omega (arith, count-yes f (top .g) (sym is ∙ w .0 .taken)))))
-    (λ w. (search needs, omega arith, rw (add-one (top .g)) (omega (arith, count-no f (top .g) (sym is ∙ w .0 .left)))))
+    (λ w. (search needs, omega arith, λ m e. rw (add-one (top .g)) (omega (arith, top .inv .2 m e, count-yes (λ g. sameRange m g h) (top .g) (sym (is m e) ∙ w .0 .taken)))))
+    (λ w. (search needs, omega arith, λ m e. rw (add-one (top .g)) (omega (arith, top .inv .2 m e, count-no (λ g. sameRange m g h) (top .g) (sym (is m e) ∙ w .0 .left)))))
     (c .if1 .came)
 
 returns : tie.Need-returns Inv-loop μ-loop
 returns c =
-    let all : c .before .loop .g ≡ c .before .before .before .before .args .n = omega arith in
-    rw all at (c .before .loop .inv .2)
+    let end = c .before .loop in
+    let all : end .g ≡ c .before .before .args .n = omega arith in
+    λ m e. rw all at (end .inv .2 m e)
 
 pub same-ranges-spec : {M : Type 1} → statement M
 same-ranges-spec =
@@ -47,9 +46,7 @@ same-ranges-spec =
     (tie.spec
     Inv-loop
     μ-loop
-    (λ c κs. search needs)
     loop-holds
-    (λ c κs. search needs)
     (λ c κs. search needs)
     (λ c. search needs)
     (λ c. search needs)

@@ -20,10 +20,10 @@ use Rattle.graph.proofs.regions.store_handlers.Statement.{statement}
 use Rattle.graph.proofs.regions.store_handlers.Tie as tie
 
 abbrev Inv-loop : tie.InvT-loop
-Inv-loop g₀ s y blocks d n h₀ g h = (h ≤ n) × (n ≤ 32) × Stored g₀ g (held (withHandlers (heldIn g₀ .graph) (table (handlerRecord (imageIn s y)) h)))
+Inv-loop g₀ s y blocks starts ends list count n h₀ g h = (h ≤ n) × (n ≤ 32) × Stored g₀ g (held (withHandlers (heldIn g₀ .graph) (table (handlerRecord (imageIn s y)) h)))
 
 abbrev μ-loop : tie.MeasureT-loop
-μ-loop g₀ s y blocks d n h₀ g h = n - h
+μ-loop g₀ s y blocks starts ends list count n h₀ g h = n - h
 
 cast-n : tie.Need-cast-n Inv-loop μ-loop
 cast-n c = let a = c .before .before .args in omega (arith, length-records handlerFrom (a .s .now) (a .y .code .handlers))
@@ -32,14 +32,15 @@ loop-holds : tie.Need-loop-holds Inv-loop μ-loop
 unfolding table
 loop-holds c =
     let start = c .before .before in
-    (search needs, omega (arith, length-records handlerFrom (start .args .s .now) (start .args .y .code .handlers)), handlers-none _ (start .pre .1 .0) (start .pre .1 .1))
+    (search needs, omega (arith, length-records handlerFrom (start .args .s .now) (start .args .y .code .handlers)), handlers-none _ (start .pre .1 .1 .0) (start .pre .1 .1 .1))
 
 handler-record-requires : tie.Need-handler-record-requires Inv-loop μ-loop
 handler-record-requires c κs =
     let start = c .before .before .before .before .before in
     let m = imageIn (start .args .s .now) (start .args .y) in
     let size = length-records handlerFrom (start .args .s .now) (start .args .y .code .handlers) in
-    (start .pre .0 .0 .numbered, start .pre .0 .1, checks-at (handlerCheck m) (length (m .handlers)) (c .before .before .loop .h) (start .pre .0 .0 .passed) (omega arith))
+    let few = start .pre .0 .few in
+    ((start .pre .0 .numbered, checks-at (handlerCheck m) (length (m .handlers)) (c .before .before .loop .h) (start .pre .0 .passed) (omega arith), omega arith), start .pre .1 .0)
 
 loop-again : tie.Need-loop-again Inv-loop μ-loop
 loop-again c =

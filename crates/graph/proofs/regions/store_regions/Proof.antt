@@ -17,14 +17,17 @@ use Rattle.graph.proofs.regions.store_regions.Statement.{statement}
 use Rattle.graph.proofs.regions.store_regions.Tie as tie
 
 abbrev Inv-loop : tie.InvT-loop
-Inv-loop g₀ s y code-end blocks d count r₀ g r = (r ≤ d .count) × Stored g₀ g (held (withRegions (heldIn g₀ .graph) (table (regionAt (imageIn s y)) r)))
+Inv-loop g₀ s y code-end blocks starts ends list count r₀ g r = (r ≤ count) × Stored g₀ g (held (withRegions (heldIn g₀ .graph) (table (regionAt (imageIn s y)) r)))
 
 abbrev μ-loop : tie.MeasureT-loop
-μ-loop g₀ s y code-end blocks d count r₀ g r = d .count - r
+μ-loop g₀ s y code-end blocks starts ends list count r₀ g r = count - r
 
 loop-holds : tie.Need-loop-holds Inv-loop μ-loop
 unfolding table
 loop-holds c = (search needs, regions-none _ (c .before .pre .1 .1 .0) (c .before .pre .1 .1 .1))
+
+region-of-requires : tie.Need-region-of-requires Inv-loop μ-loop
+region-of-requires c κs = let start = c .before .before .before .before in (start .pre .0, (start .pre .1 .0, search needs))
 
 loop-again : tie.Need-loop-again Inv-loop μ-loop
 loop-again c =
@@ -33,7 +36,7 @@ loop-again c =
     let top = c .before .before .before .before .loop in (
       search needs,
       stored-onto (λ h. withRegion h (c .before .region-of .result)) (top .inv .1) (c .add-region .ensures)
-          (regions-more (heldIn (a .g .now) .graph) (regionAt (imageIn (a .s .now) (a .y))) (top .r) _ (omega (arith, start .pre .1 .0 .counted .within)) (c .before .region-of .ensures)),
+          (regions-more (heldIn (a .g .now) .graph) (regionAt (imageIn (a .s .now) (a .y))) (top .r) _ (omega (arith, start .pre .1 .0 .1 .counted .within)) (c .before .region-of .ensures)),
     )
 
 returns : tie.Need-returns Inv-loop μ-loop
@@ -41,7 +44,7 @@ unfolding regionsOf
 returns c =
     let start = c .before .before .before in
     let a = start .args in
-    let all : c .before .loop .r ≡ length (drafts (imageIn (a .s .now) (a .y))) = omega (arith, drafted-size (start .pre .1 .0)) in
+    let all : c .before .loop .r ≡ length (drafts (imageIn (a .s .now) (a .y))) = omega (arith, drafted-size (start .pre .1 .0 .1)) in
     rw all at (c .before .loop .inv .1)
 
 pub store-regions-spec : {M : Type 1} → statement M
@@ -51,7 +54,7 @@ store-regions-spec =
     Inv-loop
     μ-loop
     loop-holds
-    (λ c κs. search needs)
+    region-of-requires
     (λ c κs. search needs)
     (λ c. search needs)
     (λ c. search needs)
