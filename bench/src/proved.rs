@@ -1,9 +1,26 @@
-//! The proved readers, as the static library exports them.
+//! The proved functions, as the static library exports them.
 
 use crate::plain::{Counts, Refusal};
 
+pub const WORDS: usize = 43_872;
+
+#[repr(C)]
+struct Answer {
+    number: u64,
+    first: u64,
+    second: u64,
+}
+
 extern "C" {
     fn foldzine_read_image(bytes: *const u8, length: usize, told: *mut [u64; 10]);
+    fn foldzine_build(bytes: *const u8, length: usize, words: *mut [u64; WORDS]) -> Answer;
+}
+
+/// Whether the build of an image was not refused.
+pub fn build(bytes: &[u8], words: &mut [u64; WORDS]) -> bool {
+    // SAFETY: a slice passes as a pointer and a length, an array as a pointer.
+    let answer = unsafe { foldzine_build(bytes.as_ptr(), bytes.len(), words) };
+    answer.number == 0
 }
 
 pub fn read_image(bytes: &[u8]) -> Result<Counts, Refusal> {

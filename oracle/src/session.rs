@@ -2,7 +2,8 @@
 
 use cfglib::builder::address::{
     build_address_cfg, build_address_cfg_from_given_edges, build_address_cfg_with_routes,
-    AddressGraph, HopEnd, UnwindHop,
+    AddressBuildError, AddressCfgOptions, AddressGraph, AddressHandler, GivenEdges, HopEnd,
+    UnwindHop, UnwindRoute,
 };
 use cfglib::cfg::Cfg;
 
@@ -20,36 +21,59 @@ pub mod limit {
     pub const CALL_LISTS: usize = 4096;
 }
 
+/// A graph of the published Rust.
+pub type Built = AddressGraph<Operation, Payload>;
+
 /// A graph of the published Rust with what of the image it leaves out: the
 /// table and the handlers' ranges.
 pub struct Session {
-    graph: AddressGraph<Operation, Payload>,
+    graph: Built,
     instructions: Vec<Instruction>,
     handlers: Vec<Handler>,
+}
+
+/// What the published build takes, made from an image that was read.
+#[derive(Clone)]
+pub struct Inputs {
+    mode: u8,
+    operations: Vec<Operation>,
+    given: GivenEdges<u64, Payload>,
+    handlers: Vec<AddressHandler<u64>>,
+    routes: Vec<UnwindRoute<u64>>,
+    options: AddressCfgOptions<u64>,
+}
+
+impl Inputs {
+    pub fn of(image: &Image) -> Self {
+        Self {
+            mode: image.mode,
+            operations: published::operations(image),
+            given: published::given(image),
+            handlers: published::handlers(image),
+            routes: published::routes(&image.routes),
+            options: published::options(image),
+        }
+    }
+
+    /// The published build of the image's mode.
+    pub fn build(self) -> Result<Built, AddressBuildError<u64>> {
+        let Self { mode, operations, given, handlers, routes, options } = self;
+        let payload = published::payload;
+        match mode {
+            0 => build_address_cfg(operations, &handlers, options, payload),
+            1 => build_address_cfg_with_routes(operations, &handlers, &routes, options, payload),
+            _ => build_address_cfg_from_given_edges(
+                operations, given, &handlers, &routes, options, payload,
+            ),
+        }
+    }
 }
 
 impl Session {
     /// The build alone, without the addition of the image's routes: refusals 3
     /// to 16, and 19.
     pub fn build(image: &Image) -> Result<Self, Refusal> {
-        let operations = published::operations(image);
-        let handlers = published::handlers(image);
-        let routes = published::routes(&image.routes);
-        let options = published::options(image);
-        let payload = published::payload;
-        let built = match image.mode {
-            0 => build_address_cfg(operations, &handlers, options, payload),
-            1 => build_address_cfg_with_routes(operations, &handlers, &routes, options, payload),
-            _ => build_address_cfg_from_given_edges(
-                operations,
-                published::given(image),
-                &handlers,
-                &routes,
-                options,
-                payload,
-            ),
-        };
-        let graph = built.map_err(published::refusal)?;
+        let graph = Inputs::of(image).build().map_err(published::refusal)?;
         if graph.cfg.edge_count() > limit::EDGES {
             return Err(Refusal::new(19, 0, 0));
         }

@@ -3,4 +3,4 @@ pub mod chart;
 pub mod field;
 pub mod lines;
 mod put;
-mod refusal;
+pub mod refusal;

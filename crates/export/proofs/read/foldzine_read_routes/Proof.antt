@@ -2,8 +2,8 @@
 use mathlib.Core.Path.{ap, _∙_}
 use borrow.Author.Needs.{needs}
 use Rattle.export.specs.Told.{toldRoutes}
-use Rattle.export.proofs.foldzine_read_routes.Statement.{statement}
-use Rattle.export.proofs.foldzine_read_routes.Tie as tie
+use Rattle.export.proofs.read.foldzine_read_routes.Statement.{statement}
+use Rattle.export.proofs.read.foldzine_read_routes.Tie as tie
 
 read-routes-requires : tie.Need-read-routes-requires
 read-routes-requires c κs = search needs

@@ -1,8 +1,8 @@
 -- A word for each section, or the refusal. Assumes nothing.
 use Rattle.image.proofs.Tables.{length-records}
 use borrow.Author.Needs.{needs}
-use Rattle.export.proofs.routes_words.Statement.{statement}
-use Rattle.export.proofs.routes_words.Tie as tie
+use Rattle.export.proofs.read.routes_words.Statement.{statement}
+use Rattle.export.proofs.read.routes_words.Tie as tie
 
 enum-known-r : tie.Need-enum-known-r
 enum-known-r c = search needs

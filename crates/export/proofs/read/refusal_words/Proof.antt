@@ -1,7 +1,7 @@
 -- By the error. Assumes nothing.
 use borrow.Author.Needs.{needs}
-use Rattle.export.proofs.refusal_words.Statement.{statement}
-use Rattle.export.proofs.refusal_words.Tie as tie
+use Rattle.export.proofs.read.refusal_words.Statement.{statement}
+use Rattle.export.proofs.read.refusal_words.Tie as tie
 
 enum-known-e : tie.Need-enum-known-e
 enum-known-e c = search needs

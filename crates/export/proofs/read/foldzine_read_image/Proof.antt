@@ -2,8 +2,8 @@
 use mathlib.Core.Path.{ap, _∙_}
 use borrow.Author.Needs.{needs}
 use Rattle.export.specs.Told.{toldImage}
-use Rattle.export.proofs.foldzine_read_image.Statement.{statement}
-use Rattle.export.proofs.foldzine_read_image.Tie as tie
+use Rattle.export.proofs.read.foldzine_read_image.Statement.{statement}
+use Rattle.export.proofs.read.foldzine_read_image.Tie as tie
 
 read-image-requires : tie.Need-read-image-requires
 read-image-requires c κs = search needs
