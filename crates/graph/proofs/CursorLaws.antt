@@ -1,6 +1,6 @@
 -- The cursor: what stands at a position of an image whose sources are starts.
 --     leads-edges, leads-flow                    what `givenFor` says
---     addresses-rise                             the table rises
+--     addresses-rise, same-place                 the table rises, so that each address stands once
 --     is-given                                   the cursor's source is given for p, or none is
 --     edges-length, edges-within, edge-is        that source's edges stand from the cursor's edge on
 --     cases-length, cases-within, case-is        the cases of the instruction at p stand from the cursor's case on
@@ -72,7 +72,7 @@ module _ (m : Image) (h : Sourced m) where
         | no b ↦ elim (ℕ-discrete p q) [ yes e ↦ omega (arith, ap (addressAt m) e) | no n ↦ omega (arith, addresses-rise q p (omega arith) hp) ]
       ]
 
-  same-place : (p q : ℕ) → p < size m → q < size m → addressAt m p ≡ addressAt m q → p ≡ q
+  pub same-place : (p q : ℕ) → p < size m → q < size m → addressAt m p ≡ addressAt m q → p ≡ q
   same-place p q hp hq e =
       elim (ℕ-discrete p q) [
         | yes same ↦ same

@@ -4,17 +4,20 @@
 --     mark-as, mark-within          the same in other words, and of fewer positions
 --     marks-none, marks-more        those of each number below n: none, and of one number more
 --     mark-if, mark-not             where a test holds, and else nothing
---     own-all                       each position by itself, once all have been asked
+--     some-own                      each position by itself, once all have been asked
 --     run-none, run-more, run-all   a run of positions: none, one more, and with its end
 --     few, inside, any-routes       of an image: how many instructions and routes
 --     handler-range, route-range    the ranges of handlers and routes that passed
 --     route-start, route-end        a route's range, as the image has it
---     mark-start, mark-lead         those that start at an address, and to which one leads; mark-turned likewise
+--     mark-start, mark-lead         those that start at an address, and to which one leads
 --     eqb-comm                      a test that is turned
+--     no-handlers, no-routes        where there are none
+--     leading                       all collectors, one after the other
+--     both-true                     two tests that both hold
 --     not-clear                     what is refused is not clear
 -- Assumes nothing.
 use mathlib.Core.Path.{_≡_, refl, sym, ap, _∙_}
-use mathlib.Core.Bool.{Bool, true, false, _&&_, _||_, or-true, or-false, and-true, and-false, or-assoc}
+use mathlib.Core.Bool.{Bool, true, false, _&&_, _||_, or-true, or-false, and-true, and-false, or-assoc, false≢true}
 use mathlib.Core.List.{List, []}
 use mathlib.Core.Logic.{⊎-elim}
 use Prim.Native.Nat.{ℕ, zero, suc, _+_, _<_, _≤_}
@@ -24,23 +27,22 @@ use native.Mathlib.Decide.{decLe, decLt, ℕ-discrete}
 use native.Mathlib.Omega.{arith}
 use borrow.Author.Tests.{eq-eqb, ne-eqb, lt-ltb, le-ltb, le-leb, lt-leb}
 use lib.Dec.{eqb, ltb, leb}
-use lib.ListN.{length, getD, set}
+use lib.ListN.{length, getD, set, replicate, getD-replicate}
 use lib.Seq.{getD-set-same, getD-set-other}
-use Rattle.image.specs.Record.{instructionFrom, routeFrom}
+use Rattle.image.specs.Record.{instructionFrom, handlerFrom, routeFrom}
 use Rattle.image.specs.Image.{Image, imageIn, routesIn}
 use Rattle.image.specs.Refusal.{Refusal, Check, clear, refused}
 use Rattle.image.specs.declared.section.Layout.{Layout}
 use Rattle.image.specs.Deal.{UnwindRoute}
 use Rattle.image.proofs.Tables.{length-records}
 use Rattle.image.proofs.Checks.{then-left}
-use Rattle.graph.specs.declared.record.TableEntry.{TableEntry}
 use Rattle.graph.specs.Fold.{some}
-use Rattle.graph.specs.Table.{entryAt, rangeCheck}
+use Rattle.graph.specs.Table.{rangeCheck}
 use Rattle.graph.specs.Transfer.{tableOf, size, addressAt}
 use Rattle.graph.specs.Route.{routeAt, routeCheck}
-use Rattle.graph.specs.Leaders.{handlerAt, routes}
+use Rattle.graph.specs.Leaders.{entryMark, sequenceMark, flowMark, exceptionalMark, handlerAt, handlerMark, routes, routeMark, isLeader}
 use Rattle.graph.specs.Build.{handlerCheck}
-use Rattle.graph.specs.Marks.{Marked, startMark, Passed}
+use Rattle.graph.specs.Marks.{Marked, startMark, funcletEnd, instructionMark, Passed, Leading}
 use Rattle.graph.proofs.TableLaws.{entry-address}
 use Rattle.graph.proofs.RouteLaws.{length-routes, route-is}
 use Rattle.graph.proofs.CheckLaws.{checks-at}
@@ -111,7 +113,7 @@ module _ {n : ℕ} {l : List Bool} (a : ℕ) where
 -- ---- of an image
 
 -- f of each position by itself
-some-own : (f : ℕ → Bool) (n p : ℕ) → p < n → some (λ q. f q && eqb p q) n ≡ f p
+pub some-own : (f : ℕ → Bool) (n p : ℕ) → p < n → some (λ q. f q && eqb p q) n ≡ f p
 unfolding some
 some-own f zero p h = absurd (omega arith)
 some-own f (suc n) p h =
@@ -123,9 +125,6 @@ some-own f (suc n) p h =
     none : (f : ℕ → Bool) (n p : ℕ) → n ≤ p → some (λ q. f q && eqb p q) n ≡ false
     none f zero p h = refl
     none f (suc n) p h = rw (ne-eqb p n (λ e. omega arith), and-false (f n), or-false (some (λ q. f q && eqb p q) n)) (none f n p (omega arith))
-
-pub own-all : {n : ℕ} {l r : List Bool} (f : ℕ → Bool) (i : ℕ) → i ≡ n → Marked n (λ p. some (λ q. f q && eqb p q) i) l r → Marked n f l r
-own-all f i all marked = mark-as f (λ p h. some-own f i p (rw all h)) marked
 
 pub few : (l : List ℕ) (y : Layout) → Passed (imageIn l y) → y .code .instructions .count ≤ 512
 few l y passed = rw (length-records instructionFrom l (y .code .instructions)) at (passed .sourced .accepted .instructions-most)
@@ -160,12 +159,44 @@ eqb-comm a b = elim (ℕ-discrete a b) [ yes e ↦ rw (eq-eqb a b e, eq-eqb b a 
 pub mark-lead : {n : ℕ} {l r : List Bool} (m : Image) (a : ℕ) → Marked n (startMark (tableOf m) a) l r → Marked n (λ p. eqb a (addressAt m p)) l r
 mark-lead m a marked = mark-as _ (λ p h. eqb-comm (addressAt m p) a) (mark-start m a marked)
 
-pub mark-turned : {n : ℕ} {l r : List Bool} (t : List TableEntry) (b : Bool) (a : ℕ) → Marked n (λ p. b && startMark t a p) l r → Marked n (λ p. b && eqb a (entryAt t p .address)) l r
-mark-turned t b a marked = mark-as _ (λ p h. ap (λ (x : Bool). b && x) (eqb-comm (entryAt t p .address) a)) marked
-
 pub any-routes : (l : List ℕ) (y : Layout) → length (routes (imageIn l y)) ≡ y .routes .routes .count
 unfolding routes
 any-routes l y = length-routes (routesIn l (y .routes)) ∙ length-records routeFrom l (y .routes .routes)
+
+pub both-true : (a b : Bool) → (a && b) ≡ true → (a ≡ true) × (b ≡ true)
+both-true true b e = (refl, e)
+both-true false b e = absurd (false≢true e)
+
+-- without handlers, and without routes
+module _ {n : ℕ} {t : List Bool} (l : List ℕ) (y : Layout) where
+  pub no-handlers : y .code .handlers .count ≡ 0 → Marked n (handlerMark (imageIn l y)) t t
+  unfolding handlerMark some
+  no-handlers e = mark-none (handlerMark (imageIn l y)) (λ p h. rw (length-records handlerFrom l (y .code .handlers), e))
+
+  pub no-routes : y .routes .routes .count ≡ 0 → Marked n (routeMark (imageIn l y)) t t
+  unfolding routeMark some
+  no-routes e = mark-none (routeMark (imageIn l y)) (λ p h. rw (any-routes l y, e))
+
+-- one collector after the other, from no mark on
+pub leading : {a b c r : List Bool} (l : List ℕ) (y : Layout) → Passed (imageIn l y)
+    → Marked (y .code .instructions .count) (entryMark (imageIn l y)) (replicate 512 false) a → Marked (y .code .instructions .count) (instructionMark (imageIn l y)) a b
+    → Marked (y .code .instructions .count) (handlerMark (imageIn l y)) b c → Marked (y .code .instructions .count) (routeMark (imageIn l y)) c r
+    → Leading (imageIn l y) r
+unfolding isLeader
+leading l y passed entry code handlers routed p h =
+    let within = rw (length-records instructionFrom l (y .code .instructions)) at h in
+    let m = imageIn l y in
+    let none = getD-replicate 512 p false false (omega (arith, within, few l y passed)) in
+    rw none at (mark-then (mark-then (mark-then entry code) handlers) routed .at p within)
+    ∙ in-order (entryMark m p) (sequenceMark m p) (flowMark m p) (exceptionalMark m p) (funcletEnd m p) (handlerMark m p) (routeMark m p)
+  where
+    in-order : (e s f x u h r : Bool) → (e || (s || f || x || u) || h || r) ≡ (e || s || f || x || h || r || u)
+    in-order true s f x u h r = refl
+    in-order false true f x u h r = refl
+    in-order false false true x u h r = refl
+    in-order false false false true u h r = refl
+    in-order false false false false true h r = sym (or-true (h || r))
+    in-order false false false false false h r = sym (or-false (h || r))
 
 pub not-clear : {c : Check} {r : Refusal} → c ≡ refused r → c ≡ clear → ⊥
 not-clear e f = let z : _≡_ {A = ℕ} 0 1 = cc in omega arith

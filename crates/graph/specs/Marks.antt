@@ -2,22 +2,21 @@
 use mathlib.Core.Bool.{Bool, false, cond, _&&_, _||_}
 use mathlib.Core.Path.{_≡_}
 use mathlib.Core.List.{List, []}
-use Prim.Native.Nat.{ℕ, _+_, _<_}
-use lib.Dec.{eqb}
+use Prim.Native.Nat.{ℕ, suc, _+_, _<_}
+use lib.Dec.{eqb, ltb}
 use lib.ListN.{length, getD}
 use Rattle.image.specs.Refusal.{clear}
-use Rattle.image.specs.Image.{Image, recordsIn}
-use Rattle.image.specs.Record.{instructionFrom, caseFrom, edgeFrom, pathFrom, stepFrom}
-use Rattle.image.specs.declared.section.Section.{Section}
+use Rattle.image.specs.Image.{Image}
+use Rattle.image.specs.Record.{caseFrom, edgeFrom, pathFrom, stepFrom}
 use Rattle.image.specs.declared.record.Instruction.{Instruction}
 use Rattle.graph.specs.declared.record.TableEntry.{TableEntry}
 use Rattle.graph.specs.Fold.{some, checks}
 use Rattle.graph.specs.Table.{entryAt}
-use Rattle.graph.specs.Flow.{Flow, Slot, slotsOf, flowUnder}
-use Rattle.graph.specs.Transfer.{entriesOf, tableOf, size, addressAt, hasTarget, slotTransfer}
-use Rattle.graph.specs.Cursor.{Sourced}
+use Rattle.graph.specs.Flow.{Flow, From, Slot, slotsOf, flowUnder}
+use Rattle.graph.specs.Transfer.{tableOf, size, instructionAt, addressAt, isGiven, givenAt, endsAt}
+use Rattle.graph.specs.Cursor.{Sourced, casesBefore, edgesBefore}
 use Rattle.graph.specs.Route.{routeAt, routeCheck}
-use Rattle.graph.specs.Leaders.{rangeMark, routes, isLeader}
+use Rattle.graph.specs.Leaders.{gapMark, sequenceMark, endMark, flowMark, exceptionalMark, rangeMark, routes, endsFunclet, isLeader}
 use Rattle.graph.specs.Build.{tableCheck, handlerCheck}
 
 -- r has the marks of l and those of f, at each position below n
@@ -28,9 +27,9 @@ pub record Marked (n : ℕ) (f : ℕ → Bool) (l r : List Bool) : Type 0 where
 abbrev pub startMark : List TableEntry → ℕ → ℕ → Bool
 startMark t a p = eqb (entryAt t p .address) a
 
--- where the slots, the cases and the given edges of an instruction lead
+-- the targets that a slot, the cases and the given edges of an instruction name
 abbrev pub slotMark : Image → Instruction → Slot → ℕ → Bool
-slotMark m i x p = hasTarget (slotTransfer i x) && eqb (slotTransfer i x .target) (addressAt m p)
+slotMark m i x p = eqb (x .from) From.named && eqb (i .target) (addressAt m p)
 
 abbrev pub caseTarget : Image → ℕ → ℕ → Bool
 caseTarget m k p = eqb (getD (m .cases) k (caseFrom [] 0) .target) (addressAt m p)
@@ -47,11 +46,29 @@ edgeMark m first n p = some (λ k. edgeTarget m (first + k) p) n
 abbrev pub switchCases : ℕ → Instruction → ℕ
 switchCases flow i = cond (eqb flow Flow.switch) (i .cases) 0
 
--- where an instruction leads whose cases stand from `first` on
-unfoldable pub transferMark : Image → ℕ → Instruction → ℕ → Bool
-transferMark m first i p =
+-- what an instruction names whose cases stand from `first` on: a second slot names nothing
+unfoldable pub namesMark : Image → ℕ → Instruction → ℕ → Bool
+namesMark m first i p =
     let flow = flowUnder (m .header .calls) (i .flow) in
-    slotMark m i (slotsOf flow .0) p || slotMark m i (slotsOf flow .1) p || caseMark m first (switchCases flow i) p
+    slotMark m i (slotsOf flow .0) p || caseMark m first (switchCases flow i) p
+
+-- what the instruction at q names, and the next one, if it ends its block. The start at its end is not among them: it is
+-- the next one, or else a gap or overlap marks it.
+unfoldable pub leadMark : Image → ℕ → ℕ → Bool
+leadMark m q p =
+    let named = cond (isGiven m q) (edgeMark m (edgesBefore m q) (length (givenAt m q)) p) (namesMark m (casesBefore m q) (instructionAt m q) p) in
+    endsAt m q && (named || eqb p (suc q))
+
+-- with any route, a funclet may end at q
+abbrev pub funcletEnd : Image → ℕ → Bool
+funcletEnd m q = ltb 0 (length (routes m)) && endsFunclet m q
+
+-- the marks of the instruction at q, and of all instructions
+abbrev pub visitMark : Image → ℕ → ℕ → Bool
+visitMark m q p = gapMark m q p || endMark m q p || (exceptionalMark m q && eqb p q) || (funcletEnd m q && eqb p q)
+
+abbrev pub instructionMark : Image → ℕ → Bool
+instructionMark m p = sequenceMark m p || flowMark m p || exceptionalMark m p || funcletEnd m p
 
 -- what the routes protect, and their entries: the funclet of each step, and the handler of each path
 abbrev pub routeRange : Image → ℕ → ℕ → Bool

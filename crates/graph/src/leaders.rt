@@ -4,9 +4,13 @@
 mod flows;
 mod routes;
 
-use crate::leaders::flows::mark_flows;
+use crate::cursor::Cursor;
+use crate::cursor::cursor_start;
+use crate::cursor::visit_at;
+use crate::leaders::flows::mark_lead;
 use crate::leaders::routes::mark_routes;
 use crate::lookup::Found;
+use crate::lookup::address_at;
 use crate::lookup::find;
 use crate::marks::mark_at;
 use crate::marks::mark_if;
@@ -14,19 +18,20 @@ use crate::marks::mark_range;
 use crate::marks::mark_target;
 use crate::marks::mark_target_if;
 use image::access::handler_at;
-use image::access::instruction_at;
+use image::record::Instruction;
 use image::section::Layout;
 ghost use mathlib.Core.Bool.{_&&_};
 ghost use mathlib.Core.Path.{_≡_};
-ghost use Prim.Native.Nat.{_<_};
+ghost use Prim.Native.Nat.{_+_, _<_};
 ghost use lib.Dec.{eqb, ltb};
 ghost use lib.ListN.{length};
 ghost use Rattle.image.specs.Image.{imageIn};
 ghost use Rattle.graph.specs.Table.{codeEnd};
 ghost use Rattle.graph.specs.Lookup.{Rising};
-ghost use Rattle.graph.specs.Transfer.{tableOf};
-ghost use Rattle.graph.specs.Leaders.{entryMark, goesOn, gapMark, sequenceMark, exceptionalMark, protectMark, handlerMark, routes, endsFunclet};
-ghost use Rattle.graph.specs.Marks.{Marked, Passed, Leading};
+ghost use Rattle.graph.specs.Transfer.{tableOf, instructionAt};
+ghost use Rattle.graph.specs.Cursor.{cursorAt};
+ghost use Rattle.graph.specs.Leaders.{entryMark, goesOn, gapMark, protectMark, handlerMark, routes, endsFunclet};
+ghost use Rattle.graph.specs.Marks.{Marked, Passed, Leading, funcletEnd, visitMark, instructionMark};
 
 const RETURN: u64 = 1;
 
@@ -39,13 +44,18 @@ pub fn leaders(s: &[u8], y: Layout, code_end: u64) -> [bool; 512]
     requires { ⌜ Passed (imageIn (now s) y) × («code_end» ≡ codeEnd (tableOf (imageIn (now s) y))) ⌝ }
     ensures { λ r. ⌜ Leading (imageIn (now (s .entry)) y) r ⌝ }
 {
+    let handlers = y.code.handlers;
+    let routes = y.routes.routes;
     let marks = mark_entry([false; 512], s, y);
-    let marks = mark_sequence(marks, s, y);
-    let marks = mark_flows(marks, s, y);
-    let marks = mark_exceptional(marks, s, y);
+    let marks = mark_instructions(marks, s, y);
+    if routes.count == 0 {
+        if handlers.count == 0 {
+            return marks;
+        }
+        return mark_handlers(marks, s, y, code_end);
+    }
     let marks = mark_handlers(marks, s, y, code_end);
-    let marks = mark_routes(marks, s, y, code_end);
-    mark_funclet_ends(marks, s, y)
+    mark_routes(marks, s, y, code_end)
 }
 
 // The first instruction, and the entry.
@@ -60,64 +70,94 @@ fn mark_entry(mut marks: [bool; 512], s: &[u8], y: Layout) -> [bool; 512]
     marks
 }
 
-// Instructions after a gap or an overlap, and the starts at such ends.
-fn mark_sequence(mut marks: [bool; 512], s: &[u8], y: Layout) -> [bool; 512]
+// Instruction by instruction.
+fn mark_instructions(mut marks: [bool; 512], s: &[u8], y: Layout) -> [bool; 512]
     requires { ⌜ Passed (imageIn (now s) y) ⌝ }
-    ensures { λ r. ⌜ Marked (y .code .instructions .count) (sequenceMark (imageIn (now (s .entry)) y)) marks r ⌝ }
+    ensures { λ r. ⌜ Marked (y .code .instructions .count) (instructionMark (imageIn (now (s .entry)) y)) marks r ⌝ }
 {
     let n = y.code.instructions.count as usize;
+    let routed = y.routes.routes.count > 0;
+    let mut c = cursor_start();
     for q in 0..n {
-        mark_gap(&mut marks, s, y, q);
+        c = mark_visit(&mut marks, s, y, c, routed);
     }
     marks
 }
 
-fn mark_gap(marks: &mut [bool; 512], s: &[u8], y: Layout, q: usize)
-    requires { ⌜ Passed (imageIn (now s) y) × (q < y .code .instructions .count) ⌝ }
+// The marks of the instruction at the cursor, and the cursor behind it. `routed` says whether there is any route.
+fn mark_visit(marks: &mut [bool; 512], s: &[u8], y: Layout, c: Cursor, routed: bool) -> Cursor
+    requires { ⌜ Passed (imageIn (now s) y) × (c ≡ cursorAt (imageIn (now s) y) (c .at)) × (c .at < y .code .instructions .count) × (routed ≡ ltb 0 (length (routes (imageIn (now s) y)))) ⌝ }
+    ensures { λ r. ⌜ (r ≡ cursorAt (imageIn (now (s .entry)) y) (c .at + 1)) × Marked (y .code .instructions .count) (visitMark (imageIn (now (s .entry)) y) (c .at)) (now (marks .entry)) (now (marks .exit)) ⌝ }
+{
+    let q = c.at;
+    let v = visit_at(s, y, c);
+    let i = v.instruction;
+    let given = v.given;
+    mark_gap(marks, s, y, q, i);
+    mark_lead(marks, s, y, c, given, i);
+    mark_if(marks, i.flow == EXCEPTIONAL, q);
+    mark_funclet_end(marks, s, y, q, i, routed);
+    v.next
+}
+
+// An instruction after a gap or an overlap, and the start at that end.
+fn mark_gap(marks: &mut [bool; 512], s: &[u8], y: Layout, q: usize, i: Instruction)
+    requires { ⌜ Passed (imageIn (now s) y) × (q < y .code .instructions .count) × (i ≡ instructionAt (imageIn (now s) y) q) ⌝ }
     ensures { λ _. ⌜ Marked (y .code .instructions .count) (gapMark (imageIn (now (s .entry)) y) q) (now (marks .entry)) (now (marks .exit)) ⌝ }
 {
-    if goes_on(s, y, q) {
+    if goes_on(s, y, q, i) {
         return;
     }
-    let table = y.code.instructions;
-    let i = instruction_at(s, table, q);
     mark_at(marks, q + 1);
-    mark_target(marks, s, table, i.end);
+    mark_target(marks, s, y.code.instructions, i.end);
 }
 
 // Whether the next instruction starts where the one at q ends.
-fn goes_on(s: &[u8], y: Layout, q: usize) -> bool
-    requires { ⌜ q < y .code .instructions .count ⌝ }
+fn goes_on(s: &[u8], y: Layout, q: usize, i: Instruction) -> bool
+    requires { ⌜ (q < y .code .instructions .count) × (i ≡ instructionAt (imageIn (now s) y) q) ⌝ }
     ensures { λ r. ⌜ r ≡ goesOn (imageIn (now (s .entry)) y) q ⌝ }
 {
     let table = y.code.instructions;
     let n = table.count as usize;
     if q + 1 < n {
-        let i = instruction_at(s, table, q);
-        let next = instruction_at(s, table, q + 1);
-        return i.end == next.address;
+        return i.end == address_at(s, table, q + 1);
     }
     false
 }
 
-// Each Exceptional flow: its edge belongs to one throwing instruction.
-fn mark_exceptional(mut marks: [bool; 512], s: &[u8], y: Layout) -> [bool; 512]
-    requires { ⌜ Passed (imageIn (now s) y) ⌝ }
-    ensures { λ r. ⌜ Marked (y .code .instructions .count) (exceptionalMark (imageIn (now (s .entry)) y)) marks r ⌝ }
+// With any route, each Return and each Jump to no start.
+fn mark_funclet_end(
+    marks: &mut [bool; 512],
+    s: &[u8],
+    y: Layout,
+    q: usize,
+    i: Instruction,
+    routed: bool,
+)
+    requires { ⌜ Passed (imageIn (now s) y) × (i ≡ instructionAt (imageIn (now s) y) q) × (routed ≡ ltb 0 (length (routes (imageIn (now s) y)))) ⌝ }
+    ensures { λ _. ⌜ Marked (y .code .instructions .count) (λ p. funcletEnd (imageIn (now (s .entry)) y) q && eqb p q) (now (marks .entry)) (now (marks .exit)) ⌝ }
 {
-    let n = y.code.instructions.count as usize;
-    for q in 0..n {
-        mark_thrower(&mut marks, s, y, q);
+    if routed {
+        let ends = ends_funclet(s, y, q, i);
+        mark_if(marks, ends, q);
     }
-    marks
 }
 
-fn mark_thrower(marks: &mut [bool; 512], s: &[u8], y: Layout, q: usize)
-    requires { ⌜ Passed (imageIn (now s) y) ⌝ }
-    ensures { λ _. ⌜ Marked (y .code .instructions .count) (λ p. exceptionalMark (imageIn (now (s .entry)) y) q && eqb p q) (now (marks .entry)) (now (marks .exit)) ⌝ }
+// Whether a funclet may end at q: by a Return, or by a Jump to no start.
+fn ends_funclet(s: &[u8], y: Layout, q: usize, i: Instruction) -> bool
+    requires { ⌜ Rising (tableOf (imageIn (now s) y)) × (i ≡ instructionAt (imageIn (now s) y) q) ⌝ }
+    ensures { λ r. ⌜ r ≡ endsFunclet (imageIn (now (s .entry)) y) q ⌝ }
 {
-    let i = instruction_at(s, y.code.instructions, q);
-    mark_if(marks, i.flow == EXCEPTIONAL, q);
+    if i.flow == RETURN {
+        return true;
+    }
+    if i.flow == JUMP {
+        return match find(s, y.code.instructions, i.target) {
+            Found::At(_) => false,
+            Found::Nothing => true,
+        };
+    }
+    false
 }
 
 // What handlers protect, and where they are entered.
@@ -140,47 +180,4 @@ fn mark_handler(marks: &mut [bool; 512], s: &[u8], y: Layout, code_end: u64, h: 
     let handler = handler_at(s, y.code.handlers, h);
     mark_range(marks, s, table, code_end, handler.start, handler.end);
     mark_target(marks, s, table, handler.entry);
-}
-
-// With any route, each Return and each Jump to no start.
-fn mark_funclet_ends(mut marks: [bool; 512], s: &[u8], y: Layout) -> [bool; 512]
-    requires { ⌜ Passed (imageIn (now s) y) ⌝ }
-    ensures { λ r. ⌜ Marked (y .code .instructions .count) (λ p. ltb 0 (length (routes (imageIn (now (s .entry)) y))) && endsFunclet (imageIn (now (s .entry)) y) p) marks r ⌝ }
-{
-    let routes = y.routes.routes;
-    if routes.count == 0 {
-        return marks;
-    }
-    let n = y.code.instructions.count as usize;
-    for q in 0..n {
-        mark_funclet_end(&mut marks, s, y, q);
-    }
-    marks
-}
-
-fn mark_funclet_end(marks: &mut [bool; 512], s: &[u8], y: Layout, q: usize)
-    requires { ⌜ Passed (imageIn (now s) y) ⌝ }
-    ensures { λ _. ⌜ Marked (y .code .instructions .count) (λ p. endsFunclet (imageIn (now (s .entry)) y) q && eqb p q) (now (marks .entry)) (now (marks .exit)) ⌝ }
-{
-    let ends = ends_funclet(s, y, q);
-    mark_if(marks, ends, q);
-}
-
-// Whether a funclet may end at q: by a Return, or by a Jump to no start.
-fn ends_funclet(s: &[u8], y: Layout, q: usize) -> bool
-    requires { ⌜ Rising (tableOf (imageIn (now s) y)) ⌝ }
-    ensures { λ r. ⌜ r ≡ endsFunclet (imageIn (now (s .entry)) y) q ⌝ }
-{
-    let table = y.code.instructions;
-    let i = instruction_at(s, table, q);
-    if i.flow == RETURN {
-        return true;
-    }
-    if i.flow == JUMP {
-        return match find(s, table, i.target) {
-            Found::At(_) => false,
-            Found::Nothing => true,
-        };
-    }
-    false
 }

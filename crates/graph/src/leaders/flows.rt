@@ -1,16 +1,12 @@
 // Marks of transfers: a block ends where an instruction leads elsewhere.
 use crate::cursor::Cursor;
 use crate::cursor::Given;
-use crate::cursor::cursor_start;
-use crate::cursor::visit_at;
 use crate::marks::mark_at;
 use crate::marks::mark_target;
-use crate::marks::mark_target_if;
+use crate::transfer::Origin;
 use crate::transfer::Slot;
 use crate::transfer::ends_block;
 use crate::transfer::flow_under;
-use crate::transfer::has_target;
-use crate::transfer::slot_transfer;
 use crate::transfer::slots_of;
 use image::access::case_at;
 use image::access::edge_at;
@@ -22,47 +18,33 @@ ghost use Rattle.image.specs.Image.{imageIn};
 ghost use Rattle.graph.specs.Cursor.{cursorAt, givenFor};
 ghost use Rattle.graph.specs.Slots.{slotIn};
 ghost use Rattle.graph.specs.Transfer.{instructionAt};
-ghost use Rattle.graph.specs.Leaders.{endMark, flowMark};
-ghost use Rattle.graph.specs.Marks.{Marked, Passed, slotMark, caseMark, edgeMark, switchCases, transferMark, caseTarget, edgeTarget};
+ghost use Rattle.graph.specs.Marks.{Marked, Passed, slotMark, caseMark, edgeMark, switchCases, namesMark, leadMark, caseTarget, edgeTarget};
 
 const SWITCH: u64 = 12;
 
-// Where a block ends: the starts to which it leads, and the next instruction.
-pub fn mark_flows(mut marks: [bool; 512], s: &[u8], y: Layout) -> [bool; 512]
-    requires { ⌜ Passed (imageIn (now s) y) ⌝ }
-    ensures { λ r. ⌜ Marked (y .code .instructions .count) (flowMark (imageIn (now (s .entry)) y)) marks r ⌝ }
+// Where a block ends at the cursor's instruction: the targets that it names, and the next instruction. The start at its
+// end is that one, or else a gap or an overlap marks it.
+pub fn mark_lead(
+    marks: &mut [bool; 512],
+    s: &[u8],
+    y: Layout,
+    c: Cursor,
+    given: Given,
+    i: Instruction,
+)
+    requires { ⌜ Passed (imageIn (now s) y) × (c ≡ cursorAt (imageIn (now s) y) (c .at)) × (c .at < y .code .instructions .count) × (given ≡ givenFor (imageIn (now s) y) (c .at)) × (i ≡ instructionAt (imageIn (now s) y) (c .at)) ⌝ }
+    ensures { λ _. ⌜ Marked (y .code .instructions .count) (leadMark (imageIn (now (s .entry)) y) (c .at)) (now (marks .entry)) (now (marks .exit)) ⌝ }
 {
-    let n = y.code.instructions.count as usize;
-    let mut c = cursor_start();
-    for q in 0..n {
-        c = mark_visit(&mut marks, s, y, c);
-    }
-    marks
-}
-
-// The marks of the instruction at the cursor, and the cursor behind it.
-fn mark_visit(marks: &mut [bool; 512], s: &[u8], y: Layout, c: Cursor) -> Cursor
-    requires { ⌜ Passed (imageIn (now s) y) × (c ≡ cursorAt (imageIn (now s) y) (c .at)) × (c .at < y .code .instructions .count) ⌝ }
-    ensures { λ r. ⌜ (r ≡ cursorAt (imageIn (now (s .entry)) y) (c .at + 1)) × Marked (y .code .instructions .count) (endMark (imageIn (now (s .entry)) y) (c .at)) (now (marks .entry)) (now (marks .exit)) ⌝ }
-{
-    let v = visit_at(s, y, c);
-    let given = v.given;
     match given {
-        Given::Edges(n) => {
-            mark_given(marks, s, y, c, n);
-            v.next
-        }
-        Given::Flow => {
-            mark_flow(marks, s, y, c, v.instruction);
-            v.next
-        }
+        Given::Edges(n) => mark_given(marks, s, y, c, n),
+        Given::Flow => mark_flow(marks, s, y, c, i),
     }
 }
 
 // The targets of n given edges, and the next instruction.
 fn mark_given(marks: &mut [bool; 512], s: &[u8], y: Layout, c: Cursor, n: usize)
     requires { ⌜ Passed (imageIn (now s) y) × (c ≡ cursorAt (imageIn (now s) y) (c .at)) × (c .at < y .code .instructions .count) × (givenFor (imageIn (now s) y) (c .at) ≡ Given.Edges n) ⌝ }
-    ensures { λ _. ⌜ Marked (y .code .instructions .count) (endMark (imageIn (now (s .entry)) y) (c .at)) (now (marks .entry)) (now (marks .exit)) ⌝ }
+    ensures { λ _. ⌜ Marked (y .code .instructions .count) (leadMark (imageIn (now (s .entry)) y) (c .at)) (now (marks .entry)) (now (marks .exit)) ⌝ }
 {
     let at = c.at;
     mark_edges(marks, s, y, c.edge, n);
@@ -72,26 +54,25 @@ fn mark_given(marks: &mut [bool; 512], s: &[u8], y: Layout, c: Cursor, n: usize)
 // The targets of a flow that ends its block, and the next instruction.
 fn mark_flow(marks: &mut [bool; 512], s: &[u8], y: Layout, c: Cursor, i: Instruction)
     requires { ⌜ Passed (imageIn (now s) y) × (c ≡ cursorAt (imageIn (now s) y) (c .at)) × (c .at < y .code .instructions .count) × (givenFor (imageIn (now s) y) (c .at) ≡ Given.Flow) × (i ≡ instructionAt (imageIn (now s) y) (c .at)) ⌝ }
-    ensures { λ _. ⌜ Marked (y .code .instructions .count) (endMark (imageIn (now (s .entry)) y) (c .at)) (now (marks .entry)) (now (marks .exit)) ⌝ }
+    ensures { λ _. ⌜ Marked (y .code .instructions .count) (leadMark (imageIn (now (s .entry)) y) (c .at)) (now (marks .entry)) (now (marks .exit)) ⌝ }
 {
     let header = y.header;
     let at = c.at;
     if ends_block(header.calls, i.flow) {
-        mark_transfers(marks, s, y, c.case, i);
+        mark_names(marks, s, y, c.case, i);
         mark_at(marks, at + 1);
     }
 }
 
-// The targets of both slots, and of the cases of a Switch, which stand from `first` on.
-fn mark_transfers(marks: &mut [bool; 512], s: &[u8], y: Layout, first: usize, i: Instruction)
+// The target of the first slot, and of the cases of a Switch, which stand from `first` on.
+fn mark_names(marks: &mut [bool; 512], s: &[u8], y: Layout, first: usize, i: Instruction)
     requires { ⌜ Passed (imageIn (now s) y) × (i .flow ≤ 12) × (first + i .cases ≤ 512) ⌝ }
-    ensures { λ _. ⌜ Marked (y .code .instructions .count) (transferMark (imageIn (now (s .entry)) y) first i) (now (marks .entry)) (now (marks .exit)) ⌝ }
+    ensures { λ _. ⌜ Marked (y .code .instructions .count) (namesMark (imageIn (now (s .entry)) y) first i) (now (marks .entry)) (now (marks .exit)) ⌝ }
 {
     let header = y.header;
     let flow = flow_under(header.calls, i.flow);
     let slots = slots_of(flow);
     mark_slot(marks, s, y, i, slots.0);
-    mark_slot(marks, s, y, i, slots.1);
     mark_cases(marks, s, y, first, cases_of(flow, i));
 }
 
@@ -105,9 +86,13 @@ fn mark_slot(marks: &mut [bool; 512], s: &[u8], y: Layout, i: Instruction, slot:
     requires { ⌜ Passed (imageIn (now s) y) ⌝ }
     ensures { λ _. ⌜ Marked (y .code .instructions .count) (slotMark (imageIn (now (s .entry)) y) i (slotIn slot)) (now (marks .entry)) (now (marks .exit)) ⌝ }
 {
-    let x = slot_transfer(i, slot);
-    let leads = has_target(x);
-    mark_target_if(marks, s, y.code.instructions, leads, x.target);
+    let from = slot.1;
+    match from {
+        Origin::Named => mark_target(marks, s, y.code.instructions, i.target),
+        Origin::Nowhere => {},
+        Origin::Computed => {},
+        Origin::End => {},
+    }
 }
 
 fn mark_cases(marks: &mut [bool; 512], s: &[u8], y: Layout, first: usize, n: usize)

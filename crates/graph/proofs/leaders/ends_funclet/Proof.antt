@@ -1,17 +1,13 @@
 -- By its flow, and by what is found at its target. Assumes nothing.
 use borrow.Author.Tests.{eq-eqb, ne-eqb}
-use Rattle.graph.specs.Transfer.{instructionAt}
 use Rattle.graph.specs.Leaders.{endsFunclet}
 use borrow.Author.Needs.{needs}
 use Rattle.graph.proofs.leaders.ends_funclet.Statement.{statement}
 use Rattle.graph.proofs.leaders.ends_funclet.Tie as tie
 
-instruction-at-requires : tie.Need-instruction-at-requires
-instruction-at-requires c κs = search needs
-
 returns : tie.Need-returns
-unfolding endsFunclet instructionAt
-returns c = rw (← c .before .before .instruction-at .ensures, eq-eqb _ 1 (c .if1 .taken))
+unfolding endsFunclet
+returns c = rw (← c .before .before .before .pre .1, eq-eqb _ 1 (c .if1 .taken))
 
 find-requires : tie.Need-find-requires
 find-requires c κs = search needs
@@ -23,24 +19,23 @@ enum-told-2 : tie.Need-enum-told-2
 enum-told-2 c = search needs
 
 returns-2 : tie.Need-returns-2
-unfolding endsFunclet instructionAt
+unfolding endsFunclet
 returns-2 c =
     let told = rw (c .enum-told .given .1) at (c .before .before .find .ensures) in
-    rw (← c .before .before .before .before .before .before .before .instruction-at .ensures, ne-eqb _ 1 (c .before .before .before .before .before .if1 .left), eq-eqb _ 6 (c .before .before .before .if2 .taken), told .0)
+    rw (← c .before .before .before .before .before .before .before .before .pre .1, ne-eqb _ 1 (c .before .before .before .before .before .if1 .left), eq-eqb _ 6 (c .before .before .before .if2 .taken), told .0)
 
 returns-3 : tie.Need-returns-3
-unfolding endsFunclet instructionAt
-returns-3 c = rw (← c .before .before .before .before .before .before .before .instruction-at .ensures, ne-eqb _ 1 (c .before .before .before .before .before .if1 .left), eq-eqb _ 6 (c .before .before .before .if2 .taken), rw (c .enum-told2 .given .1) at (c .before .before .find .ensures))
+unfolding endsFunclet
+returns-3 c = rw (← c .before .before .before .before .before .before .before .before .pre .1, ne-eqb _ 1 (c .before .before .before .before .before .if1 .left), eq-eqb _ 6 (c .before .before .before .if2 .taken), rw (c .enum-told2 .given .1) at (c .before .before .find .ensures))
 
 returns-4 : tie.Need-returns-4
-unfolding endsFunclet instructionAt
-returns-4 c = rw (← c .before .before .before .before .instruction-at .ensures, ne-eqb _ 1 (c .before .before .if1 .left), ne-eqb _ 6 (c .if2 .left))
+unfolding endsFunclet
+returns-4 c = rw (← c .before .before .before .before .before .pre .1, ne-eqb _ 1 (c .before .before .if1 .left), ne-eqb _ 6 (c .if2 .left))
 
 pub ends-funclet-spec : {M : Type 1} → statement M
 ends-funclet-spec =
     tie.close
     (tie.spec
-    instruction-at-requires
     returns
     find-requires
     enum-told

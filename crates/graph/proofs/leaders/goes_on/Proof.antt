@@ -1,16 +1,16 @@
 -- The next instruction is there, or not. Assumes nothing.
-use mathlib.Core.Path.{ap₂}
-use Prim.Native.Nat.{suc}
+use mathlib.Core.Path.{ap, ap₂, _∙_}
+use Prim.Native.Nat.{suc, _+_}
 use native.Mathlib.Numerals.{add-one}
 use borrow.Author.Tests.{lt-ltb, le-ltb}
 use lib.Dec.{eqb}
-use lib.ListN.{length}
 use Rattle.image.specs.Record.{instructionFrom}
-use Rattle.image.specs.Image.{recordsIn, imageIn}
+use Rattle.image.specs.Image.{imageIn}
 use Rattle.image.specs.declared.record.Instruction.{Instruction}
 use Rattle.image.proofs.Tables.{length-records}
-use Rattle.graph.specs.Transfer.{size, instructionAt}
+use Rattle.graph.specs.Transfer.{size}
 use Rattle.graph.specs.Leaders.{goesOn}
+use Rattle.graph.proofs.TableLaws.{entry-address}
 use native.Mathlib.Omega.{arith}
 use borrow.Author.Needs.{needs}
 use Rattle.graph.proofs.leaders.goes_on.Statement.{statement}
@@ -22,22 +22,20 @@ cast-n c = search needs
 add-if1 : tie.Need-add-if1
 add-if1 c = search needs
 
-instruction-at-requires : tie.Need-instruction-at-requires
-instruction-at-requires c κs = search needs
+add-address-at : tie.Need-add-address-at
+add-address-at c = search needs
 
-add-instruction-at : tie.Need-add-instruction-at
-add-instruction-at c = search needs
-
-instruction-at-requires-2 : tie.Need-instruction-at-requires-2
-instruction-at-requires-2 c κs = search needs
+address-at-requires : tie.Need-address-at-requires
+address-at-requires c κs = search needs
 
 returns : tie.Need-returns
-unfolding goesOn instructionAt
+unfolding goesOn
 returns c =
-    let a = c .before .before .before .before .before .before .before .before .args in
-    let records = recordsIn instructionFrom (a .s .now) (a .y .code .instructions) in
-    rw (lt-ltb (suc (a .q)) (length records) (rw (length-records instructionFrom (a .s .now) (a .y .code .instructions)) (omega arith)), ← add-one (a .q))
-    (ap₂ (λ (i n : Instruction). eqb (i .end) (n .address)) (c .before .before .before .instruction-at .ensures) (c .before .before .instruction-at2 .ensures))
+    let start = c .before .before .before .before .before .before in
+    let a = start .args in
+    let m = imageIn (a .s .now) (a .y) in
+    rw (lt-ltb (suc (a .q)) (size m) (rw (length-records instructionFrom (a .s .now) (a .y .code .instructions)) (omega arith)), ← add-one (a .q))
+    (ap₂ eqb (ap (λ (i : Instruction). i .end) (start .pre .1)) (c .before .address-at .ensures ∙ entry-address m (a .q + 1)))
 
 returns-2 : tie.Need-returns-2
 unfolding goesOn
@@ -51,8 +49,7 @@ goes-on-spec =
     (tie.spec
     cast-n
     add-if1
-    instruction-at-requires
-    add-instruction-at
-    instruction-at-requires-2
+    add-address-at
+    address-at-requires
     returns
     returns-2)

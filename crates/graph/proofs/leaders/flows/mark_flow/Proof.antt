@@ -13,9 +13,9 @@ use Rattle.graph.proofs.leaders.flows.mark_flow.Tie as tie
 ends-block-requires : tie.Need-ends-block-requires
 ends-block-requires c κs = search needs
 
-mark-transfers-requires : tie.Need-mark-transfers-requires
+mark-names-requires : tie.Need-mark-names-requires
 unfolding instructionAt
-mark-transfers-requires c κs =
+mark-names-requires c κs =
     let start = c .before .before .before .before .before in
     let at = start .args .c .at in (
       start .pre .0,
@@ -33,7 +33,7 @@ returns : tie.Need-returns
 returns c =
     let start = c .before .before .before .before .before .before .before .before in
     flow-marks (imageIn _ _) (start .pre .0 .sourced) _ (start .pre .1) (inside (start .args .s .now) (start .args .y) _ (start .pre .2)) (start .pre .3) _ (start .pre .4)
-    (sym (c .before .before .before .before .before .ends-block .ensures) ∙ c .before .before .before .before .if1 .taken) (c .before .before .mark-transfers .ensures) (mark-within _ (few _ _ (start .pre .0)) (c .mark-at .ensures))
+    (sym (c .before .before .before .before .before .ends-block .ensures) ∙ c .before .before .before .before .if1 .taken) (c .before .before .mark-names .ensures) (mark-within _ (few _ _ (start .pre .0)) (c .mark-at .ensures))
 
 returns-2 : tie.Need-returns-2
 returns-2 c =
@@ -46,7 +46,7 @@ mark-flow-spec =
     tie.close
     (tie.spec
     ends-block-requires
-    mark-transfers-requires
+    mark-names-requires
     add-mark-at
     mark-at-requires
     returns

@@ -8,20 +8,20 @@ use Rattle.graph.specs.declared.cursor.Cursor.{Cursor}
 use Rattle.graph.specs.Fold.{some}
 use Rattle.graph.specs.Transfer.{size}
 use Rattle.graph.specs.Cursor.{cursorAt}
-use Rattle.graph.specs.Leaders.{endMark, flowMark}
-use Rattle.graph.specs.Marks.{Marked}
-use Rattle.graph.proofs.MarkLaws.{marks-none, marks-more}
+use Rattle.graph.specs.Marks.{Marked, visitMark}
+use Rattle.graph.proofs.MarkLaws.{marks-none, marks-more, any-routes}
+use Rattle.graph.proofs.FlowLaws.{visits-all}
 use native.Mathlib.Omega.{arith}
 use borrow.Author.Needs.{needs}
-use Rattle.graph.proofs.leaders.flows.mark_flows.Statement.{statement}
-use Rattle.graph.proofs.leaders.flows.mark_flows.Tie as tie
+use Rattle.graph.proofs.leaders.mark_instructions.Statement.{statement}
+use Rattle.graph.proofs.leaders.mark_instructions.Tie as tie
 
 abbrev Inv-loop : tie.InvT-loop
-Inv-loop s y marks₀ n c₀ q₀ marks c q =
-    (q ≤ n) × (c ≡ cursorAt (imageIn s y) q) × Marked (y .code .instructions .count) (λ p. some (λ i. endMark (imageIn s y) i p) q) marks₀ marks
+Inv-loop s y marks₀ n routed c₀ q₀ marks c q =
+    (q ≤ n) × (c ≡ cursorAt (imageIn s y) q) × Marked (y .code .instructions .count) (λ p. some (λ i. visitMark (imageIn s y) i p) q) marks₀ marks
 
 abbrev μ-loop : tie.MeasureT-loop
-μ-loop s y marks₀ n c₀ q₀ marks c q = n - q
+μ-loop s y marks₀ n routed c₀ q₀ marks c q = n - q
 
 cast-n : tie.Need-cast-n Inv-loop μ-loop
 cast-n c = search needs
@@ -30,17 +30,18 @@ cursor-start-requires : tie.Need-cursor-start-requires Inv-loop μ-loop
 cursor-start-requires c κs = search needs
 
 loop-holds : tie.Need-loop-holds Inv-loop μ-loop
-loop-holds c = (search needs, c .cursor-start .ensures (imageIn _ _), marks-none (endMark (imageIn _ _)))
+loop-holds c = (search needs, c .cursor-start .ensures (imageIn _ _), marks-none (visitMark (imageIn _ _)))
 
 mark-visit-requires : tie.Need-mark-visit-requires Inv-loop μ-loop
 mark-visit-requires c κs =
-    let a = c .before .before .before .before .before .before .args in
+    let start = c .before .before .before .before .before .before .before in
+    let a = start .args in
     let top = c .before .before .loop in
     let at = ap (λ (x : Cursor). x .at) (top .inv .1) in
-    (c .before .before .before .before .before .before .pre, top .inv .1 ∙ ap (λ (q : ℕ). cursorAt (imageIn (a .s .now) (a .y)) q) (sym at), omega (arith, at, c .before .loop-test .taken))
+    (start .pre, top .inv .1 ∙ ap (λ (q : ℕ). cursorAt (imageIn (a .s .now) (a .y)) q) (sym at), omega (arith, at, c .before .loop-test .taken), rw (any-routes (a .s .now) (a .y)))
 
 add-q : tie.Need-add-q Inv-loop μ-loop
-add-q c = omega (arith, c .before .before, c .before .before .before .before .before .struct-known)
+add-q c = omega (arith, c .before .before, c .before .before .before .before .before .before .struct-known)
 
 loop-less : tie.Need-loop-less Inv-loop μ-loop
 loop-less c = search needs
@@ -50,18 +51,19 @@ loop-again c =
     let top = c .before .before .before .loop in
     let at = ap (λ (x : Cursor). x .at) (top .inv .1) in
     let visited = rw at at (c .mark-visit .ensures) in
-    (search needs, visited .0, marks-more (endMark (imageIn _ _)) (top .q) (top .inv .2) (visited .1))
+    (search needs, visited .0, marks-more (visitMark (imageIn _ _)) (top .q) (top .inv .2) (visited .1))
 
 returns : tie.Need-returns Inv-loop μ-loop
-unfolding flowMark
 returns c =
     let end = c .before .loop in
-    let a = c .before .before .before .before .before .args in
-    let all : end .q ≡ size (imageIn (a .s .now) (a .y)) = omega (arith, length-records instructionFrom (a .s .now) (a .y .code .instructions)) in
-    rw all at (end .inv .2)
+    let a = c .before .before .before .before .before .before .args in
+    let m = imageIn (a .s .now) (a .y) in
+    let size-is = length-records instructionFrom (a .s .now) (a .y .code .instructions) in
+    let all : end .q ≡ size m = omega (arith, size-is) in
+    visits-all m (end .q) all (sym size-is) (end .inv .2)
 
-pub mark-flows-spec : {M : Type 1} → statement M
-mark-flows-spec =
+pub mark-instructions-spec : {M : Type 1} → statement M
+mark-instructions-spec =
     tie.close
     (tie.spec
     Inv-loop
