@@ -7,7 +7,7 @@ use crate::edges::is_terminator;
 use crate::error::AddressBuildError;
 use crate::error::Checked;
 use crate::lookup::Found;
-use crate::lookup::find;
+use crate::lookup::find_near;
 use crate::transfer::Slot;
 use crate::transfer::falls_through;
 use crate::transfer::flow_under;
@@ -68,15 +68,16 @@ fn check_continuation(s: &[u8], y: Layout, marks: &[bool; 512], p: usize, visit:
     };
     let i = visit.instruction;
     let slots = slots_of(flow_under(y.header.calls, i.flow));
-    let found = check_slot(s, y, i, slots.0);
+    let near = p + 1;
+    let found = check_slot(s, y, near, i, slots.0);
     let Checked::Clear = found else {
         return found;
     };
-    check_slot(s, y, i, slots.1)
+    check_slot(s, y, near, i, slots.1)
 }
 
-// The transfer that a slot makes of an instruction: where it falls through, it leads to a start.
-fn check_slot(s: &[u8], y: Layout, i: Instruction, slot: Slot) -> Checked
+// The transfer that a slot makes of an instruction: where it falls through, it leads to a start, likely at position `near`.
+fn check_slot(s: &[u8], y: Layout, near: usize, i: Instruction, slot: Slot) -> Checked
     requires { ⌜ Rising (tableOf (imageIn (now s) y)) ⌝ }
     ensures { λ r. ⌜ checkOf r ≡ unless (continues (imageIn (now (s .entry)) y) (slotTransfer i (slotIn slot))) (refusal 16 (i .address) (slotTransfer i (slotIn slot) .target)) ⌝ }
 {
@@ -86,7 +87,7 @@ fn check_slot(s: &[u8], y: Layout, i: Instruction, slot: Slot) -> Checked
         return Checked::Clear;
     }
     let target = x.target;
-    let Found::At(_) = find(s, y.code.instructions, target) else {
+    let Found::At(_) = find_near(s, y.code.instructions, near, target) else {
         return Checked::Refused(AddressBuildError::MissingContinuation {
             source: i.address,
             target,

@@ -40,6 +40,11 @@ slots-of-requires c κs =
     let a = start .args in
     flow-most (imageIn (a .s .now) (a .y)) (a .p) (a .visit .instruction) (ap (λ (x : Visit). x .instruction) (start .pre .1 .2)) _ (c .flow-under .ensures) (start .pre .0 .0 .accepted)
 
+add-near : tie.Need-add-near
+add-near c =
+    let start = c .before .before .before .before .before .before .before .before .before in
+    omega (arith, start .pre .1 .1, start .pre .0 .0 .accepted .instructions-most)
+
 check-slot-requires : tie.Need-check-slot-requires
 check-slot-requires c κs = c .before .before .before .before .before .before .before .before .before .pre .0 .0 .rising
 
@@ -76,6 +81,7 @@ check-continuation-spec =
     returns-2
     (λ c κs. search needs)
     slots-of-requires
+    add-near
     check-slot-requires
     (λ c. search needs)
     (λ c. search needs)

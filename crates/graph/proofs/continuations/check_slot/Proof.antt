@@ -20,14 +20,14 @@ returns-2 : tie.Need-returns-2
 returns-2 c =
     let a = c .before .before .before .before .before .before .before .before .args in
     let falls = sym (ap₂ _&&_ (c .before .before .before .before .before .has-target .ensures) (c .before .before .before .before .falls-through .ensures)) ∙ not-false _ (c .before .before .before .if1 .left) in
-    let none = rw (c .enum-told2 .given .1) at (c .before .before .find .ensures) in
+    let none = rw (c .enum-told2 .given .1) at (c .before .before .find-near .ensures) in
     rw (← c .before .before .before .before .before .before .slot-transfer .ensures, goes-on (imageIn (a .s .now) (a .y)) (transferIn (c .before .before .before .before .before .before .slot-transfer .result)) falls, none)
 
 returns-3 : tie.Need-returns-3
 returns-3 c =
     let a = c .before .before .before .before .before .before .before .before .args in
     let falls = sym (ap₂ _&&_ (c .before .before .before .before .before .has-target .ensures) (c .before .before .before .before .falls-through .ensures)) ∙ not-false _ (c .before .before .before .if1 .left) in
-    let found = rw (c .enum-told .given .1) at (c .before .before .find .ensures) in
+    let found = rw (c .enum-told .given .1) at (c .before .before .find-near .ensures) in
     rw (← c .before .before .before .before .before .before .slot-transfer .ensures, goes-on (imageIn (a .s .now) (a .y)) (transferIn (c .before .before .before .before .before .before .slot-transfer .result)) falls, found .0)
 
 pub check-slot-spec : {M : Type 1} → statement M
