@@ -72,7 +72,7 @@ fn reach_in(g: &Words, head: &mut [u16], next: &mut [u16]) -> BlockSet
 }
 
 // Links the edges by their source, the last first, so that a block's edges are met in their order.
-fn link(g: &Words, head: &mut [u16], next: &mut [u16])
+pub fn link(g: &Words, head: &mut [u16], next: &mut [u16])
     requires { ⌜ Ends (heldIn (now g) .graph) × Roomy (heldIn (now g) .graph) (now head) (now next) × (now head ≡ replicate (length (now head)) 0) ⌝ }
     ensures { λ _. ⌜ Linked (heldIn (now (g .entry)) .graph) (now (head .exit)) (now (next .exit)) 0 × Roomy (heldIn (now (g .entry)) .graph) (now (head .exit)) (now (next .exit)) ⌝ }
 {

@@ -1,6 +1,7 @@
 pub mod Lists
 pub mod Order
 pub mod Blocks
+pub mod Stands
 pub mod Part
 pub mod Trie
 pub mod Instance
