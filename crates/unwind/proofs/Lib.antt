@@ -15,3 +15,6 @@ pub mod Milder
 pub mod Owners
 pub mod Demand
 pub mod Standing
+pub mod PartLaws
+pub mod FuncletLaws
+pub mod Sets

@@ -1,12 +1,14 @@
 -- A graph that 21 lets pass: its table, its built blocks, and the block that an address starts.
 --     stands-of                    what is used of 21
+--     table-most                   the limit of the table
 --     Cut, cut-all, cut-right, cut-left        a search by halving in numbers that rise
 --     table-rises                  the addresses of its table rise
 --     below-cut, start-nowhere     how many starts are below an address, and whether one is there
 --     built-is, is-built           the first n blocks are the built ones
 --     block-first, block-rises, first-lt       where built blocks begin
---     block-in                     the run of any block lies in the table
+--     block-in, run-fits           the run of any block lies in the table, and that past the last
 --     none-begins                  no built block begins at a position but the one found
+--     built-some, begins-one       how many are built, and that one begins at an address
 --     leads-here, leads-none, leads-absent     the block that an address starts
 -- Assumes nothing.
 use mathlib.Core.Path.{_≡_, refl, sym, ap, _∙_}
@@ -20,23 +22,26 @@ use native.Mathlib.Decide.{decLt, ℕ-discrete}
 use native.Mathlib.Omega.{arith}
 use borrow.Author.Tests.{eq-eqb, ne-eqb, eqb-true, lt-ltb, le-ltb, ltb-true}
 use lib.Dec.{eqb, ltb}
-use lib.ListN.{length}
+use lib.ListN.{length, List·getD-eq-default}
 use Rattle.image.specs.Refusal.{Check, clear, refused}
 use Rattle.graph.specs.declared.record.TableEntry.{TableEntry}
 use Rattle.graph.specs.Graph.{Graph, Held, block}
+use Rattle.graph.specs.Words.{tableRows, heldIn}
 use Rattle.graph.specs.Fold.{some as any, sum}
 use Rattle.graph.specs.Table.{entryAt, isStart, below}
 use Rattle.graph.specs.Lookup.{Rising}
 use Rattle.graph.specs.Build.{tableCheck}
-use Rattle.graph.specs.WellFormed.{passes, filled, isBuilt, Built, repeats, copiesRepeat, wellFormed}
+use Rattle.graph.specs.WellFormed.{passes, filled, isBuilt, Built, repeats, copiesRepeat, noneEmpty, wellFormed}
 use Rattle.graph.proofs.FoldLaws.{decided, some-where}
 use Rattle.graph.proofs.TableLaws.{start-at, start-none, start-has, start-place, below-at}
+use Rattle.graph.proofs.SectionLaws.{size-most}
+use Rattle.graph.proofs.RecordLaws.{entry-count}
 use Rattle.graph.proofs.RangeLaws.{rising}
 use Rattle.graph.proofs.RuleLaws as rule
 use Rattle.unwind.specs.Lists.{keep, upto, head}
 use Rattle.unwind.specs.Blocks.{Leading, leads, inside, absent, builtBlocks, firstOf, leadingBy, leading}
 use Rattle.unwind.specs.Stands.{Stands, Before}
-use Rattle.unwind.specs.Walk.{_∈_, Built as BuiltBlock}
+use Rattle.unwind.specs.Walk.{_∈_, Built as BuiltBlock, Begins}
 use Rattle.unwind.proofs.Lists.{and-both, or-either, none-in, keep-mem}
 use Rattle.unwind.proofs.Sound.{all-at}
 use Rattle.unwind.proofs.Accepted.{built-mem, mem-built}
@@ -82,6 +87,11 @@ module _ (f : ℕ → ℕ) (n p : ℕ) where
           more = λ k h lt. elim (ℕ-discrete k mid) [ yes e ↦ rw e le | no ne ↦ omega (arith, rise mid k (omega arith) lt) ];
         }
 
+-- ---- words
+
+pub table-most : (l : List ℕ) → length (heldIn l .graph .table) ≤ 512
+table-most l = omega (arith, entry-count l, size-most tableRows l)
+
 -- ---- the first of the kept
 
 module _ {A : Type 0} (f : A → Bool) where
@@ -115,6 +125,29 @@ below-cut (x ∷ t) a (suc r) h less more =
 filled-none : (g : Graph) → filled g 0 ≡ 0
 unfolding filled sum
 filled-none g = refl
+
+-- how many blocks are built
+pub built-some : (g : Graph) → (n : ℕ) × Built g n
+unfolding isBuilt
+built-some g = let all = up-to (length (g .blocks)) (omega arith) in (all .0, (all .1, all .2))
+  where
+    up-to : (m : ℕ) → m ≤ length (g .blocks) → (n : ℕ) × (n ≤ m) × ((b : ℕ) → b < m → isBuilt g b ≡ ltb b n)
+    up-to zero h = (0, omega arith, λ b lt. absurd (not-suc-le-zero lt))
+    up-to (suc m) h = go (up-to m (omega arith)) (decided (isBuilt g m))
+      where
+        go : (n : ℕ) × (n ≤ m) × ((b : ℕ) → b < m → isBuilt g b ≡ ltb b n) → (isBuilt g m ≡ true) ⊎ (isBuilt g m ≡ false) → (n : ℕ) × (n ≤ suc m) × ((b : ℕ) → b < suc m → isBuilt g b ≡ ltb b n)
+        go before (inl is) =
+            let last : (m ≡ 0) ⊎ (filled g m < length (g .table)) =
+            ⊎-elim (λ e. inl (eqb-true m 0 e)) (λ e. inr (ltb-true _ _ e)) (or-either (eqb m 0) (ltb (filled g m) (length (g .table))) is) in
+            (suc m, omega arith, λ b lt. rule.built-all g m last b (omega arith) ∙ sym (lt-ltb b (suc m) lt))
+        go before (inr out) = (
+          before .0,
+          omega (arith, before .1),
+          λ b lt. elim (ℕ-discrete b m) [
+            | yes same ↦ rw same (out ∙ sym (le-ltb m (before .0) (before .1)))
+            | no ne ↦ before .2 b (omega arith)
+          ],
+        )
 
 module _ (g : Graph) (s : Stands g) where
   pub table-rises : Rising (g .table)
@@ -217,3 +250,50 @@ module _ (g : Graph) (s : Stands g) where
       go : (o : Option ℕ) → leadingBy o false ≡ absent
       go none = refl
       go (some b) = refl
+
+  -- the run of any number
+  pub run-fits : (b : ℕ) → block g b .first + block g b .count ≤ length (g .table)
+  run-fits b =
+      elim (decLt b (length (g .blocks))) [
+        | yes lt ↦ block-in (built-some g .0) (built-some g .1) b lt
+        | no ge ↦ let past : block g b ≡ record { first = 0; count = 0 } = List·getD-eq-default (g .blocks) _ (omega arith) in rw past (omega arith)
+      ]
+
+  -- one built block begins at an address
+  pub begins-one : (a b c : ℕ) → Begins g a b → Begins g a c → b ≡ c
+  unfolding firstOf noneEmpty
+  begins-one a b c x y =
+      elim (decLt 0 (length (g .table))) [
+        | yes some-there ↦ go some-there
+        | no none-there ↦
+            let z : length (g .table) ≡ 0 = omega arith in
+            let one : length (g .blocks) ≡ 1 = eqb-true (length (g .blocks)) 1 (rw (eq-eqb (length (g .table)) 0 z) at (s .runs)) in
+            omega (arith, x .built .exists, y .built .exists)
+      ]
+    where
+      n : ℕ
+      n = built-some g .0
+
+      built : Built g n
+      built = built-some g .1
+
+      -- where an address rises, so does the place
+      same : 0 < length (g .table) → block g b .first ≡ block g c .first
+      same h =
+          let p = first-lt n built b h (is-built n built b (x .built)) in
+          let q = first-lt n built c h (is-built n built c (y .built)) in
+          let e : entryAt (g .table) (block g b .first) .address ≡ entryAt (g .table) (block g c .first) .address = x .address ∙ sym (y .address) in
+          elim (decLt (block g b .first) (block g c .first)) [
+            | yes less ↦ absurd (omega (arith, table-rises (block g b .first) (block g c .first) less q))
+            | no more ↦ elim (decLt (block g c .first) (block g b .first)) [ yes less ↦ absurd (omega (arith, table-rises (block g c .first) (block g b .first) less p)) | no eq ↦ omega arith ]
+          ]
+
+      go : 0 < length (g .table) → b ≡ c
+      go h =
+          let p = is-built n built b (x .built) in
+          let q = is-built n built c (y .built) in
+          let e = same h in
+          elim (decLt b c) [
+            | yes less ↦ absurd (omega (arith, block-rises n built b c less q))
+            | no more ↦ elim (decLt c b) [ yes less ↦ absurd (omega (arith, block-rises n built c b less p)) | no eq ↦ omega arith ]
+          ]

@@ -3,6 +3,7 @@ pub mod Order
 pub mod Blocks
 pub mod Stands
 pub mod Part
+pub mod PartSearch
 pub mod Trie
 pub mod Instance
 pub mod Ways

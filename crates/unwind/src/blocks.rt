@@ -1,5 +1,6 @@
 // Look-up in a graph's own table and among its built blocks, which stand in the table's order.
 use graph::lookup::Found;
+use graph::record::TableEntry;
 use graph::store::Words;
 use graph::store::blocks::block_at;
 use graph::store::table::table_at;
@@ -9,7 +10,7 @@ ghost use Rattle.graph.specs.Words.{heldIn};
 ghost use Rattle.graph.specs.Table.{below};
 ghost use Rattle.graph.specs.Lookup.{Finds};
 ghost use Rattle.graph.specs.WellFormed.{Built};
-ghost use Rattle.unwind.specs.Blocks.{leading};
+ghost use Rattle.unwind.specs.Blocks.{firstOf, lastOf, leading};
 ghost use Rattle.unwind.specs.Stands.{Stands, Before, leadingOf};
 
 // Whether an address starts a built block, lies inside one, or starts no instruction.
@@ -84,4 +85,24 @@ pub fn leading_block(g: &Words, built: usize, a: u64) -> Lead
         }
     }
     Lead::Inside
+}
+
+// The first instruction of block b.
+pub fn first_of(g: &Words, b: usize) -> TableEntry
+    ensures { λ r. ⌜ r ≡ firstOf (heldIn (now (g .entry)) .graph) b ⌝ }
+{
+    table_at(g, block_at(g, b).first as usize)
+}
+
+// The last instruction of block b.
+pub fn last_of(g: &Words, b: usize) -> TableEntry
+    requires { ⌜ Stands (heldIn (now g) .graph) ⌝ }
+    ensures { λ r. ⌜ r ≡ lastOf (heldIn (now (g .entry)) .graph) b ⌝ }
+{
+    let run = block_at(g, b);
+    let end = run.first + run.count;
+    if end == 0 {
+        return table_at(g, 0);
+    }
+    table_at(g, (end - 1) as usize)
 }
