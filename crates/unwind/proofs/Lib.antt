@@ -18,3 +18,4 @@ pub mod Standing
 pub mod PartLaws
 pub mod FuncletLaws
 pub mod Sets
+pub mod GuardLaws

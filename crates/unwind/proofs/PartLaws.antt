@@ -32,8 +32,8 @@ use Rattle.graph.proofs.SearchLaws as search-laws
 use Rattle.unwind.specs.Lists.{keep, isEmpty}
 use Rattle.unwind.specs.Blocks.{firstOf}
 use Rattle.unwind.specs.Part.{funclets, ordinary, outgoing, part}
-use Rattle.unwind.specs.Stands.{Stands}
-use Rattle.unwind.specs.PartSearch.{Has, Barriers, Sources, followed, bent, bounded}
+use Rattle.unwind.specs.Stands.{Stands, Has}
+use Rattle.unwind.specs.PartSearch.{Barriers, Sources, followed, bent, bounded}
 use Rattle.unwind.specs.Walk.{_∈_, Built as BuiltBlock, Begins, Other, Reach, start as enter, step as onward}
 use Rattle.unwind.proofs.Lists.{both-ways, and-both, and-true, so-not, not-so, mem-getD, mem-at, at-lt, at-getD, mem-among, among-mem}
 use Rattle.unwind.proofs.Sound.{ends-exist}

@@ -25,7 +25,7 @@ use Rattle.graph.proofs.FoldLaws.{decided, among-append, count-yes, count-no, c
 use Rattle.unwind.specs.Lists.{keep, upto, rank}
 use Rattle.unwind.specs.Blocks.{builtBlocks, firstOf, within, keepsEdge, guarded}
 use Rattle.unwind.specs.Part.{onward, round, rounds, part, returning}
-use Rattle.unwind.specs.PartSearch.{Has}
+use Rattle.unwind.specs.Stands.{Has}
 use Rattle.unwind.proofs.Lists.{and-both}
 
 module _ {A : Type 0} where

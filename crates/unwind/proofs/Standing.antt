@@ -3,7 +3,7 @@
 --     table-most                   the limit of the table
 --     Cut, cut-all, cut-right, cut-left        a search by halving in numbers that rise
 --     table-rises                  the addresses of its table rise
---     below-cut, start-nowhere     how many starts are below an address, and whether one is there
+--     below-cut, below-test, start-nowhere     how many starts are below an address, and whether one is there
 --     built-is, is-built           the first n blocks are the built ones
 --     block-first, block-rises, first-lt       where built blocks begin
 --     block-in, run-fits           the run of any block lies in the table, and that past the last
@@ -148,6 +148,32 @@ built-some g = let all = up-to (length (g .blocks)) (omega arith) in (all .0, (a
             | no ne ↦ before .2 b (omega arith)
           ],
         )
+
+below-zero : (t : List TableEntry) (a : ℕ) → ((k : ℕ) → k < length t → a ≤ entryAt t k .address) → below t a ≡ 0
+below-zero t a h = below-cut t a 0 (omega arith) (λ k lt. absurd (not-suc-le-zero lt)) (λ k le lt. h k lt)
+
+one-up : (m n : ℕ) → ltb m n ≡ ltb (suc m) (suc n)
+one-up m n = elim (decLt m n) [ yes lt ↦ lt-ltb m n lt ∙ sym (lt-ltb (suc m) (suc n) (omega arith)) | no ge ↦ le-ltb m n (omega arith) ∙ sym (le-ltb (suc m) (suc n) (omega arith)) ]
+
+-- in a table that rises the starts below an address are the first ones
+pub below-test : (t : List TableEntry) → Rising t → (a k : ℕ) → k < length t → ltb (entryAt t k .address) a ≡ ltb k (below t a)
+unfolding below entryAt
+below-test [] rise a k h = absurd (not-suc-le-zero h)
+below-test (x ∷ t) rise a k h =
+    elim (decLt (x .address) a) [
+      | yes lt ↦ rw (lt-ltb (x .address) a lt) (first k h (λ i. below-test t (λ i j l m. rise (suc i) (suc j) (omega arith) (omega arith)) a i) lt)
+      | no ge ↦
+          let none-below : below t a ≡ 0 = below-zero t a (λ i l. let r = rise zero (suc i) (omega arith) (omega arith) in omega arith) in
+          rw (le-ltb (x .address) a (omega arith), none-below) (none k h ge ∙ sym (le-ltb k 0 (omega arith)))
+    ]
+  where
+    first : (k : ℕ) → k < suc (length t) → ((i : ℕ) → i < length t → ltb (entryAt t i .address) a ≡ ltb i (below t a)) → x .address < a → ltb (entryAt (x ∷ t) k .address) a ≡ ltb k (suc (below t a))
+    first zero h rest lt = lt-ltb (x .address) a lt ∙ sym (lt-ltb 0 (suc (below t a)) (omega arith))
+    first (suc i) h rest lt = rest i (omega arith) ∙ one-up i (below t a)
+
+    none : (k : ℕ) → k < suc (length t) → (x .address < a → ⊥) → ltb (entryAt (x ∷ t) k .address) a ≡ false
+    none zero h ge = le-ltb (x .address) a (omega arith)
+    none (suc i) h ge = le-ltb (entryAt t i .address) a (let r = rise zero (suc i) (omega arith) (omega arith) in omega arith)
 
 module _ (g : Graph) (s : Stands g) where
   pub table-rises : Rising (g .table)

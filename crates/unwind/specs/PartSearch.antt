@@ -13,11 +13,8 @@ use Rattle.graph.specs.Search.{seeing}
 use Rattle.graph.specs.WellFormed.{isBuilt}
 use Rattle.unwind.specs.Lists.{keep, isEmpty}
 use Rattle.unwind.specs.Blocks.{Leading, leads, inside, absent, firstOf}
+use Rattle.unwind.specs.Stands.{Has}
 use Rattle.unwind.specs.Part.{funclets, ordinary, outgoing, part}
-
--- the set w has the blocks of a list
-abbrev pub Has : List ℕ → List ℕ → Type 0
-Has w l = (b : ℕ) → member w b ≡ among l b
 
 -- the built blocks that start a funclet of the routes
 pub record Barriers (g : Graph) (rs : List UnwindRoute) (w : List ℕ) : Type 0 where

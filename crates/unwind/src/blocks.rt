@@ -1,4 +1,5 @@
 // Look-up in a graph's own table and among its built blocks, which stand in the table's order.
+use graph::blockset::put_in;
 use graph::lookup::Found;
 use graph::record::TableEntry;
 use graph::store::Words;
@@ -11,7 +12,7 @@ ghost use Rattle.graph.specs.Table.{below};
 ghost use Rattle.graph.specs.Lookup.{Finds};
 ghost use Rattle.graph.specs.WellFormed.{Built};
 ghost use Rattle.unwind.specs.Blocks.{firstOf, lastOf, leading};
-ghost use Rattle.unwind.specs.Stands.{Stands, Before, leadingOf};
+ghost use Rattle.unwind.specs.Stands.{Stands, Before, Guards, leadingOf};
 
 // Whether an address starts a built block, lies inside one, or starts no instruction.
 pub enum Lead {
@@ -85,6 +86,22 @@ pub fn leading_block(g: &Words, built: usize, a: u64) -> Lead
         }
     }
     Lead::Inside
+}
+
+// The built blocks that a route from `start` to `end` covers and that keep their exception edge.
+pub fn guarded_by(g: &Words, built: usize, start: u64, end: u64) -> [u64; 16]
+    requires { ⌜ Stands (heldIn (now g) .graph) × Built (heldIn (now g) .graph) built ⌝ }
+    ensures { λ r. ⌜ Guards (heldIn (now (g .entry)) .graph) start end r ⌝ }
+{
+    let first = block_from(g, built, position(g, start));
+    let past = block_from(g, built, position(g, end));
+    let mut set = [0u64; 16];
+    for b in first..past {
+        if first_of(g, b).keeps == 1 {
+            put_in(&mut set, b);
+        }
+    }
+    set
 }
 
 // The first instruction of block b.
