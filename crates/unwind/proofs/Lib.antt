@@ -19,3 +19,4 @@ pub mod PartLaws
 pub mod FuncletLaws
 pub mod Sets
 pub mod GuardLaws
+pub mod RouteChecks

@@ -1,3 +1,4 @@
 // The unwinding: what an addition of routes gives (specs), and why its hops spell the listed paths (proofs).
 pub mod blocks;
+pub mod checks;
 pub mod part;
