@@ -14,3 +14,4 @@ pub mod Accepted
 pub mod Milder
 pub mod Owners
 pub mod Demand
+pub mod TrieStore

@@ -3,6 +3,7 @@ pub mod Order
 pub mod Blocks
 pub mod Part
 pub mod Trie
+pub mod Nodes
 pub mod Instance
 pub mod Ways
 pub mod Add

@@ -1,1 +1,2 @@
 // The unwinding: what an addition of routes gives (specs), and why its hops spell the listed paths (proofs).
+pub mod tries;

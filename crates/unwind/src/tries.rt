@@ -1,0 +1,2 @@
+// The trie of the routes, in scratch that a caller lends. `trie.rs`.
+pub mod store;
