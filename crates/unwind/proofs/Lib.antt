@@ -14,4 +14,6 @@ pub mod Accepted
 pub mod Milder
 pub mod Owners
 pub mod Demand
+pub mod TrieOrder
+pub mod TrieCompare
 pub mod TrieStore

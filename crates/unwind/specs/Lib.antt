@@ -4,6 +4,7 @@ pub mod Blocks
 pub mod Part
 pub mod Trie
 pub mod Nodes
+pub mod Interning
 pub mod Instance
 pub mod Ways
 pub mod Add

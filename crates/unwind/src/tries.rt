@@ -1,2 +1,3 @@
 // The trie of the routes, in scratch that a caller lends. `trie.rs`.
+mod compare;
 pub mod store;
