@@ -16,4 +16,6 @@ pub mod Owners
 pub mod Demand
 pub mod TrieOrder
 pub mod TrieCompare
+pub mod TriePaths
+pub mod TrieKeys
 pub mod TrieStore

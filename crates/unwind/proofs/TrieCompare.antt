@@ -5,9 +5,9 @@
 --     ends-handlers, ends-first, ends-others                 ends compared by their numbers
 --     tagged-less, tagged-greater, tagged-equal              the tags decide, or what comes after them
 -- Assumes nothing.
-use mathlib.Core.Path.{_≡_, refl, sym, ap, ap₂, _∙_}
+use mathlib.Core.Path.{_≡_, refl}
 use mathlib.Core.Bool.{Bool, true, false, cond}
-use mathlib.Core.List.{List, [], _∷_}
+use mathlib.Core.List.{[], _∷_}
 use Prim.Native.Nat.{ℕ, suc, _+_, _-_, _≤_, _<_, compare, Ordering, Ordering·lt, Ordering·eq, Ordering·gt}
 use native.Mathlib.Nat.{add-zero, sub-zero}
 use native.Mathlib.Decide.{ℕ-discrete}
@@ -15,11 +15,10 @@ use native.Mathlib.Omega.{arith}
 use borrow.Author.Tests.{eq-eqb, ne-eqb}
 use lib.Dec.{eqb}
 use Rattle.image.specs.Image.{RouteImage}
-use Rattle.image.specs.Deal.{UnwindEnd, handler, propagate, resume, endOf}
+use Rattle.image.specs.Deal.{handler, propagate, resume, endOf}
 use Rattle.image.specs.declared.record.Path.{Path}
 use Rattle.unwind.specs.Order.{Tagged, _and-then_, compareTags, compareEnds, compareTagged}
 use Rattle.unwind.specs.Nodes.{stepIn, tagsIn}
-use Rattle.unwind.proofs.TrieOrder.{number-lt, number-gt, number-eq}
 
 module _ (m : RouteImage) where
   module _ (a n i : ℕ) where

@@ -6,19 +6,19 @@
 --     put-member                   a member is put again
 --     put-least                    one that comes before all others
 --     next-none, next-some         the next in order behind `last`: there is none, or it is the least of what is left
-use mathlib.Core.Path.{_≡_, refl, sym, _∙_, ap, subst}
+use mathlib.Core.Path.{_≡_, refl, sym, _∙_, ap}
 use mathlib.Core.Bool.{Bool, true, false, cond, _&&_, false≢true}
 use mathlib.Core.Option.{Option, none, some, Option·none-ne-some}
 use mathlib.Core.Logic.{_⊎_, inl, inr}
 use mathlib.Core.List.{List, [], _∷_, _++_, List·Memᴰ·head, List·Memᴰ·tail, List·Memᴰ·not-nil}
-use Prim.Native.Nat.{ℕ, zero, suc, _<_, compare, Ordering, Ordering·lt, Ordering·eq, Ordering·gt}
+use Prim.Native.Nat.{ℕ, _<_, compare, Ordering, Ordering·lt, Ordering·eq, Ordering·gt}
 use native.Mathlib.Decide.{decLt}
 use native.Mathlib.Omega.{arith}
-use borrow.Author.Tests.{eq-eqb, eqb-true, ne-eqb, le-leb, lt-leb, leb-true, leb-false}
+use borrow.Author.Tests.{eq-eqb, eqb-true, leb-true, leb-false}
 use lib.Dec.{isEq, isLe}
 use Rattle.image.specs.Deal.{UnwindEnd, handler, propagate, resume}
 use Rattle.unwind.specs.Lists.{keep}
-use Rattle.unwind.specs.Order.{Tagged, placed, put, sorted, _and-then_, compareTags, compareEnds, compareTagged}
+use Rattle.unwind.specs.Order.{placed, put, sorted, _and-then_, compareTags, compareEnds, compareTagged}
 use Rattle.unwind.specs.Interning.{isLt, after, before, nearer, nearest}
 use Rattle.unwind.specs.Walk.{_∈_}
 use Rattle.unwind.proofs.Lists.{mem-keep, keep-mem}

@@ -5,6 +5,7 @@ pub mod Part
 pub mod Trie
 pub mod Nodes
 pub mod Interning
+pub mod Keys
 pub mod Instance
 pub mod Ways
 pub mod Add

@@ -1,7 +1,7 @@
 -- The trie in scratch: what the numbers of the nodes, edges and ends stand for, and what is read and stored of them.
 use mathlib.Core.Path.{_≡_}
 use mathlib.Core.Logic.{_⊎_}
-use mathlib.Core.List.{List, [], _∷_}
+use mathlib.Core.List.{List, [], _∷_, map}
 use mathlib.Core.Option.{Option, none, some}
 use Prim.Native.Nat.{ℕ, zero, suc, _+_, _*_, _≤_, _<_}
 use lib.ListN.{length, getD}
@@ -32,6 +32,10 @@ recordIn l i =
 unfoldable pub branchIn : List ℕ → ℕ → Branch
 branchIn l k = record { step = getD l (3 * k) 0; calls = getD l (3 * k + 1) 0; what = getD l (3 * k + 2) 0 }
 
+-- the n branches from a on
+unfoldable pub branches : List ℕ → ℕ → ℕ → List Branch
+branches l a n = table (λ k. branchIn l (a + k)) n
+
 -- ---- what they stand for, over the routes that were read
 
 module _ (m : RouteImage) where
@@ -56,17 +60,13 @@ module _ (m : RouteImage) where
   unfoldable pub endAt : Branch → Tagged UnwindEnd
   endAt b = tagged (tagsIn (b .step) (b .calls)) (endOf (pathRecord (b .what)))
 
-  -- the n branches from a on
-  unfoldable pub run : {A : Type 0} → (Branch → A) → List ℕ → ℕ → ℕ → List A
-  run of l a n = table (λ k. of (branchIn l (a + k))) n
-
   -- the node of a record, whose edges and ends stand in two lists
   unfoldable pub nodeIn : List ℕ → List ℕ → NodeRecord → Node
   nodeIn edges ends x =
       record {
         funclet = funcletIn (x .funclet);
-        edges = run edgeOf edges (x .«first_edge») (x .edges);
-        ends = run endAt ends (x .«first_end») (x .ends);
+        edges = map edgeOf (branches edges (x .«first_edge») (x .edges));
+        ends = map endAt (branches ends (x .«first_end») (x .ends));
         route = x .route;
       }
 

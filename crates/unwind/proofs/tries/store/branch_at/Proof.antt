@@ -1,7 +1,6 @@
 -- `branch_at` meets its contract. Assumes nothing.
 use Rattle.unwind.specs.Nodes.{branchIn}
 use Rattle.unwind.proofs.TrieStore.{branch-zeros}
-use native.Mathlib.Omega.{arith}
 use borrow.Author.Needs.{needs}
 use Rattle.unwind.proofs.tries.store.branch_at.Statement.{statement}
 use Rattle.unwind.proofs.tries.store.branch_at.Tie as tie

@@ -1,6 +1,5 @@
 -- `put_branch` meets its contract. Assumes nothing.
 use Rattle.unwind.proofs.TrieStore.{branch-put}
-use native.Mathlib.Omega.{arith}
 use borrow.Author.Needs.{needs}
 use Rattle.unwind.proofs.tries.store.put_branch.Statement.{statement}
 use Rattle.unwind.proofs.tries.store.put_branch.Tie as tie

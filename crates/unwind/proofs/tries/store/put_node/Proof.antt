@@ -1,6 +1,5 @@
 -- `put_node` meets its contract. Assumes nothing.
 use Rattle.unwind.proofs.TrieStore.{node-put}
-use native.Mathlib.Omega.{arith}
 use borrow.Author.Needs.{needs}
 use Rattle.unwind.proofs.tries.store.put_node.Statement.{statement}
 use Rattle.unwind.proofs.tries.store.put_node.Tie as tie
