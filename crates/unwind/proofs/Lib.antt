@@ -18,4 +18,6 @@ pub mod TrieOrder
 pub mod TrieCompare
 pub mod TriePaths
 pub mod TrieKeys
+pub mod TrieRuns
+pub mod TrieLaid
 pub mod TrieStore

@@ -6,6 +6,8 @@ pub mod Trie
 pub mod Nodes
 pub mod Interning
 pub mod Keys
+pub mod Runs
+pub mod Laid
 pub mod Instance
 pub mod Ways
 pub mod Add

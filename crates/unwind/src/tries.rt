@@ -1,5 +1,7 @@
 // The trie of the routes, in scratch that a caller lends. `trie.rs`.
 mod compare;
 mod keys;
+mod lay;
 mod paths;
+mod runs;
 pub mod store;
