@@ -20,4 +20,5 @@ pub mod TriePaths
 pub mod TrieKeys
 pub mod TrieRuns
 pub mod TrieLaid
+pub mod TrieNodes
 pub mod TrieStore

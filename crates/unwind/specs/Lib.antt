@@ -8,6 +8,7 @@ pub mod Interning
 pub mod Keys
 pub mod Runs
 pub mod Laid
+pub mod Kept
 pub mod Instance
 pub mod Ways
 pub mod Add

@@ -2,6 +2,7 @@
 mod compare;
 mod keys;
 mod lay;
+mod nodes;
 mod paths;
 mod runs;
 pub mod store;
