@@ -21,4 +21,6 @@ pub mod TrieKeys
 pub mod TrieRuns
 pub mod TrieLaid
 pub mod TrieNodes
+pub mod TrieFuel
+pub mod TrieGroups
 pub mod TrieStore

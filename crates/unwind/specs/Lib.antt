@@ -9,6 +9,8 @@ pub mod Keys
 pub mod Runs
 pub mod Laid
 pub mod Kept
+pub mod Grown
+pub mod Interns
 pub mod Instance
 pub mod Ways
 pub mod Add
