@@ -23,4 +23,6 @@ pub mod TrieLaid
 pub mod TrieNodes
 pub mod TrieFuel
 pub mod TrieGroups
+pub mod TrieIntern
+pub mod TrieWork
 pub mod TrieStore

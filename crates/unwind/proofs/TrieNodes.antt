@@ -1,14 +1,14 @@
 -- Nodes by what they are, and a node stored unless it stands already.
 --     Alike, same-on, same-other, same-end, same-size     two lists compared from place i on
 --     funclet-root, funclet-other, funclet-both           two funclets compared
---     place-first, place-none                             the first of a list that equals a node, or none
+--     place-first, place-none, place-lt                   the first of a list that equals a node, or none; it stands there
 --     length-nodes, nodes-more, node-of, nodes-same, nodes-still     the nodes in scratch; after stores elsewhere
 --     kept-present, kept-new                              a node stands already, or is stored
 -- Assumes nothing.
 use mathlib.Core.Path.{_≡_, refl, sym, ap, _∙_}
-use mathlib.Core.Bool.{Bool, true, false, _&&_, and-false}
+use mathlib.Core.Bool.{Bool, true, false, cond, _&&_, and-false}
 use mathlib.Core.List.{List, [], _∷_, _++_, map}
-use mathlib.Core.Option.{none, some}
+use mathlib.Core.Option.{Option, none, some, Option·map, Option·none-ne-some}
 use Prim.Native.Nat.{ℕ, zero, suc, _+_, _-_, _<_, Ordering, Ordering·eq}
 use native.Mathlib.Numerals.{add-one}
 use native.Mathlib.Decide.{decLt}
@@ -94,6 +94,16 @@ module _ (n : Node) where
   place-none [] d others = refl
   place-none (x ∷ l) d others = rw (others 0 (omega arith), place-none l d (λ j lt. others (suc j) (omega arith)))
 
+  pub place-lt : (l : List Node) (i : ℕ) → placeOf n l ≡ some i → i < length l
+  unfolding placeOf
+  place-lt [] i e = absurd (Option·none-ne-some i e)
+  place-lt (x ∷ l) i e = go (sameNode n x) e (placeOf n l) refl (place-lt l)
+    where
+      go : (b : Bool) → cond b (some 0) (Option·map suc (placeOf n l)) ≡ some i → (o : Option ℕ) → placeOf n l ≡ o → ((j : ℕ) → placeOf n l ≡ some j → j < length l) → i < suc (length l)
+      go true p o q below = let z : 0 ≡ i = cc in omega arith
+      go false p none q below = absurd (Option·none-ne-some i (rw q at p))
+      go false p (some j) q below = let r : some (suc j) ≡ some i = rw q at p in let z : suc j ≡ i = cc in omega (arith, below j q)
+
 -- ---- the nodes in scratch
 
 module _ (m : RouteImage) (nodes edges ends : List ℕ) where
@@ -142,6 +152,7 @@ module _ (m : RouteImage) (nodes edges ends : List ℕ) (c : Counts) (x : NodeRe
       record {
         trie = rw (← e);
         place = rw (← e);
+        within = omega (arith, place-lt (nodeIn m edges ends x) trie i (sym e), length-nodes m nodes edges ends (c .nodes));
         stored = stored;
         grown = omega arith;
       }
@@ -156,6 +167,7 @@ module _ (m : RouteImage) (nodes edges ends : List ℕ) (c : Counts) (x : NodeRe
             (nodes-more m nodes′ edges ends (c .nodes)
             ∙ rw (nodes-same m nodes′ nodes edges ends (c .nodes) (λ i h. done .others i (λ z. omega arith)), done .here));
         place = rw (← e) (sym (length-nodes m nodes edges ends (c .nodes)));
+        within = omega arith;
         stored = record {
           nodes-fit = omega (arith, done .long, behind .room);
           edges-fit = behind .edges-fit;

@@ -2,7 +2,7 @@
 use mathlib.Core.Path.{_≡_}
 use mathlib.Core.List.{List}
 use mathlib.Core.Option.{Option, none, some}
-use Prim.Native.Nat.{ℕ, _+_, _*_, _≤_}
+use Prim.Native.Nat.{ℕ, _+_, _*_, _≤_, _<_}
 use lib.ListN.{length}
 use Rattle.image.specs.Image.{RouteImage}
 use Rattle.unwind.specs.declared.tries.store.NodeRecord.{NodeRecord}
@@ -35,5 +35,6 @@ pub record Grown (c : Counts) (nodes edges ends : ℕ) (c′ : Counts) : Type 0 
 pub record Kept (m : RouteImage) (nodes edges ends : List ℕ) (c : Counts) (x : NodeRecord) (nodes′ : List ℕ) (r : Interned) : Type 0 where
   pub trie : nodesIn m nodes′ edges ends (r .counts .nodes) ≡ create (nodeIn m edges ends x) (nodesIn m nodes edges ends (c .nodes)) .trie
   pub place : r .place ≡ create (nodeIn m edges ends x) (nodesIn m nodes edges ends (c .nodes)) .place
+  pub within : r .place < r .counts .nodes
   pub stored : Stored nodes′ edges ends (r .counts)
   pub grown : Grown c 1 (x .edges) (x .ends) (r .counts)
