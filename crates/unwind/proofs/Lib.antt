@@ -25,4 +25,5 @@ pub mod TrieFuel
 pub mod TrieGroups
 pub mod TrieIntern
 pub mod TrieWork
+pub mod TrieRoutes
 pub mod TrieStore

@@ -11,6 +11,7 @@ pub mod Laid
 pub mod Kept
 pub mod Grown
 pub mod Interns
+pub mod Routed
 pub mod Instance
 pub mod Ways
 pub mod Add
