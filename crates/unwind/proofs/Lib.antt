@@ -20,3 +20,16 @@ pub mod FuncletLaws
 pub mod Sets
 pub mod GuardLaws
 pub mod RouteChecks
+pub mod TrieOrder
+pub mod TrieCompare
+pub mod TriePaths
+pub mod TrieKeys
+pub mod TrieRuns
+pub mod TrieLaid
+pub mod TrieNodes
+pub mod TrieFuel
+pub mod TrieGroups
+pub mod TrieIntern
+pub mod TrieWork
+pub mod TrieRoutes
+pub mod TrieStore

@@ -5,6 +5,15 @@ pub mod Stands
 pub mod Part
 pub mod PartSearch
 pub mod Trie
+pub mod Nodes
+pub mod Interning
+pub mod Keys
+pub mod Runs
+pub mod Laid
+pub mod Kept
+pub mod Grown
+pub mod Interns
+pub mod Routed
 pub mod Instance
 pub mod Ways
 pub mod Add

@@ -2,3 +2,4 @@
 pub mod blocks;
 pub mod checks;
 pub mod part;
+pub mod tries;
