@@ -33,3 +33,4 @@ pub mod TrieIntern
 pub mod TrieWork
 pub mod TrieRoutes
 pub mod TrieStore
+pub mod NodeChecks
