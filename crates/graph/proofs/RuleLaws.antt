@@ -123,7 +123,7 @@ module _ (g : Graph) where
   unfolding isBuilt
   built-first = refl
 
-  filled-le : (a b : ℕ) → a ≤ b → filled g a ≤ filled g b
+  pub filled-le : (a b : ℕ) → a ≤ b → filled g a ≤ filled g b
   unfolding filled
   filled-le a b h = sum-le (λ (k : ℕ). block g k .count) a b h
 
@@ -212,12 +212,12 @@ module _ (g : Graph) where
   place-first : (b : ℕ) → isBuilt g b ≡ true → inPlace b ≡ true → block g b .first ≡ filled g b
   place-first b is h = eqb-true (block g b .first) (filled g b) (both-true _ _ (rw is at h) .0)
 
-  covers-place : coversTable g ≡ true → (b : ℕ) → b < length (g .blocks) → inPlace b ≡ true
+  pub covers-place : coversTable g ≡ true → (b : ℕ) → b < length (g .blocks) → inPlace b ≡ true
   unfolding coversTable
   covers-place e b h = all-each inPlace (length (g .blocks)) b (both-true _ _ e .0) h
 
   -- with two blocks no block is empty
-  runs : noneEmpty g ≡ true → 1 < length (g .blocks) → (b : ℕ) → b < length (g .blocks) → 0 < block g b .count
+  pub runs : noneEmpty g ≡ true → 1 < length (g .blocks) → (b : ℕ) → b < length (g .blocks) → 0 < block g b .count
   unfolding noneEmpty
   runs e two b h =
       elim (ℕ-discrete (length (g .table)) 0) [
@@ -230,10 +230,10 @@ module _ (g : Graph) where
   Between b n lo hi = (k : ℕ) → k < n → block g k .first ≡ block g b .first → (lo ≤ k) × (k < hi)
 
   module _ (covers : coversTable g ≡ true) (none : noneEmpty g ≡ true) (n : ℕ) (built : Built g n) where
-    first-is : (b : ℕ) → b < n → block g b .first ≡ filled g b
+    pub first-is : (b : ℕ) → b < n → block g b .first ≡ filled g b
     first-is b h = place-first b (built .1 b (omega (arith, built .0)) ∙ lt-ltb b n h) (covers-place covers b (omega (arith, built .0)))
 
-    rises : (a b : ℕ) → a < b → b < n → block g a .first < block g b .first
+    pub rises : (a b : ℕ) → a < b → b < n → block g a .first < block g b .first
     rises a b lt h =
         omega (arith, first-is a (omega arith), first-is b h, filled-le (a + 1) b (omega arith), filled-more a, runs none (omega (arith, built .0)) a (omega (arith, built .0)))
 

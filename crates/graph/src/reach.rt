@@ -72,7 +72,7 @@ fn reach_in(g: &Words, head: &mut [u16], next: &mut [u16]) -> BlockSet
 }
 
 // Links the edges by their source, the last first, so that a block's edges are met in their order.
-fn link(g: &Words, head: &mut [u16], next: &mut [u16])
+pub fn link(g: &Words, head: &mut [u16], next: &mut [u16])
     requires { ⌜ Ends (heldIn (now g) .graph) × Roomy (heldIn (now g) .graph) (now head) (now next) × (now head ≡ replicate (length (now head)) 0) ⌝ }
     ensures { λ _. ⌜ Linked (heldIn (now (g .entry)) .graph) (now (head .exit)) (now (next .exit)) 0 × Roomy (heldIn (now (g .entry)) .graph) (now (head .exit)) (now (next .exit)) ⌝ }
 {
@@ -125,7 +125,7 @@ fn follow(
 }
 
 // A block that an edge leads to: it is pending unless it was seen before.
-fn see(seen: &mut [u64; 16], pending: &mut [u64; 16], t: usize)
+pub fn see(seen: &mut [u64; 16], pending: &mut [u64; 16], t: usize)
     ensures { λ _. ⌜ (now (seen .exit) ≡ seeing (now (seen .entry)) t (now (seen .entry))) × (now (pending .exit) ≡ seeing (now (seen .entry)) t (now (pending .entry))) ⌝ }
 {
     if has_in(seen, t) {

@@ -364,7 +364,7 @@ fn covers_table(g: &Words) -> bool
 }
 
 // How many blocks are built: the first ones, until their runs fill the table.
-fn built_count(g: &Words) -> usize
+pub fn built_count(g: &Words) -> usize
     ensures { λ r. ⌜ Built (heldIn (now (g .entry)) .graph) r ⌝ }
 {
     let n = block_count(g);

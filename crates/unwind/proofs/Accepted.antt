@@ -1,4 +1,5 @@
 -- What an accepted addition tells: every funclet and handler of a node leads a block, and a route's guarded blocks.
+--     built-mem, mem-built         the built blocks
 --     lead-begins                  an address that leads a block begins the block looked up
 --     then-clear, check-at         every check of a clear row is clear
 --     funclet-begins, handler-begins      the addresses of a node
@@ -45,11 +46,11 @@ check-at f (suc n) i e h = go (decLt i n) (λ (k : i < n). check-at f n i (then-
 
 -- ---- leading blocks
 
-built-mem : (g : Graph) (b : ℕ) → b ∈ builtBlocks g → Built g b
+pub built-mem : (g : Graph) (b : ℕ) → b ∈ builtBlocks g → Built g b
 unfolding builtBlocks
 built-mem g b m = let k = keep-mem (isBuilt g) (upto (length (g .blocks))) m in record { exists = upto-mem (length (g .blocks)) (k .0); original = k .1 }
 
-mem-built : (g : Graph) (b : ℕ) → Built g b → b ∈ builtBlocks g
+pub mem-built : (g : Graph) (b : ℕ) → Built g b → b ∈ builtBlocks g
 unfolding builtBlocks
 mem-built g b x = mem-keep (isBuilt g) (mem-upto (length (g .blocks)) b (x .exists)) (x .original)
 
@@ -69,9 +70,10 @@ lead-begins g a e = go (head found) refl (isStart (g .table) a) e
     found = keep starts (builtBlocks g)
 
     go : (o : Option ℕ) → head found ≡ o → (s : Bool) → leadFound a (leadingBy o s) ≡ clear → Begins g a (blockIn (leadingBy o s))
-    go (some b) q s k =
+    go (some b) q true k =
         let m = keep-mem starts (builtBlocks g) (head-mem found b q) in
         record { built = built-mem g b (m .0); address = eqb-true _ a (m .1) }
+    go (some b) q false k = absurd (let z : _≡_ {A = ℕ} 0 1 = cc in omega arith)
     go none q true k = absurd (let z : _≡_ {A = ℕ} 0 1 = cc in omega arith)
     go none q false k = absurd (let z : _≡_ {A = ℕ} 0 1 = cc in omega arith)
 

@@ -1,12 +1,12 @@
 -- Laws of lists and tests.
---     and-both, and-true, or-either, or-left, or-right, not-so, so-not     Bool tests and the facts that they tell
+--     and-both, and-true, or-either, or-left, or-right, not-so, so-not, both-ways     Bool tests and the facts that they tell
 --     mem-keep, keep-mem           x ∈ keep f l: x ∈ l and f holds of it
 --     mem-joined, joined-mem       y ∈ joined f l: y ∈ f x for some x ∈ l
 --     mem-map, map-mem             y ∈ map f l: y is f x for some x ∈ l
 --     mem-flat, flat-mem           y ∈ flat f n: y ∈ f i for some i < n
 --     mem-upto, upto-mem           i ∈ upto n: i < n
 --     mem-among, among-mem         the test for numbers
---     at, at-append, at-behind, at-last, at-lt, lt-at, at-getD, at-mem, mem-at, at-map     the element at a place
+--     at, at-append, at-behind, at-last, at-lt, lt-at, at-getD, at-mem, mem-at, mem-getD, at-map     the element at a place
 --     at-rank                      x stands at its rank
 --     flat-suc, flat-le, at-flat   the places of the pieces of a flat list
 use mathlib.Core.Path.{_≡_, refl, sym, _∙_, ap, subst}
@@ -52,6 +52,11 @@ not-so false e p = false≢true p
 pub so-not : (a : Bool) → (a ≡ true → ⊥) → not a ≡ true
 so-not true n = absurd (n refl)
 so-not false n = refl
+
+pub both-ways : (a b : Bool) → (a ≡ true → b ≡ true) → (b ≡ true → a ≡ true) → a ≡ b
+both-ways true b on back = sym (on refl)
+both-ways false true on back = back refl
+both-ways false false on back = refl
 
 -- ---- membership
 
@@ -206,6 +211,11 @@ module _ {A : Type 0} where
   unfolding at
   mem-at (List·Memᴰ·head e) = (zero, ap some (sym e))
   mem-at (List·Memᴰ·tail m) = (suc (mem-at m .0), mem-at m .1)
+
+pub mem-getD : {A : Type 0} (l : List A) (i : ℕ) (d : A) → i < length l → getD l i d ∈ l
+mem-getD [] i d h = absurd (not-suc-le-zero h)
+mem-getD (x ∷ l) zero d h = List·Memᴰ·head refl
+mem-getD (x ∷ l) (suc i) d h = List·Memᴰ·tail (mem-getD l i d (le-of-suc-le-suc h))
 
 pub at-map : {A B : Type 0} (f : A → B) (l : List A) (i : ℕ) {x : A} → at l i ≡ some x → at (map f l) i ≡ some (f x)
 unfolding at

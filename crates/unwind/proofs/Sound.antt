@@ -1,5 +1,6 @@
 -- What the theorem needs of rule 21: 'edge ends .. exist', a block, and that the blocks fill the table.
 --     all-at                       what holds of each number below n
+--     ends-exist                   the ends of an edge
 --     Sound, sound                 a graph that 21 lets pass
 use mathlib.Core.Path.{_≡_, sym, _∙_, ap}
 use mathlib.Core.Bool.{Bool, true, _&&_}
@@ -32,7 +33,7 @@ pub record Sound (g : Graph) : Type 0 where
   pub some-block : 0 < length (g .blocks)
   pub covered : length (g .table) ≤ filled g (length (g .blocks))
 
-ends-exist : (g : Graph) → edgeEndsExist g ≡ true → (d : Edge) → d ∈ g .edges → (d .source < length (g .blocks)) × (d .target < length (g .blocks))
+pub ends-exist : (g : Graph) → edgeEndsExist g ≡ true → (d : Edge) → d ∈ g .edges → (d .source < length (g .blocks)) × (d .target < length (g .blocks))
 unfolding edgeEndsExist isBlock
 ends-exist g e d m =
     let i = mem-at m in

@@ -30,7 +30,8 @@ pub data Leading : Type 0 where
   absent : Leading
 
 unfoldable pub leadingBy : Option ℕ → Bool → Leading
-leadingBy (some b) s = leads b
+leadingBy (some b) true = leads b
+leadingBy (some b) false = absent
 leadingBy none true = inside
 leadingBy none false = absent
 

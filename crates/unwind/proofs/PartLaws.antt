@@ -1,0 +1,297 @@
+-- The search for a part: what is reached in the bounded graph is the part.
+--     edge-bent, bent-yes, bent-no             the edges of the bounded graph
+--     ends-bent, linked-bent       what the search asks of it
+--     part-start                   where the search begins
+--     bent-on                      the links of a block, one edge further
+--     part-has                     what is reached is the part
+--     Leaves, leaves-none, leaves-put, leaves-skip, sources-are     the blocks that an ordinary edge goes out of
+-- Assumes nothing.
+use mathlib.Core.Path.{_≡_, refl, sym, ap, subst, _∙_}
+use mathlib.Core.Bool.{Bool, true, false, cond, not, _&&_, _||_, false≢true, true≢false, or-false, or-comm}
+use mathlib.Core.Logic.{_⊎_, inl, inr, ⊎-elim}
+use mathlib.Core.List.{List, [], _∷_, map}
+use Prim.Native.Nat.{ℕ, zero, suc, _+_, _-_, _≤_, _<_}
+use native.Mathlib.Numerals.{add-one}
+use native.Mathlib.Decide.{ℕ-discrete}
+use native.Mathlib.Omega.{arith}
+use borrow.Author.Tests.{eq-eqb, lt-ltb, ltb-true}
+use lib.Dec.{eqb, ltb}
+use lib.ListN.{length, getD, drop, length-map, List·getD-map}
+use Rattle.image.specs.Deal.{UnwindRoute}
+use Rattle.graph.specs.declared.record.Edge.{Edge}
+use Rattle.graph.specs.Graph.{Graph, edge}
+use Rattle.graph.specs.Words.{edgeOf}
+use Rattle.graph.specs.Fold.{some as any, all, among}
+use Rattle.graph.specs.BlockSet.{member, none, including}
+use Rattle.graph.specs.Reached.{Reached, start, step}
+use Rattle.graph.specs.Search.{In, Finds, Ends, linkIn, link, Linked, Works, seeing}
+use Rattle.graph.specs.WellFormed.{isBlock, edgeEndsExist, isBuilt}
+use Rattle.graph.proofs.FoldLaws.{decided, some-front}
+use Rattle.graph.proofs.BlockLaws.{member-none, member-including, length-including}
+use Rattle.graph.proofs.SearchLaws as search-laws
+use Rattle.unwind.specs.Lists.{keep, isEmpty}
+use Rattle.unwind.specs.Blocks.{firstOf}
+use Rattle.unwind.specs.Part.{funclets, ordinary, outgoing, part}
+use Rattle.unwind.specs.Stands.{Stands, Has}
+use Rattle.unwind.specs.PartSearch.{Barriers, Sources, followed, bent, bounded}
+use Rattle.unwind.specs.Walk.{_∈_, Built as BuiltBlock, Begins, Other, Reach, start as enter, step as onward}
+use Rattle.unwind.proofs.Lists.{both-ways, and-both, and-true, so-not, not-so, mem-getD, mem-at, at-lt, at-getD, mem-among, among-mem}
+use Rattle.unwind.proofs.Sound.{ends-exist}
+use Rattle.unwind.proofs.Closure.{funclets-mem, barred-other, ordinary-kind, kind-ordinary, mem-funclets, part-reach, reach-part}
+use Rattle.unwind.proofs.Standing.{begins-one}
+
+-- ---- edges of the bounded graph
+
+all-each : (f : ℕ → Bool) (n : ℕ) → ((i : ℕ) → i < n → f i ≡ true) → all f n ≡ true
+unfolding all
+all-each f zero each = refl
+all-each f (suc n) each = rw (all-each f n (λ i h. each i (omega arith)), each n (omega arith))
+
+drop-map : {A B : Type 0} (f : A → B) (i : ℕ) (l : List A) → drop i (map f l) ≡ map f (drop i l)
+drop-map f zero l = refl
+drop-map f (suc i) [] = refl
+drop-map f (suc i) (x ∷ l) = drop-map f i l
+
+module _ (w : List ℕ) where
+  pub bent-yes : (d : Edge) → followed w d ≡ true → bent w d ≡ d
+  unfolding bent
+  bent-yes d e = rw e
+
+  pub bent-no : (d : Edge) → followed w d ≡ false → bent w d .target ≡ d .source
+  unfolding bent
+  bent-no d e = rw e
+
+  bent-source : (d : Edge) → bent w d .source ≡ d .source
+  unfolding bent
+  bent-source d = go (followed w d)
+    where
+      go : (t : Bool) → cond t d (record { source = d .source; target = d .source; kind = d .kind; role = d .role; number = d .number; key = d .key; «source_address» = d .«source_address»; «target_address» = d .«target_address» }) .source ≡ d .source
+      go true = refl
+      go false = refl
+
+  bent-zeros : bent w (edgeOf []) ≡ edgeOf []
+  unfolding bent
+  bent-zeros = go (followed w (edgeOf []))
+    where
+      go : (t : Bool) → cond t (edgeOf []) (edgeOf []) ≡ edgeOf []
+      go true = refl
+      go false = refl
+
+  link-map : (l : List Edge) (b i : ℕ) → linkIn (map (bent w) l) b i ≡ linkIn l b i
+  unfolding linkIn
+  link-map [] b i = refl
+  link-map (d ∷ l) b i = rw (bent-source d, link-map l b (suc i))
+
+module _ (g : Graph) (w : List ℕ) (e : ℕ) where
+  abbrev g′ : Graph
+  g′ = bounded g w e
+
+  pub edge-bent : (i : ℕ) → edge g′ i ≡ bent w (edge g i)
+  unfolding bounded
+  edge-bent i = ap (λ (d : Edge). getD (map (bent w) (g .edges)) i d) (sym (bent-zeros w)) ∙ List·getD-map (bent w) (g .edges) i (edgeOf [])
+
+  source-bent : (i : ℕ) → edge g′ i .source ≡ edge g i .source
+  source-bent i = ap (λ (d : Edge). d .source) (edge-bent i) ∙ bent-source w (edge g i)
+
+  pub length-bent : length (g′ .edges) ≡ length (g .edges)
+  unfolding bounded
+  length-bent = length-map (g .edges) (bent w)
+
+  pub blocks-bent : length (g′ .blocks) ≡ length (g .blocks)
+  unfolding bounded
+  blocks-bent = refl
+
+  -- where an edge of the bounded graph leads
+  target-yes : (i : ℕ) → followed w (edge g i) ≡ true → edge g′ i .target ≡ edge g i .target
+  target-yes i t = ap (λ (d : Edge). d .target) (edge-bent i ∙ bent-yes w (edge g i) t)
+
+  target-no : (i : ℕ) → followed w (edge g i) ≡ false → edge g′ i .target ≡ edge g i .source
+  target-no i t = ap (λ (d : Edge). d .target) (edge-bent i) ∙ bent-no w (edge g i) t
+
+  pub target-bent : Ends g → (i : ℕ) → i < length (g .edges) → edge g′ i .target < length (g .blocks)
+  target-bent ends i h =
+      ⊎-elim
+      (λ t. rw (target-yes i t) (search-laws.target-lt g ends i h))
+      (λ t. rw (target-no i t) (search-laws.source-lt g ends i h))
+      (decided (followed w (edge g i)))
+
+  pub ends-bent : Ends g → e < length (g .blocks) → Ends g′
+  unfolding edgeEndsExist isBlock bounded
+  ends-bent ends h =
+      record {
+        entry = entered;
+        edges =
+            all-each (λ (i : ℕ). ltb (edge g′ i .source) (length (g′ .blocks)) && ltb (edge g′ i .target) (length (g′ .blocks))) (length (g′ .edges))
+            (λ i lt. let k : i < length (g .edges) = rw length-bent at lt in
+            rw (source-bent i, blocks-bent) (and-true (lt-ltb _ _ (search-laws.source-lt g ends i k)) (lt-ltb _ _ (target-bent ends i k))));
+      }
+    where
+      entered : ltb (g′ .entry) (length (g′ .blocks)) ≡ true
+      entered = lt-ltb e (length (g .blocks)) h
+
+  link-bent : (b i : ℕ) → link g′ b i ≡ link g b i
+  unfolding link bounded
+  link-bent b i = rw (drop-map (bent w) i (g .edges)) (link-map w (drop i (g .edges)) b i)
+
+  pub linked-bent : (head next : List ℕ) (i : ℕ) → Linked g head next i → Linked g′ head next i
+  linked-bent head next i l =
+      record {
+        heads = λ b h. l .heads b h ∙ sym (link-bent b i);
+        nexts = λ k le lt. l .nexts k le (rw length-bent at lt) ∙ sym (link-bent _ (suc k)) ∙ ap (λ (c : ℕ). link g′ c (suc k)) (sym (source-bent k));
+      }
+
+  pub part-start : e < 1024 → Works g′ 0 (length (g′ .edges)) (including none e) (including none e)
+  unfolding bounded
+  part-start few = search-laws.works-start g′ _ refl few
+
+  -- ---- the links of a block
+
+  module _ (b : ℕ) (s₀ p₀ s p : List ℕ) (at k : ℕ) (eq : at ≡ suc k) (here : search-laws.Going g′ b at s₀ p₀ s p) where
+    leaves : (j i : ℕ) → j ≡ suc k → search-laws.Found g′ b i j → edge g′ k .source ≡ b
+    leaves _ i z (search-laws.past rest) = absurd (omega arith)
+    leaves _ i z (search-laws.found-at d le lt is rest) = let same : d ≡ k = omega arith in rw same at is
+
+    from-b : edge g′ k .source ≡ b
+    from-b = leaves at (here .place) eq (rw (here .is) (search-laws.find g′ b (here .place) (here .within)))
+
+    -- the edge at hand is followed, or leads back to b
+    pub bent-on : (at′ : ℕ) → at′ ≡ link g′ (edge g′ k .source) (suc k) → edge g′ k .target < 1024
+        → search-laws.Going g′ b at′ s₀ p₀ (cond (followed w (edge g k)) (seeing s (edge g k .target) s) s) (cond (followed w (edge g k)) (seeing s (edge g k .target) p) p)
+    bent-on at′ next few =
+        let on = search-laws.going-on g′ b s₀ p₀ s p at k eq here at′ next few in
+        ⊎-elim
+        (λ t. rw t (rw (target-yes k t) at on))
+        (λ t. rw t (back (edge g′ k .target) (target-no k t ∙ sym (source-bent k) ∙ from-b) on))
+        (decided (followed w (edge g k)))
+      where
+        back : (t : ℕ) → t ≡ b → search-laws.Going g′ b at′ s₀ p₀ (seeing s t s) (seeing s t p) → search-laws.Going g′ b at′ s₀ p₀ s p
+        back t is on =
+            record {
+              place = on .place;
+              within = on .within;
+              is = on .is;
+              so-far = λ in-b works. rw (is, here .so-far in-b works .from) at (on .so-far in-b works);
+            }
+
+-- ---- what is reached is the part
+
+module _ (g : Graph) (stands : Stands g) (w : List ℕ) (e : ℕ) (entry : BuiltBlock g e) (rs : List UnwindRoute) (bars : Barriers g rs w) where
+  abbrev f : ℕ
+  f = firstOf g e .address
+
+  abbrev g″ : Graph
+  g″ = bounded g w e
+
+  -- what w bars starts another funclet, or is the entry
+  bars-other : (c : ℕ) → c < length (g .blocks) → member w c ≡ true → (Other g rs f c → ⊥) → c ≡ e
+  bars-other c h m out =
+      let x = and-both (isBuilt g c) (among (funclets rs) (firstOf g c .address)) (sym (bars .bars c h) ∙ m) in
+      let begun : BuiltBlock g c = record { exists = h; original = x .0 } in
+      elim (ℕ-discrete (firstOf g c .address) f) [
+        | yes same ↦ begins-one g stands f c e (record { built = begun; address = same }) (record { built = entry; address = refl })
+        | no other ↦
+            absurd (out (record {
+              funclet = firstOf g c .address;
+              named = funclets-mem rs _ (among-mem (funclets rs) _ (x .1));
+              another = other;
+              begins = record { built = begun; address = refl };
+            }))
+      ]
+
+  other-bars : (c : ℕ) → Other g rs f c → member w c ≡ true
+  other-bars c o =
+      let a : firstOf g c .address ≡ o .funclet = o .begins .address in
+      bars .bars c (o .begins .built .exists) ∙ and-true (o .begins .built .original) (rw a (mem-among (mem-funclets rs (o .funclet) (o .named))))
+
+  targets : (d : Edge) → d ∈ g .edges → d .target < length (g .blocks)
+  targets d m = ends-exist g (stands .ends .edges) d m .1
+
+  forth : {b : ℕ} → Reached g″ b → Reach g rs f e b
+  unfolding bounded followed
+  forth start = enter
+  forth (step i lt r) = go (decided (followed w (edge g i))) (forth r)
+    where
+      h : i < length (g .edges)
+      h = rw (length-bent g w e) at lt
+
+      go : (followed w (edge g i) ≡ true) ⊎ (followed w (edge g i) ≡ false) → Reach g rs f e (edge g″ i .source) → Reach g rs f e (edge g″ i .target)
+      go (inl t) r =
+          let x = and-both (ordinary (edge g i)) (not (member w (edge g i .target))) t in
+          let k = ordinary-kind (edge g i) (x .0) in
+          rw (target-yes g w e i t) (onward (rw (source-bent g w e i) at r) (edge g i) (mem-getD (g .edges) i _ h) refl refl (k .0) (k .1) (λ o. not-so _ (x .1) (other-bars _ o)))
+      go (inr t) r = rw (target-no g w e i t, ← source-bent g w e i) r
+
+  back : {b : ℕ} → Reach g rs f e b → Reached g″ b
+  unfolding bounded followed
+  back enter = start
+  back (onward {b = b} {c = c} r d there from to u k o) = go (decided (member w c)) (back r)
+    where
+      i : ℕ
+      i = mem-at there .0
+
+      is : edge g i ≡ d
+      is = at-getD (g .edges) (mem-at there .0) (edgeOf []) (mem-at there .1)
+
+      h : i < length (g .edges)
+      h = at-lt (g .edges) (mem-at there .0) (mem-at there .1)
+
+      go : (member w c ≡ true) ⊎ (member w c ≡ false) → Reached g″ b → Reached g″ c
+      go (inl m) below = rw (bars-other c (rw to at (targets d there)) m o) start
+      go (inr m) below =
+          let t : followed w (edge g i) ≡ true = ap (followed w) is ∙ and-true (kind-ordinary d u k) (ap (λ (x : ℕ). not (member w x)) to ∙ ap not m) in
+          let s : edge g″ i .source ≡ b = source-bent g w e i ∙ ap (λ (x : Edge). x .source) is ∙ from in
+          rw (← (target-yes g w e i t ∙ ap (λ (x : Edge). x .target) is ∙ to)) (step i (rw (length-bent g w e) h) (rw s below))
+
+  pub part-has : (r : List ℕ) → Finds g″ r → Has r (part g (funclets rs) f e)
+  part-has r finds b =
+      both-ways _ _
+      (λ m. mem-among (reach-part g rs f e targets (entry .exists) (forth (finds .sound b m))))
+      (λ m. finds .complete b (back (part-reach g rs f e b (among-mem _ b m))))
+
+-- ---- sources
+
+module _ (b : ℕ) where
+  -- an ordinary edge goes out of b
+  abbrev pub leavesBy : Edge → Bool
+  leavesBy d = ordinary d && eqb (d .source) b
+
+  in-list : (l : List Edge) → any (λ (k : ℕ). leavesBy (getD l k (edgeOf []))) (length l) ≡ not (isEmpty (keep ordinary (keep (λ (d : Edge). eqb (d .source) b) l)))
+  unfolding any keep isEmpty
+  in-list [] = refl
+  in-list (d ∷ l) = some-front _ (length l) ∙ rw (in-list l) (go (ordinary d) (eqb (d .source) b) refl)
+    where
+      go : (o t : Bool) → ordinary d ≡ o → (o && t || not (isEmpty (keep ordinary (keep (λ (d : Edge). eqb (d .source) b) l)))) ≡ not (isEmpty (keep ordinary (cond t (d ∷ keep (λ (d : Edge). eqb (d .source) b) l) (keep (λ (d : Edge). eqb (d .source) b) l))))
+      go true true is = rw is
+      go false true is = rw is
+      go true false is = refl
+      go false false is = refl
+
+  sources-is : (g : Graph) → any (λ (k : ℕ). leavesBy (edge g k)) (length (g .edges)) ≡ not (isEmpty (keep ordinary (outgoing g b)))
+  unfolding outgoing
+  sources-is g = in-list (g .edges)
+
+-- the set with the blocks that the edges below i leave by an ordinary one
+pub record Leaves (g : Graph) (i : ℕ) (w : List ℕ) : Type 0 where
+  pub long : length w ≡ 16
+  pub has : (b : ℕ) → member w b ≡ any (λ (k : ℕ). leavesBy b (edge g k)) i
+
+module _ (g : Graph) where
+  pub leaves-none : Leaves g 0 none
+  unfolding any
+  leaves-none = record { long = refl; has = member-none }
+
+  module _ (i : ℕ) (w : List ℕ) (x : Leaves g i w) where
+    pub leaves-put : edge g i .source < 1024 → ordinary (edge g i) ≡ true → Leaves g (i + 1) (including w (edge g i .source))
+    unfolding any
+    leaves-put few is =
+        record {
+          long = length-including w _ ∙ x .long;
+          has = λ b. member-including w (x .long) (edge g i .source) few b ∙ or-comm (eqb (edge g i .source) b) (member w b) ∙ rw (add-one, x .has b, is);
+        }
+
+    pub leaves-skip : ordinary (edge g i) ≡ false → Leaves g (i + 1) w
+    unfolding any
+    leaves-skip out = record { long = x .long; has = λ b. x .has b ∙ sym (rw (add-one, out) (or-false _)) }
+
+  pub sources-are : (w : List ℕ) → Leaves g (length (g .edges)) w → Sources g w
+  sources-are w x = record { goes = λ b. x .has b ∙ sources-is b g }

@@ -1,0 +1,36 @@
+-- `check_node` meets its contract: the funclet, then the ends. Assumes nothing.
+use mathlib.Core.Path.{_≡_, sym, ap, _∙_}
+use mathlib.Core.List.{List}
+use borrow.Author.Needs.{needs}
+use Rattle.image.specs.Image.{routesIn}
+use Rattle.graph.specs.Words.{heldIn}
+use Rattle.graph.specs.Error.{checkOf}
+use Rattle.unwind.specs.Nodes.{recordIn}
+use Rattle.unwind.proofs.NodeChecks.{node-checks}
+use Rattle.unwind.proofs.node_checks.check_node.Statement.{statement}
+use Rattle.unwind.proofs.node_checks.check_node.Tie as tie
+
+returns : tie.Need-returns
+returns c =
+    let a = c .before .before .before .before .before .before .before .args in
+    let m = routesIn (a .s .now) (a .y) in
+    let told = ap checkOf (c .enum-told2 .given .1) in
+    let funclet = rw (c .before .before .before .node-at .ensures .is) at (sym (c .before .before .check-funclet .ensures) ∙ told) in
+    λ edges. told ∙ sym (node-checks (heldIn (a .g .now) .graph) m edges (a .ends .now) (recordIn (a .nodes .now) (a .i)) ∙ rw funclet)
+
+check-ends-requires : tie.Need-check-ends-requires
+check-ends-requires c κs =
+    let pre = c .before .before .before .before .before .before .before .pre in
+    let small = c .before .before .before .node-at .ensures .small in
+    (pre .0, pre .1, small .first-end, small .ends)
+
+returns-2 : tie.Need-returns-2
+returns-2 c =
+    let a = c .before .before .before .before .before .before .before .before .args in
+    let m = routesIn (a .s .now) (a .y) in
+    let read = c .before .before .before .before .node-at .ensures .is in
+    let funclet = rw read at (sym (c .before .before .before .check-funclet .ensures) ∙ ap checkOf (c .before .enum-told .given .1)) in
+    λ edges. rw read at (c .check-ends .ensures) ∙ sym (node-checks (heldIn (a .g .now) .graph) m edges (a .ends .now) (recordIn (a .nodes .now) (a .i)) ∙ rw funclet)
+
+pub check-node-spec : {M : Type 1} → statement M
+check-node-spec = tie.close (tie.spec (λ c κs. search needs) (λ c κs. search needs) (λ c. search needs) (λ c. search needs) returns check-ends-requires returns-2)

@@ -1,0 +1,70 @@
+-- `check_nodes` meets its contract. The loop's invariant: the nodes before i are clear, whatever their edges. Assumes nothing.
+use mathlib.Core.Path.{_≡_, refl, sym, ap, _∙_}
+use mathlib.Core.List.{List}
+use Prim.Native.Nat.{ℕ, _-_, _≤_}
+use native.Mathlib.Omega.{arith}
+use borrow.Author.Needs.{needs}
+use Rattle.image.specs.Refusal.{clear, checks}
+use Rattle.image.specs.Image.{routesIn}
+use Rattle.image.proofs.Checks.{checks-more, checks-stop}
+use Rattle.graph.specs.Words.{heldIn}
+use Rattle.graph.specs.Error.{checkOf}
+use Rattle.unwind.specs.Trie.{nodeAt}
+use Rattle.unwind.specs.Nodes.{nodesIn}
+use Rattle.unwind.specs.Add.{nodeCheck}
+use Rattle.unwind.proofs.NodeChecks.{node-check}
+use Rattle.unwind.proofs.node_checks.check_nodes.Statement.{statement}
+use Rattle.unwind.proofs.node_checks.check_nodes.Tie as tie
+
+abbrev Inv-loop : tie.InvT-loop
+Inv-loop g built s y nodes ends n i₀ i = (i ≤ n) × ((edges : List ℕ) → checks (λ i. nodeCheck (heldIn g .graph) (nodeAt (nodesIn (routesIn s y) nodes edges ends n) i)) i ≡ clear)
+
+abbrev μ-loop : tie.MeasureT-loop
+μ-loop g built s y nodes ends n i₀ i = n - i
+
+loop-holds : tie.Need-loop-holds Inv-loop μ-loop
+unfolding checks
+loop-holds c = (omega arith, λ edges. refl)
+
+returns : tie.Need-returns Inv-loop μ-loop
+returns c =
+    let a = c .before .before .before .before .before .before .before .before .args in
+    let top = c .before .before .before .before .loop in
+    let test = c .before .before .before .loop-test .taken in
+    let told = ap checkOf (c .enum-told2 .given .1) in
+    λ edges.
+    told ∙ sym (checks-stop _ (top .i) (a .n) _ test (top .inv .1 edges) (node-check (heldIn (a .g .now) .graph) (routesIn (a .s .now) (a .y)) edges (a .ends .now) (a .nodes .now) (a .n) (top .i) test ∙ sym (c .before .before .check-node .ensures edges) ∙ told))
+
+loop-again : tie.Need-loop-again Inv-loop μ-loop
+loop-again c =
+    let a = c .before .before .before .before .before .before .before .before .args in
+    let top = c .before .before .before .before .loop in
+    let test = c .before .before .before .loop-test .taken in (
+      omega arith,
+      λ edges. checks-more _ (top .i) (top .inv .1 edges)
+          ∙ node-check (heldIn (a .g .now) .graph) (routesIn (a .s .now) (a .y)) edges (a .ends .now) (a .nodes .now) (a .n) (top .i) test
+          ∙ sym (c .before .before .check-node .ensures edges)
+          ∙ ap checkOf (c .enum-told .given .1),
+    )
+
+returns-2 : tie.Need-returns-2 Inv-loop μ-loop
+returns-2 c =
+    let end = c .before .loop in
+    let all : end .i ≡ c .before .before .before .before .before .args .n = omega arith in
+    λ edges. sym (rw all at (end .inv .1 edges))
+
+pub check-nodes-spec : {M : Type 1} → statement M
+check-nodes-spec =
+    tie.close
+    (tie.spec
+    Inv-loop
+    μ-loop
+    loop-holds
+    (λ c κs. search needs)
+    (λ c. search needs)
+    (λ c. search needs)
+    returns
+    (λ c. search needs)
+    (λ c. search needs)
+    loop-again
+    returns-2)

@@ -1,0 +1,64 @@
+-- Keys of a group of paths: the calls before the next funclet, and the funclet. What the search for the next one answers.
+use mathlib.Core.Path.{_≡_}
+use mathlib.Core.List.{List, [], _∷_, _++_, map}
+use mathlib.Core.Option.{Option, none, some}
+use Prim.Native.Nat.{ℕ, _+_, _-_, _≤_, _<_, compare}
+use lib.ListN.{length}
+use Rattle.image.specs.Image.{RouteImage}
+use Rattle.image.specs.Deal.{UnwindStep, funclet, call, UnwindPath}
+use Rattle.unwind.specs.declared.tries.paths.Group.{Group}
+use Rattle.unwind.specs.declared.tries.keys.Key.{Key}
+use Rattle.unwind.specs.declared.tries.keys.NextKey.{NextKey}
+use Rattle.unwind.specs.declared.tries.keys.NextKey.the-variants.{At, Nothing}
+use Rattle.unwind.specs.Lists.{joined}
+use Rattle.unwind.specs.Order.{Tagged, tagged, compareTagged}
+use Rattle.unwind.specs.Trie.{cut, groupOn}
+use Rattle.unwind.specs.Nodes.{stepIn, tagsIn}
+use Rattle.unwind.specs.Interning.{nearest, stepsIn, leftAt, pathsOf}
+
+-- the steps that a key stands for
+abbrev pub keySteps : Tagged ℕ → List UnwindStep
+keySteps k = map call (k .calls) ++ funclet (k .what) ∷ []
+
+abbrev pub listOf : {A : Type 0} → Option A → List A
+listOf none = []
+listOf (some x) = x ∷ []
+
+-- the keys of paths, in their order
+unfoldable pub keysOf : List UnwindPath → List (Tagged ℕ)
+keysOf ps = joined (λ p. groupOn (cut (p .steps))) ps
+
+abbrev pub KeySmall : NextKey → Type 0
+KeySmall (At k) = k .step + k .calls ≤ 512
+KeySmall Nothing = Unit {0}
+
+module _ (m : RouteImage) where
+  unfoldable pub keyIn : Key → Tagged ℕ
+  keyIn k = tagged (tagsIn m (k .step) (k .calls)) (stepIn m (k .step + k .calls) .value)
+
+  unfoldable pub keyOf : NextKey → Option (Tagged ℕ)
+  keyOf (At k) = some (keyIn k)
+  keyOf Nothing = none
+
+  -- the key's steps stand among all, behind those that the group's paths begin with
+  pub record Stands (g : Group) (k : Key) : Type 0 where
+    pub within : k .step + k .calls < length (m .steps)
+    pub behind : g .depth ≤ k .step
+    pub begins : stepsIn m (k .step - g .depth) (g .depth) ≡ stepsIn m (g .from) (g .depth)
+    pub steps : stepsIn m (k .step) (k .calls + 1) ≡ keySteps (keyIn k)
+
+  abbrev pub KeyIn : Group → NextKey → Type 0
+  KeyIn g (At k) = Stands g k
+  KeyIn g Nothing = Unit {0}
+
+  pub record KeyOf (g : Group) (q : ℕ) (r : NextKey) : Type 0 where
+    pub is : keysOf (leftAt m g q) ≡ listOf (keyOf r)
+    pub stands : KeyIn g r
+
+  pub record NearerKey (g : Group) (last best : NextKey) (q : ℕ) (r : NextKey) : Type 0 where
+    pub is : keyOf r ≡ nearest (compareTagged compare) (keyOf last) (keyOf best) (keysOf (leftAt m g q))
+    pub stands : KeyIn g r
+
+  pub record NextOf (g : Group) (last r : NextKey) : Type 0 where
+    pub is : keyOf r ≡ nearest (compareTagged compare) (keyOf last) none (keysOf (pathsOf m g))
+    pub stands : KeyIn g r

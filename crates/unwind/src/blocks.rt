@@ -1,0 +1,125 @@
+// Look-up in a graph's own table and among its built blocks, which stand in the table's order.
+use graph::blockset::put_in;
+use graph::lookup::Found;
+use graph::record::TableEntry;
+use graph::store::Words;
+use graph::store::blocks::block_at;
+use graph::store::table::table_at;
+use graph::store::table::table_count;
+ghost use mathlib.Core.Path.{_≡_};
+ghost use Rattle.graph.specs.Words.{heldIn};
+ghost use Rattle.graph.specs.Table.{below};
+ghost use Rattle.graph.specs.Lookup.{Finds};
+ghost use Rattle.graph.specs.WellFormed.{Built};
+ghost use Rattle.unwind.specs.Blocks.{firstOf, lastOf, leading};
+ghost use Rattle.unwind.specs.Stands.{Stands, Before, Guards, leadingOf};
+
+// Whether an address starts a built block, lies inside one, or starts no instruction.
+pub enum Lead {
+    Leads(usize),
+    Inside,
+    Absent,
+}
+
+// How many instructions start below a.
+pub fn position(g: &Words, a: u64) -> usize
+    requires { ⌜ Stands (heldIn (now g) .graph) ⌝ }
+    ensures { λ r. ⌜ r ≡ below (heldIn (now (g .entry)) .graph .table) a ⌝ }
+{
+    let mut lo = 0;
+    let mut hi = table_count(g);
+    while lo < hi {
+        let mid = lo + (hi - lo) / 2;
+        if table_at(g, mid).address < a {
+            lo = mid + 1;
+        } else {
+            hi = mid;
+        }
+    }
+    lo
+}
+
+// The position of the instruction that starts at a.
+pub fn find_start(g: &Words, a: u64) -> Found
+    requires { ⌜ Stands (heldIn (now g) .graph) ⌝ }
+    ensures { λ r. ⌜ Finds (heldIn (now (g .entry)) .graph .table) a r ⌝ }
+{
+    let p = position(g, a);
+    if p < table_count(g) {
+        if table_at(g, p).address == a {
+            return Found::At(p);
+        }
+    }
+    Found::Nothing
+}
+
+// How many of the built blocks begin before position p: the next one, if any, begins at p or behind it.
+pub fn block_from(g: &Words, built: usize, p: usize) -> usize
+    requires { ⌜ Stands (heldIn (now g) .graph) × Built (heldIn (now g) .graph) built ⌝ }
+    ensures { λ r. ⌜ Before (heldIn (now (g .entry)) .graph) built p r ⌝ }
+{
+    let mut lo = 0;
+    let mut hi = built;
+    while lo < hi {
+        let mid = lo + (hi - lo) / 2;
+        if block_at(g, mid).first < p as u64 {
+            lo = mid + 1;
+        } else {
+            hi = mid;
+        }
+    }
+    lo
+}
+
+// The built block that a starts, or why there is none.
+pub fn leading_block(g: &Words, built: usize, a: u64) -> Lead
+    requires { ⌜ Stands (heldIn (now g) .graph) × Built (heldIn (now g) .graph) built ⌝ }
+    ensures { λ r. ⌜ leadingOf r ≡ leading (heldIn (now (g .entry)) .graph) a ⌝ }
+{
+    let Found::At(p) = find_start(g, a) else {
+        return Lead::Absent;
+    };
+    let b = block_from(g, built, p);
+    if b < built {
+        if block_at(g, b).first == p as u64 {
+            return Lead::Leads(b);
+        }
+    }
+    Lead::Inside
+}
+
+// The built blocks that a route from `start` to `end` covers and that keep their exception edge.
+pub fn guarded_by(g: &Words, built: usize, start: u64, end: u64) -> [u64; 16]
+    requires { ⌜ Stands (heldIn (now g) .graph) × Built (heldIn (now g) .graph) built ⌝ }
+    ensures { λ r. ⌜ Guards (heldIn (now (g .entry)) .graph) start end r ⌝ }
+{
+    let first = block_from(g, built, position(g, start));
+    let past = block_from(g, built, position(g, end));
+    let mut set = [0u64; 16];
+    for b in first..past {
+        if first_of(g, b).keeps == 1 {
+            put_in(&mut set, b);
+        }
+    }
+    set
+}
+
+// The first instruction of block b.
+pub fn first_of(g: &Words, b: usize) -> TableEntry
+    ensures { λ r. ⌜ r ≡ firstOf (heldIn (now (g .entry)) .graph) b ⌝ }
+{
+    table_at(g, block_at(g, b).first as usize)
+}
+
+// The last instruction of block b.
+pub fn last_of(g: &Words, b: usize) -> TableEntry
+    requires { ⌜ Stands (heldIn (now g) .graph) ⌝ }
+    ensures { λ r. ⌜ r ≡ lastOf (heldIn (now (g .entry)) .graph) b ⌝ }
+{
+    let run = block_at(g, b);
+    let end = run.first + run.count;
+    if end == 0 {
+        return table_at(g, 0);
+    }
+    table_at(g, (end - 1) as usize)
+}

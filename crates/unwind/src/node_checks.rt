@@ -1,0 +1,111 @@
+// The checks of the trie's nodes, in creation order: 14 and 17 of the funclet, and then of the handlers at its ends.
+use crate::checks::check_lead;
+use crate::tries::store::branch_at;
+use crate::tries::store::node_at;
+use graph::error::Checked;
+use graph::resume::HANDLER;
+use graph::store::Words;
+use image::access::path_at;
+use image::access::step_at;
+use image::section::RouteLayout;
+ghost use mathlib.Core.Path.{_≡_};
+ghost use mathlib.Core.List.{List};
+ghost use Prim.Native.Nat.{ℕ, _+_, _<_};
+ghost use Rattle.image.specs.Image.{routesIn};
+ghost use Rattle.image.specs.Deal.{endOf};
+ghost use Rattle.graph.specs.Words.{heldIn};
+ghost use Rattle.graph.specs.Error.{checkOf};
+ghost use Rattle.graph.specs.Fold.{checks};
+ghost use Rattle.graph.specs.WellFormed.{Built};
+ghost use Rattle.unwind.specs.Stands.{Stands};
+ghost use Rattle.unwind.specs.Trie.{nodeAt};
+ghost use Rattle.unwind.specs.Nodes.{branchIn, pathRecord, funcletIn, recordIn, nodeIn, nodesIn};
+ghost use Rattle.unwind.specs.Add.{funcletCheck, endCheck, nodeCheck};
+
+// The first refusal among those of the n nodes, whatever their edges.
+pub fn check_nodes(
+    g: &Words,
+    built: usize,
+    s: &[u8],
+    y: RouteLayout,
+    nodes: &[u16],
+    ends: &[u16],
+    n: usize,
+) -> Checked
+    requires { ⌜ Stands (heldIn (now g) .graph) × Built (heldIn (now g) .graph) built ⌝ }
+    ensures { λ r. ⌜ ((edges : List ℕ) → checkOf r ≡ checks (λ i. nodeCheck (heldIn (now (g .entry)) .graph) (nodeAt (nodesIn (routesIn (now (s .entry)) y) (now (nodes .entry)) edges (now (ends .entry)) n) i)) n) ⌝ }
+{
+    for i in 0..n {
+        let found = check_node(g, built, s, y, nodes, ends, i);
+        let Checked::Clear = found else {
+            return found;
+        };
+    }
+    Checked::Clear
+}
+
+// Node i: the funclet before the ends.
+fn check_node(
+    g: &Words,
+    built: usize,
+    s: &[u8],
+    y: RouteLayout,
+    nodes: &[u16],
+    ends: &[u16],
+    i: usize,
+) -> Checked
+    requires { ⌜ Stands (heldIn (now g) .graph) × Built (heldIn (now g) .graph) built ⌝ }
+    ensures { λ r. ⌜ ((edges : List ℕ) → checkOf r ≡ nodeCheck (heldIn (now (g .entry)) .graph) (nodeIn (routesIn (now (s .entry)) y) edges (now (ends .entry)) (recordIn (now (nodes .entry)) i))) ⌝ }
+{
+    let x = node_at(nodes, i);
+    let found = check_funclet(g, built, s, y, x.funclet);
+    let Checked::Clear = found else {
+        return found;
+    };
+    check_ends(g, built, s, y, ends, x.first_end, x.ends)
+}
+
+// The funclet that step f - 1 names; the root of a route, with 0, has none.
+fn check_funclet(g: &Words, built: usize, s: &[u8], y: RouteLayout, f: usize) -> Checked
+    requires { ⌜ Stands (heldIn (now g) .graph) × Built (heldIn (now g) .graph) built ⌝ }
+    ensures { λ r. ⌜ checkOf r ≡ funcletCheck (heldIn (now (g .entry)) .graph) (funcletIn (routesIn (now (s .entry)) y) f) ⌝ }
+{
+    if f == 0 {
+        return Checked::Clear;
+    }
+    check_lead(g, built, step_at(s, y.steps, f - 1).value)
+}
+
+// The n ends from `first` on.
+fn check_ends(
+    g: &Words,
+    built: usize,
+    s: &[u8],
+    y: RouteLayout,
+    ends: &[u16],
+    first: usize,
+    n: usize,
+) -> Checked
+    requires { ⌜ Stands (heldIn (now g) .graph) × Built (heldIn (now g) .graph) built × (first < 65536) × (n < 65536) ⌝ }
+    ensures { λ r. ⌜ checkOf r ≡ checks (λ k. endCheck (heldIn (now (g .entry)) .graph) (endOf (pathRecord (routesIn (now (s .entry)) y) (branchIn (now (ends .entry)) (first + k) .what)))) n ⌝ }
+{
+    for k in 0..n {
+        let found = check_end(g, built, s, y, branch_at(ends, first + k).what);
+        let Checked::Clear = found else {
+            return found;
+        };
+    }
+    Checked::Clear
+}
+
+// The end of path p.
+fn check_end(g: &Words, built: usize, s: &[u8], y: RouteLayout, p: usize) -> Checked
+    requires { ⌜ Stands (heldIn (now g) .graph) × Built (heldIn (now g) .graph) built ⌝ }
+    ensures { λ r. ⌜ checkOf r ≡ endCheck (heldIn (now (g .entry)) .graph) (endOf (pathRecord (routesIn (now (s .entry)) y) p)) ⌝ }
+{
+    let path = path_at(s, y.paths, p);
+    if path.end == HANDLER {
+        return check_lead(g, built, path.handler);
+    }
+    Checked::Clear
+}

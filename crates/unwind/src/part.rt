@@ -1,0 +1,170 @@
+// Parts of funclets: the blocks that are reached from an entry, and those of them that return.
+use crate::blocks::Lead;
+use crate::blocks::last_of;
+use crate::blocks::leading_block;
+use graph::blockset::Lowest;
+use graph::blockset::has_in;
+use graph::blockset::lowest_in;
+use graph::blockset::put_in;
+use graph::blockset::take_from;
+use graph::reach::see;
+use graph::resume::FUNCLET;
+use graph::store::Words;
+use graph::store::edges::edge_at;
+use graph::store::edges::edge_count;
+use image::access::step_at;
+use image::section::RouteLayout;
+ghost use mathlib.Core.Path.{_≡_};
+ghost use mathlib.Core.Bool.{true, not, _&&_};
+ghost use Prim.Native.Nat.{ℕ, _<_};
+ghost use lib.Dec.{eqb};
+ghost use lib.ListN.{length};
+ghost use Rattle.image.specs.Image.{routesIn};
+ghost use Rattle.image.specs.Deal.{routesOf};
+ghost use Rattle.image.specs.Accepted.{AcceptedRoutes};
+ghost use Rattle.graph.specs.Graph.{edge};
+ghost use Rattle.graph.specs.Words.{heldIn};
+ghost use Rattle.graph.specs.Search.{Linked, Roomy, Follows};
+ghost use Rattle.graph.specs.WellFormed.{isBuilt, Built};
+ghost use Rattle.unwind.specs.Blocks.{leading};
+ghost use Rattle.unwind.specs.Part.{returning as isReturning};
+ghost use Rattle.unwind.specs.Stands.{Stands};
+ghost use Rattle.unwind.specs.PartSearch.{Barriers, Sources, PartFrom, entering, bounded, Takes};
+
+// 'without an ExceptionUnwind or Call edge'
+const CALL: u64 = 5;
+
+const EXCEPTION_UNWIND: u64 = 7;
+
+// Flows that may end a returning block.
+const RETURN: u64 = 1;
+
+const JUMP: u64 = 6;
+
+fn is_ordinary(kind: u64) -> bool
+    ensures { λ r. ⌜ r ≡ (not (eqb kind 7) && not (eqb kind 5)) ⌝ }
+{
+    (kind != EXCEPTION_UNWIND) & (kind != CALL)
+}
+
+// The built blocks that start a funclet of the routes.
+pub fn funclet_entries(g: &Words, built: usize, s: &[u8], y: RouteLayout) -> [u64; 16]
+    requires { ⌜ Stands (heldIn (now g) .graph) × Built (heldIn (now g) .graph) built × (0 < length (heldIn (now g) .graph .table)) × AcceptedRoutes (routesIn (now s) y) ⌝ }
+    ensures { λ r. ⌜ Barriers (heldIn (now (g .entry)) .graph) (routesOf (routesIn (now (s .entry)) y)) r ⌝ }
+{
+    let n = y.steps.count as usize;
+    let mut set = [0u64; 16];
+    for j in 0..n {
+        let x = step_at(s, y.steps, j);
+        if x.code == FUNCLET {
+            put_entry(g, built, x.value, &mut set);
+        }
+    }
+    set
+}
+
+// The built block that starts at a, put into the set.
+fn put_entry(g: &Words, built: usize, a: u64, set: &mut [u64; 16])
+    requires { ⌜ Stands (heldIn (now g) .graph) × Built (heldIn (now g) .graph) built ⌝ }
+    ensures { λ _. ⌜ now (set .exit) ≡ entering (leading (heldIn (now (g .entry)) .graph) a) (now (set .entry)) ⌝ }
+{
+    match leading_block(g, built, a) {
+        Lead::Leads(b) => put_in(set, b),
+        Lead::Inside => {}
+        Lead::Absent => {}
+    }
+}
+
+// The blocks that an ordinary edge goes out of.
+pub fn ordinary_sources(g: &Words) -> [u64; 16]
+    requires { ⌜ Stands (heldIn (now g) .graph) ⌝ }
+    ensures { λ r. ⌜ Sources (heldIn (now (g .entry)) .graph) r ⌝ }
+{
+    let n = edge_count(g);
+    let mut set = [0u64; 16];
+    for i in 0..n {
+        let e = edge_at(g, i);
+        if is_ordinary(e.kind) {
+            put_in(&mut set, e.source as usize);
+        }
+    }
+    set
+}
+
+// Whether block b returns, told which blocks an ordinary edge goes out of.
+pub fn returning(g: &Words, sources: &[u64; 16], b: usize) -> bool
+    requires { ⌜ Stands (heldIn (now g) .graph) × Sources (heldIn (now g) .graph) (now sources) ⌝ }
+    ensures { λ r. ⌜ r ≡ isReturning (heldIn (now (g .entry)) .graph) b ⌝ }
+{
+    let flow = last_of(g, b).flow;
+    if flow == RETURN {
+        return true;
+    }
+    (flow == JUMP) & !has_in(sources, b)
+}
+
+// The part of the funclet whose entry is block `start`, along edges that are linked by their source.
+pub fn part_of(
+    g: &Words,
+    head: &[u16],
+    next: &[u16],
+    barriers: &[u64; 16],
+    start: usize,
+) -> [u64; 16]
+    requires { ⌜ Stands (heldIn (now g) .graph) × Roomy (heldIn (now g) .graph) (now head) (now next) × Linked (heldIn (now g) .graph) (now head) (now next) 0 × (start < length (heldIn (now g) .graph .blocks)) × (isBuilt (heldIn (now g) .graph) start ≡ true) ⌝ }
+    ensures { λ r. ⌜ PartFrom (heldIn (now (g .entry)) .graph) (now (barriers .entry)) start r ⌝ }
+{
+    let mut seen = [0u64; 16];
+    let mut pending = [0u64; 16];
+    put_in(&mut seen, start);
+    put_in(&mut pending, start);
+    loop {
+        let Lowest::At(b) = lowest_in(&pending) else {
+            return seen;
+        };
+        take_from(&mut pending, b);
+        follow(g, head, next, barriers, b, &mut seen, &mut pending);
+    }
+}
+
+// Follows the edges from b.
+fn follow(
+    g: &Words,
+    head: &[u16],
+    next: &[u16],
+    barriers: &[u64; 16],
+    b: usize,
+    seen: &mut [u64; 16],
+    pending: &mut [u64; 16],
+)
+    requires { ⌜ Stands (heldIn (now g) .graph) × Roomy (heldIn (now g) .graph) (now head) (now next) × Linked (heldIn (now g) .graph) (now head) (now next) 0 × (b < length (heldIn (now g) .graph .blocks)) ⌝ }
+    ensures { λ _. ⌜ ((e : ℕ) → Follows (bounded (heldIn (now (g .entry)) .graph) (now (barriers .entry)) e) b (length (heldIn (now (g .entry)) .graph .edges)) (now (seen .entry)) (now (pending .entry)) (now (seen .exit)) (now (pending .exit))) ⌝ }
+{
+    let mut at = head[b] as usize;
+    while at != 0 {
+        let e = at - 1;
+        take_edge(g, e, barriers, seen, pending);
+        at = next[e] as usize;
+    }
+}
+
+// Edge i: where it is followed, its target is seen.
+fn take_edge(
+    g: &Words,
+    i: usize,
+    barriers: &[u64; 16],
+    seen: &mut [u64; 16],
+    pending: &mut [u64; 16],
+)
+    ensures { λ _. ⌜ Takes (now (barriers .entry)) (edge (heldIn (now (g .entry)) .graph) i) (now (seen .entry)) (now (pending .entry)) (now (seen .exit)) (now (pending .exit)) ⌝ }
+{
+    let e = edge_at(g, i);
+    if !is_ordinary(e.kind) {
+        return;
+    }
+    let t = e.target as usize;
+    if has_in(barriers, t) {
+        return;
+    }
+    see(seen, pending, t);
+}

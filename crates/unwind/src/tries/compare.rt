@@ -1,0 +1,91 @@
+// Comparisons of what stands in a route image: tags from the first on, then what comes after them.
+use crate::tries::store::Branch;
+use image::access::path_at;
+use image::access::step_at;
+use image::section::RouteLayout;
+ghost use mathlib.Core.Path.{_≡_};
+ghost use Prim.Native.Nat.{_+_, _<_, compare};
+ghost use Rattle.image.specs.Image.{routesIn};
+ghost use Rattle.image.specs.Deal.{endOf};
+ghost use Rattle.image.specs.Accepted.{AcceptedRoutes};
+ghost use Rattle.unwind.specs.Order.{compareTags, compareEnds, compareTagged};
+ghost use Rattle.unwind.specs.Nodes.{pathRecord, tagsIn, edgeOf, endAt, BranchSmall};
+ghost use Rattle.unwind.specs.Interning.{orderingOf};
+
+pub enum Order {
+    Less,
+    Equal,
+    Greater,
+}
+
+const HANDLER: u64 = 0;
+
+pub fn compare_numbers(a: u64, b: u64) -> Order
+    ensures { λ r. ⌜ orderingOf r ≡ compare a b ⌝ }
+{
+    if a < b {
+        return Order::Less;
+    }
+    if b < a {
+        return Order::Greater;
+    }
+    Order::Equal
+}
+
+// The tags of the n steps from a on, and of the k steps from b on.
+pub fn compare_calls(s: &[u8], y: RouteLayout, a: usize, n: usize, b: usize, k: usize) -> Order
+    requires { ⌜ (a + n < 1048576) × (b + k < 1048576) ⌝ }
+    ensures { λ r. ⌜ orderingOf r ≡ compareTags (tagsIn (routesIn (now (s .entry)) y) a n) (tagsIn (routesIn (now (s .entry)) y) b k) ⌝ }
+{
+    for i in 0..n {
+        if k <= i {
+            return Order::Greater;
+        }
+        let x = step_at(s, y.steps, a + i);
+        let z = step_at(s, y.steps, b + i);
+        match compare_numbers(x.value, z.value) {
+            Order::Less => return Order::Less,
+            Order::Greater => return Order::Greater,
+            Order::Equal => {}
+        }
+    }
+    if n < k { Order::Less } else { Order::Equal }
+}
+
+// The ends of paths p and q: Handler by address, Propagate, Resume.
+pub fn compare_ends(s: &[u8], y: RouteLayout, p: usize, q: usize) -> Order
+    requires { ⌜ AcceptedRoutes (routesIn (now s) y) ⌝ }
+    ensures { λ r. ⌜ orderingOf r ≡ compareEnds (endOf (pathRecord (routesIn (now (s .entry)) y) p)) (endOf (pathRecord (routesIn (now (s .entry)) y) q)) ⌝ }
+{
+    let a = path_at(s, y.paths, p);
+    let b = path_at(s, y.paths, q);
+    if a.end == HANDLER {
+        if b.end == HANDLER {
+            return compare_numbers(a.handler, b.handler);
+        }
+        return Order::Less;
+    }
+    compare_numbers(a.end, b.end)
+}
+
+pub fn compare_edge_branches(s: &[u8], y: RouteLayout, a: Branch, b: Branch) -> Order
+    requires { ⌜ BranchSmall a × BranchSmall b ⌝ }
+    ensures { λ r. ⌜ orderingOf r ≡ compareTagged compare (edgeOf (routesIn (now (s .entry)) y) a) (edgeOf (routesIn (now (s .entry)) y) b) ⌝ }
+{
+    match compare_calls(s, y, a.step, a.calls, b.step, b.calls) {
+        Order::Less => Order::Less,
+        Order::Greater => Order::Greater,
+        Order::Equal => compare_numbers(a.what as u64, b.what as u64),
+    }
+}
+
+pub fn compare_end_branches(s: &[u8], y: RouteLayout, a: Branch, b: Branch) -> Order
+    requires { ⌜ AcceptedRoutes (routesIn (now s) y) × BranchSmall a × BranchSmall b ⌝ }
+    ensures { λ r. ⌜ orderingOf r ≡ compareTagged compareEnds (endAt (routesIn (now (s .entry)) y) a) (endAt (routesIn (now (s .entry)) y) b) ⌝ }
+{
+    match compare_calls(s, y, a.step, a.calls, b.step, b.calls) {
+        Order::Less => Order::Less,
+        Order::Greater => Order::Greater,
+        Order::Equal => compare_ends(s, y, a.what, b.what),
+    }
+}

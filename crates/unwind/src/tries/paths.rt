@@ -1,0 +1,99 @@
+// The paths of a route that begin with the same steps, and what is left of them. Nothing is copied: the steps stand in the
+// image.
+use crate::tries::store::number_at;
+use image::access::path_at;
+use image::access::step_at;
+use image::section::RouteLayout;
+ghost use mathlib.Core.Path.{_≡_};
+ghost use Prim.Native.Nat.{_+_, _≤_, _<_};
+ghost use lib.ListN.{length};
+ghost use Rattle.image.specs.Image.{routesIn};
+ghost use Rattle.image.specs.Accepted.{AcceptedRoutes};
+ghost use Rattle.unwind.specs.Interning.{sameSteps, Starts, GroupIn, LeftOf, Cuts};
+
+pub const FUNCLET: u64 = 0;
+
+// Of a route's paths, which are the `count` from `first` on, those that begin with the `depth` steps from `from` on.
+pub struct Group {
+    pub route: usize,
+    pub first: usize,
+    pub count: usize,
+    pub from: usize,
+    pub depth: usize,
+}
+
+// The steps that are left of a path, unless it is none of the group's.
+pub enum Left {
+    Steps { first: usize, count: usize },
+    Nothing,
+}
+
+// Steps up to the first funclet: calls alone, or so many calls before it.
+pub enum CutAt {
+    Over,
+    Enters(usize),
+}
+
+// Where the steps of each path start.
+pub fn path_starts(s: &[u8], y: RouteLayout, starts: &mut [u16])
+    requires { ⌜ AcceptedRoutes (routesIn (now s) y) × (length (routesIn (now s) y .paths) ≤ length (now starts)) ⌝ }
+    ensures { λ _. ⌜ Starts (routesIn (now (s .entry)) y) (now (starts .exit)) ⌝ }
+{
+    let n = y.paths.count as usize;
+    let mut next = 0;
+    for p in 0..n {
+        starts[p] = next as u16;
+        next += path_at(s, y.paths, p).steps;
+    }
+}
+
+// What is left of path q of a group.
+pub fn left_of(s: &[u8], y: RouteLayout, starts: &[u16], g: Group, q: usize) -> Left
+    requires { ⌜ AcceptedRoutes (routesIn (now s) y) × Starts (routesIn (now s) y) (now starts) × GroupIn (routesIn (now s) y) g × (q < length (routesIn (now s) y .paths)) ⌝ }
+    ensures { λ r. ⌜ LeftOf (routesIn (now (s .entry)) y) g q r ⌝ }
+{
+    let first = number_at(starts, q);
+    let count = path_at(s, y.paths, q).steps;
+    let depth = g.depth;
+    if count < depth {
+        return Left::Nothing;
+    }
+    if same_steps(s, y, g.from, first, depth) {
+        return Left::Steps {
+            first: first + depth,
+            count: count - depth,
+        };
+    }
+    Left::Nothing
+}
+
+// Whether the n steps from a on are those from b on.
+fn same_steps(s: &[u8], y: RouteLayout, a: usize, b: usize, n: usize) -> bool
+    requires { ⌜ AcceptedRoutes (routesIn (now s) y) × (a + n ≤ 1024) × (b + n ≤ 1024) ⌝ }
+    ensures { λ r. ⌜ r ≡ sameSteps (routesIn (now (s .entry)) y) a b n ⌝ }
+{
+    for i in 0..n {
+        let x = step_at(s, y.steps, a + i);
+        let z = step_at(s, y.steps, b + i);
+        if x.code != z.code {
+            return false;
+        }
+        if x.value != z.value {
+            return false;
+        }
+    }
+    true
+}
+
+// The n steps from a on, cut at the first funclet.
+pub fn cut_at(s: &[u8], y: RouteLayout, a: usize, n: usize) -> CutAt
+    requires { ⌜ a + n ≤ 1024 ⌝ }
+    ensures { λ r. ⌜ Cuts (routesIn (now (s .entry)) y) a n r ⌝ }
+{
+    for i in 0..n {
+        if step_at(s, y.steps, a + i).code == FUNCLET {
+            return CutAt::Enters(i);
+        }
+    }
+    CutAt::Over
+}
