@@ -19,3 +19,5 @@ pub mod TrieCompare
 pub mod TriePaths
 pub mod TrieKeys
 pub mod TrieStore
+pub mod Rising
+pub mod Sources

@@ -8,6 +8,7 @@ pub mod Interning
 pub mod Keys
 pub mod Instance
 pub mod Ways
+pub mod Sources
 pub mod Add
 pub mod Walk
 pub mod Demand
