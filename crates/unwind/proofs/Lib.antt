@@ -21,3 +21,4 @@ pub mod TrieKeys
 pub mod TrieStore
 pub mod Rising
 pub mod Sources
+pub mod Wants
