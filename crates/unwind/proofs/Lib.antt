@@ -22,3 +22,4 @@ pub mod TrieStore
 pub mod Rising
 pub mod Sources
 pub mod Wants
+pub mod Leaving

@@ -180,12 +180,14 @@ to-rising (x ∷ l) k r = go (isEq (compareLeaps (x .leap) k)) refl (to-rising l
 
     go : (b : Bool) → isEq (compareLeaps (x .leap) k) ≡ b → Rising compareTags (to l k) → Rising compareTags (cond b (x .calls ∷ []) [] ++ to l k)
     go false e below = below
-    go true e below =
-        (λ t m.
+    go true e below = (
+      λ t m.
           let y = joined-mem (one k) l m in
           let z = one-of k (y .0) (y .2) in
           let p : isEq (compareLeaps (x .leap) (y .0 .leap)) ≡ true = rw (z .0) e in
-          rw (z .1) (second (compareLeaps (x .leap) (y .0 .leap)) (compareTags (x .calls) (y .0 .calls)) (then-lt (compareLeaps (x .leap) (y .0 .leap)) (compareTags (x .calls) (y .0 .calls)) (r .0 (y .0) (y .1))) p), below)
+          rw (z .1) (second (compareLeaps (x .leap) (y .0 .leap)) (compareTags (x .calls) (y .0 .calls)) (then-lt (compareLeaps (x .leap) (y .0 .leap)) (compareTags (x .calls) (y .0 .calls)) (r .0 (y .0) (y .1))) p),
+      below,
+    )
 
 joined-map : {A B D : Type 0} (f : B → List D) (g : A → B) (l : List A) → joined f (map g l) ≡ joined (λ (x : A). f (g x)) l
 unfolding joined
@@ -251,9 +253,9 @@ module _ (xs : List Exit) where
   flat-rising (suc n) =
       rising-join compareExits (flat (exitsAt xs) n) (exitsAt xs n) (flat-rising n) (rising-sorted compareExits total-exits (keep (isFrom n) xs))
       (λ x y i j.
-        let h : x .leap .source < n = flat-source n i .1 in
-        let e : y .leap .source ≡ n = exits-in n j .1 in
-        source-less x y (omega arith))
+      let h : x .leap .source < n = flat-source n i .1 in
+      let e : y .leap .source ≡ n = exits-in n j .1 in
+      source-less x y (omega arith))
 
   pub exits-flat : (n : ℕ) → ((x : Exit) → x ∈ xs → x .leap .source < n) → sorted compareExits xs ≡ flat (exitsAt xs) n
   exits-flat n below =
@@ -321,11 +323,11 @@ hops-flat xs (suc n) =
     ∙ ap (λ (hs : List Hop). hopsOn hs (exitsAt xs n)) (hops-flat xs n)
     ∙ on-apart (flat (λ b. hopsOn [] (exitsAt xs b)) n) (exitsAt xs n)
     (λ h x i j e.
-      let y = flat-mem (λ b. hopsOn [] (exitsAt xs b)) n i in
-      let lt : y .0 < n = y .1 in
-      let p : h .source ≡ y .0 = on-source (y .0) [] (exitsAt xs (y .0)) (λ k m. absurd (none-in m)) (λ z m. exits-in xs (y .0) m .1) h (y .2) in
-      let q : x .leap .source ≡ n = exits-in xs n j .1 in
-      omega arith)
+    let y = flat-mem (λ b. hopsOn [] (exitsAt xs b)) n i in
+    let lt : y .0 < n = y .1 in
+    let p : h .source ≡ y .0 = on-source (y .0) [] (exitsAt xs (y .0)) (λ k m. absurd (none-in m)) (λ z m. exits-in xs (y .0) m .1) h (y .2) in
+    let q : x .leap .source ≡ n = exits-in xs n j .1 in
+    omega arith)
 
 -- ---- how many
 

@@ -93,7 +93,7 @@ module _ (g : Graph) where
       out t e false q =
           let k : record { source = w .source; end = block t } ≡ leap w = λ i. record { source = w .source; end = sym e i } in
           let p = put-new compareLeaps total-leaps (leap w) (landings seen)
-              (λ m. false≢true (sym q ∙ mem-wanted (w .source) t (Memᴰ·cast k (keep-mem landing seen (sorted-mem compareLeaps (keep landing seen) m) .0)))) in
+          (λ m. false≢true (sym q ∙ mem-wanted (w .source) t (Memᴰ·cast k (keep-mem landing seen (sorted-mem compareLeaps (keep landing seen) m) .0)))) in
           omega arith
 
       go : (e : HopEnd) → w .end ≡ e → length (edgeTo g seen w e) + length (landings seen) ≡ length (sorted compareLeaps (cond (toBlock (w .end)) (leap w ∷ keep landing seen) (keep landing seen)))
