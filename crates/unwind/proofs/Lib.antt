@@ -23,3 +23,4 @@ pub mod Rising
 pub mod Sources
 pub mod Wants
 pub mod Leaving
+pub mod EntryLaws

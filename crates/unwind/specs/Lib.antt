@@ -9,6 +9,7 @@ pub mod Keys
 pub mod Instance
 pub mod Ways
 pub mod Sources
+pub mod Entries
 pub mod Add
 pub mod Walk
 pub mod Demand

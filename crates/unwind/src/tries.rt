@@ -1,5 +1,5 @@
 // The trie of the routes, in scratch that a caller lends. `trie.rs`.
-mod compare;
+pub mod compare;
 mod keys;
 mod paths;
 pub mod store;

@@ -1,0 +1,2 @@
+// The hops of an addition: the ways out of one block after the other, gathered in scratch, counted, and stored.
+pub mod entries;
