@@ -198,7 +198,7 @@ module _ (m : RouteImage) (l : List ℕ) (n : ℕ) (x : Branch) (o : Ordered m l
   still b p h e = sym (put-here compareExits total-exits (λ k. exitIn m b (branchIn l k)) n p (exitIn m b x) (o .rises b) h e)
 
   pub entry-kept : (p : ℕ) → p < n → ((b : ℕ) → exitIn m b x ≡ exitIn m b (branchIn l p)) → EntryPut m l n x l n
-  entry-kept p h e = record { long = refl; ordered = o; is = λ b. still b p h (e b) }
+  entry-kept p h e = record { long = refl; most = omega arith; ordered = o; is = λ b. still b p h (e b) }
 
   module _ (p : ℕ) (h : p < n) (e : (b : ℕ) → exitIn m b x ≡ exitIn m b (branchIn l p)) (l′ : List ℕ) (w : BranchPut l p x l′) where
     alike : (b j : ℕ) → exitIn m b (branchIn l′ j) ≡ exitIn m b (branchIn l j)
@@ -209,6 +209,7 @@ module _ (m : RouteImage) (l : List ℕ) (n : ℕ) (x : Branch) (o : Ordered m l
     entry-changed =
         record {
           long = w .long;
+          most = omega arith;
           ordered = record { fit = let t = o .fit in let s = w .long in omega arith; rises = λ b i j a k. rw (alike b i, alike b j) (o .rises b i j a k) };
           is = λ b. table-same (λ k. exitIn m b (branchIn l′ k)) (λ k. exitIn m b (branchIn l k)) n (λ j k. alike b j) ∙ still b p h (e b);
         }
@@ -236,4 +237,4 @@ module _ (m : RouteImage) (l : List ℕ) (n : ℕ) (x : Branch) (o : Ordered m l
         (rw (laid b) (rising-put compareExits total-exits (exitIn m b x) (exitsIn m b l n) (table-rising compareExits (λ k. exitIn m b (branchIn l k)) n (o .rises b))))
 
     pub entry-laid : EntryPut m l n x l′ (n + 1)
-    entry-laid = record { long = v .long ∙ w .long; ordered = record { fit = let a = v .long in let c = w .long in omega arith; rises = rises }; is = laid }
+    entry-laid = record { long = v .long ∙ w .long; most = omega arith; ordered = record { fit = let a = v .long in let c = w .long in omega arith; rises = rises }; is = laid }

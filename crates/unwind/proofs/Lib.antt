@@ -24,3 +24,4 @@ pub mod Sources
 pub mod Wants
 pub mod Leaving
 pub mod EntryLaws
+pub mod GatherLaws

@@ -51,6 +51,7 @@ module _ (m : RouteImage) where
 
   pub record EntryPut (l : List ℕ) (n : ℕ) (x : Branch) (l′ : List ℕ) (r : ℕ) : Type 0 where
     pub long : length l′ ≡ length l
+    pub most : r ≤ n + 1
     pub ordered : Ordered l′ r
     pub is : (b : ℕ) → exitsIn b l′ r ≡ put compareExits (exitIn b x) (exitsIn b l n)
 

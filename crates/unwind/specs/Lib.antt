@@ -10,6 +10,7 @@ pub mod Instance
 pub mod Ways
 pub mod Sources
 pub mod Entries
+pub mod Gather
 pub mod Add
 pub mod Walk
 pub mod Demand

@@ -1,2 +1,3 @@
 // The hops of an addition: the ways out of one block after the other, gathered in scratch, counted, and stored.
 pub mod entries;
+pub mod gather;
