@@ -25,3 +25,4 @@ pub mod Wants
 pub mod Leaving
 pub mod EntryLaws
 pub mod GatherLaws
+pub mod PoolLaws

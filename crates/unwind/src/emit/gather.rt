@@ -16,6 +16,7 @@ ghost use Rattle.unwind.specs.Entries.{Ordered};
 ghost use Rattle.unwind.specs.Gather.{EntryTo, endNumber, endExits, recordExits, Gathers, GathersEdges};
 
 const HANDLER: u64 = 0;
+
 const PROPAGATE: u64 = 1;
 
 // Those of node i, out of block b: `heads` has the entry of each node, `landings` the block of each end that is a handler.
