@@ -34,3 +34,10 @@ pub mod TrieWork
 pub mod TrieRoutes
 pub mod TrieStore
 pub mod NodeChecks
+pub mod Rising
+pub mod Sources
+pub mod Wants
+pub mod Leaving
+pub mod EntryLaws
+pub mod GatherLaws
+pub mod PoolLaws

@@ -20,13 +20,13 @@ pub record Exact {A : Type 0} (c : A → A → Ordering) : Type 0 where
   pub tells : (x y : A) → isEq (c x y) ≡ true → x ≡ y
   pub self : (x : A) → isEq (c x x) ≡ true
 
-both : (o p : Ordering) → isEq (o and-then p) ≡ true → (isEq o ≡ true) × (isEq p ≡ true)
+pub both : (o p : Ordering) → isEq (o and-then p) ≡ true → (isEq o ≡ true) × (isEq p ≡ true)
 unfolding _and-then_
 both Ordering·lt p e = absurd (false≢true e)
 both Ordering·eq p e = (refl, e)
 both Ordering·gt p e = absurd (false≢true e)
 
-join : (o p : Ordering) → isEq o ≡ true → isEq p ≡ true → isEq (o and-then p) ≡ true
+pub join : (o p : Ordering) → isEq o ≡ true → isEq p ≡ true → isEq (o and-then p) ≡ true
 unfolding _and-then_
 join Ordering·lt p e k = absurd (false≢true e)
 join Ordering·eq p e k = k
@@ -108,7 +108,7 @@ exact-leaps =
     }
 
 module _ {A : Type 0} (c : A → A → Ordering) where
-  put-mem : {z : A} (x : A) (l : List A) → z ∈ put c x l → (z ≡ x) ⊎ (z ∈ l)
+  pub put-mem : {z : A} (x : A) (l : List A) → z ∈ put c x l → (z ≡ x) ⊎ (z ∈ l)
   unfolding put placed
   put-mem x [] (List·Memᴰ·head e) = inl e
   put-mem x [] (List·Memᴰ·tail m) = absurd (none-in m)
@@ -125,7 +125,7 @@ module _ {A : Type 0} (c : A → A → Ordering) where
       go Ordering·gt below (List·Memᴰ·head e) = inr (List·Memᴰ·head e)
       go Ordering·gt below (List·Memᴰ·tail k) = up (below k)
 
-  mem-put-old : {z : A} (x : A) {l : List A} → z ∈ l → z ∈ put c x l
+  pub mem-put-old : {z : A} (x : A) {l : List A} → z ∈ l → z ∈ put c x l
   unfolding put placed
   mem-put-old {z} x (List·Memᴰ·head {x = y} {xs = l} e) = go (c x y)
     where
@@ -150,7 +150,7 @@ module _ {A : Type 0} (c : A → A → Ordering) where
       go (inr k) below = List·Memᴰ·tail (below k)
 
   module _ (exact : Exact c) where
-    mem-put-new : {z : A} (x : A) (l : List A) → z ≡ x → z ∈ put c x l
+    pub mem-put-new : {z : A} (x : A) (l : List A) → z ≡ x → z ∈ put c x l
     unfolding put placed
     mem-put-new x [] e = List·Memᴰ·head e
     mem-put-new {z} x (y ∷ l) e = go (c x y) refl (mem-put-new x l e)

@@ -97,24 +97,24 @@ total-number =
 
 -- ---- one comparison behind another
 
-turn-then : (o p : Ordering) → turned (o and-then p) ≡ turned o and-then turned p
+pub turn-then : (o p : Ordering) → turned (o and-then p) ≡ turned o and-then turned p
 unfolding _and-then_
 turn-then Ordering·lt p = refl
 turn-then Ordering·eq p = refl
 turn-then Ordering·gt p = refl
 
 -- the first is less, or finds its two equal and the second is less
-then-lt : (o p : Ordering) → o and-then p ≡ Ordering·lt → (o ≡ Ordering·lt) ⊎ ((o ≡ Ordering·eq) × (p ≡ Ordering·lt))
+pub then-lt : (o p : Ordering) → o and-then p ≡ Ordering·lt → (o ≡ Ordering·lt) ⊎ ((o ≡ Ordering·eq) × (p ≡ Ordering·lt))
 unfolding _and-then_
 then-lt Ordering·lt p e = inl refl
 then-lt Ordering·eq p e = inr (refl, e)
 then-lt Ordering·gt p e = absurd (not-gt-lt e)
 
-lt-then : (o p : Ordering) → o ≡ Ordering·lt → o and-then p ≡ Ordering·lt
+pub lt-then : (o p : Ordering) → o ≡ Ordering·lt → o and-then p ≡ Ordering·lt
 unfolding _and-then_
 lt-then o p e = rw e
 
-eq-then : (o p : Ordering) → o ≡ Ordering·eq → p ≡ Ordering·lt → o and-then p ≡ Ordering·lt
+pub eq-then : (o p : Ordering) → o ≡ Ordering·eq → p ≡ Ordering·lt → o and-then p ≡ Ordering·lt
 unfolding _and-then_
 eq-then o p e k = rw (e, k)
 
@@ -126,7 +126,7 @@ module _ {A : Type 0} (c : A → A → Ordering) (total : Total c) where
   eq-same x y e = total .exact .tells x y (ap isEq e)
 
   -- two comparisons of which the first decides, or both
-  then-trans : {B : Type 0} (d : B → B → Ordering) → Total d → (x y z : A) (u v w : B) → c x y and-then d u v ≡ Ordering·lt → c y z and-then d v w ≡ Ordering·lt → c x z and-then d u w ≡ Ordering·lt
+  pub then-trans : {B : Type 0} (d : B → B → Ordering) → Total d → (x y z : A) (u v w : B) → c x y and-then d u v ≡ Ordering·lt → c y z and-then d v w ≡ Ordering·lt → c x z and-then d u w ≡ Ordering·lt
   then-trans d td x y z u v w p q = go (then-lt (c x y) (d u v) p) (then-lt (c y z) (d v w) q)
     where
       go : (c x y ≡ Ordering·lt) ⊎ ((c x y ≡ Ordering·eq) × (d u v ≡ Ordering·lt)) → (c y z ≡ Ordering·lt) ⊎ ((c y z ≡ Ordering·eq) × (d v w ≡ Ordering·lt)) → c x z and-then d u w ≡ Ordering·lt

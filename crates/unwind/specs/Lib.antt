@@ -16,6 +16,9 @@ pub mod Interns
 pub mod Routed
 pub mod Instance
 pub mod Ways
+pub mod Sources
+pub mod Entries
+pub mod Gather
 pub mod Add
 pub mod Walk
 pub mod Demand

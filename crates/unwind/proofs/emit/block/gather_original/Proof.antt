@@ -1,0 +1,45 @@
+-- `gather_original` meets its contract: it has copies, or does not return from b, or it does. Assumes nothing.
+use mathlib.Core.Path.{_≡_, refl, sym, ap, _∙_, subst}
+use mathlib.Core.List.{List, []}
+use native.Mathlib.Omega.{arith}
+use lib.ListN.{getD}
+use Rattle.image.specs.Image.{routesIn}
+use Rattle.unwind.specs.Nodes.{recordIn}
+use Rattle.unwind.specs.Gather.{recordExits}
+use Rattle.unwind.proofs.PoolLaws.{node-room, adds-none, adds-some, adds-record, node-in, node-copy, node-out}
+use borrow.Author.Needs.{needs}
+use Rattle.unwind.proofs.emit.block.gather_original.Statement.{statement}
+use Rattle.unwind.proofs.emit.block.gather_original.Tie as tie
+
+returns : tie.Need-returns
+returns c =
+    let start = c .before .before .before .before .before .before .before .before .before .before .before in
+    let a = start .args in
+    adds-some (routesIn (a .s .now) (a .y)) (a .b) (a .edges .now) (a .ends .now) (a .heads .now) (a .landings .now) (node-copy (routesIn (a .s .now) (a .y)) (a .b) (a .edges .now) (a .ends .now) (a .heads .now) (a .landings .now) (a .nodes .now) (a .bases .now) (a .returns .now) (a .i) (λ e. c .if1 .taken (c .before .number-at .ensures .0 ∙ e)))
+    (adds-none (routesIn (a .s .now) (a .y)) (a .b) (a .edges .now) (a .ends .now) (a .heads .now) (a .landings .now) (a .exits .now) (a .held) (start .pre .0))
+
+gather-node-requires : tie.Need-gather-node-requires
+gather-node-requires c κs =
+    let start = c .before .before .before .before .before .before .before .before .before .before .before .before .before .before in
+    let a = start .args in
+    (start .pre .0 .ordered, start .pre .1, node-room (routesIn (a .s .now) (a .y)) (a .b) (a .edges .now) (a .ends .now) (a .heads .now) (a .landings .now) (a .exits .now) (a .held) (recordIn (a .nodes .now) (a .i)) (start .pre .0) (start .pre .3))
+
+same-length : tie.Need-same-length
+same-length c = c .before .before .gather-node .ensures .long
+
+returns-2 : tie.Need-returns-2
+returns-2 c =
+    let start = c .before .before .before .before .before .before .before .before .before .before .before .before .before .before .before .before .before in
+    let a = start .args in
+    adds-some (routesIn (a .s .now) (a .y)) (a .b) (a .edges .now) (a .ends .now) (a .heads .now) (a .landings .now) (node-in (routesIn (a .s .now) (a .y)) (a .b) (a .edges .now) (a .ends .now) (a .heads .now) (a .landings .now) (a .nodes .now) (a .bases .now) (a .returns .now) (a .i) (sym (c .before .before .before .before .before .before .before .number-at .ensures .0) ∙ c .before .before .before .before .before .before .if1 .left) (sym (c .before .before .before .before .if2 .taken) ∙ c .before .before .before .before .before .in-set .ensures))
+    (adds-record (routesIn (a .s .now) (a .y)) (a .b) (a .edges .now) (a .ends .now) (a .heads .now) (a .landings .now) (recordIn (a .nodes .now) (a .i)) (start .pre .0) (start .pre .3) (c .before .before .gather-node .ensures))
+
+returns-3 : tie.Need-returns-3
+returns-3 c =
+    let start = c .before .before .before .before .before .before .before .before .before .before .before .before .before in
+    let a = start .args in
+    adds-some (routesIn (a .s .now) (a .y)) (a .b) (a .edges .now) (a .ends .now) (a .heads .now) (a .landings .now) (node-out (routesIn (a .s .now) (a .y)) (a .b) (a .edges .now) (a .ends .now) (a .heads .now) (a .landings .now) (a .nodes .now) (a .bases .now) (a .returns .now) (a .i) (sym (c .before .before .before .number-at .ensures .0) ∙ c .before .before .if1 .left) (sym (c .if2 .left) ∙ c .before .in-set .ensures))
+    (adds-none (routesIn (a .s .now) (a .y)) (a .b) (a .edges .now) (a .ends .now) (a .heads .now) (a .landings .now) (a .exits .now) (a .held) (start .pre .0))
+
+pub gather-original-spec : {M : Type 1} → statement M
+gather-original-spec = tie.close (tie.spec (λ c κs. search needs) returns (λ c κs. search needs) gather-node-requires same-length returns-2 returns-3)

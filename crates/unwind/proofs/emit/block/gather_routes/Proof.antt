@@ -1,0 +1,59 @@
+-- `gather_routes` meets its contract. The invariant: those passed are gathered. Assumes nothing.
+use mathlib.Core.Path.{_≡_, refl}
+use Prim.Native.Nat.{ℕ, _+_, _-_, _≤_}
+use native.Mathlib.Omega.{arith}
+use Rattle.image.specs.Image.{routesIn}
+use Rattle.graph.specs.Fold.{flat}
+use Rattle.unwind.specs.Gather.{routeRecords, Adds}
+use Rattle.unwind.proofs.PoolLaws.{adds-none, adds-next}
+use borrow.Author.Needs.{needs}
+use Rattle.unwind.proofs.emit.block.gather_routes.Statement.{statement}
+use Rattle.unwind.proofs.emit.block.gather_routes.Tie as tie
+
+abbrev Inv-loop : tie.InvT-loop
+Inv-loop s y nodes edges ends heads landings roots guards count b exits₀ held n₀ r₀ exits n r =
+    (r ≤ count) × Adds (routesIn s y) b edges ends heads landings exits₀ held (flat (routeRecords (routesIn s y) b edges ends heads landings nodes roots guards) r) exits n
+
+abbrev μ-loop : tie.MeasureT-loop
+μ-loop s y nodes edges ends heads landings roots guards count b exits₀ held n₀ r₀ exits n r = count - r
+
+loop-holds : tie.Need-loop-holds Inv-loop μ-loop
+unfolding flat
+loop-holds c =
+    let start = c .before .before .before .before .before .before .before .before .before in
+    let a = start .args in
+    (omega arith, adds-none (routesIn (a .s .now) (a .y)) (a .b) (a .edges .now) (a .ends .now) (a .heads .now) (a .landings .now) (a .exits .now) (a .held) (start .pre .0))
+
+gather-route-requires : tie.Need-gather-route-requires Inv-loop μ-loop
+gather-route-requires c κs =
+    let start = c .before .before .before .before .before .before .before .before .before .before .before .before in
+    let top = c .before .before .loop in
+    (top .inv .1 .pooled, start .pre .1, omega (arith, start .pre .2, c .before .loop-test .taken), start .pre .3 .fits (top .r) (omega (arith, c .before .loop-test .taken)))
+
+loop-again : tie.Need-loop-again Inv-loop μ-loop
+loop-again c =
+    let a = c .before .before .before .before .before .before .before .before .before .before .before .before .before .before .before .args in
+    let top = c .before .before .before .before .before .loop in
+    (omega (arith, c .before .before .before .before .loop-test .taken), adds-next (routesIn (a .s .now) (a .y)) (a .b) (a .edges .now) (a .ends .now) (a .heads .now) (a .landings .now) (routeRecords (routesIn (a .s .now) (a .y)) (a .b) (a .edges .now) (a .ends .now) (a .heads .now) (a .landings .now) (a .nodes .now) (a .roots .now) (a .guards .now)) (top .r) (top .inv .1) (c .before .before .gather-route .ensures))
+
+same-length : tie.Need-same-length Inv-loop μ-loop
+same-length c = c .before .loop .inv .1 .gathers .long
+
+returns : tie.Need-returns Inv-loop μ-loop
+returns c =
+    let all : c .before .loop .r ≡ c .before .before .before .before .before .before .before .before .before .before .before .args .count = omega (arith, c .before .loop .inv .0) in
+    rw all at (c .before .loop .inv .1)
+
+pub gather-routes-spec : {M : Type 1} → statement M
+gather-routes-spec =
+    tie.close
+    (tie.spec
+    Inv-loop
+    μ-loop
+    loop-holds
+    gather-route-requires
+    (λ c. search needs)
+    (λ c. search needs)
+    loop-again
+    same-length
+    returns)

@@ -1,0 +1,4 @@
+// The hops of an addition: the ways out of one block after the other, gathered in scratch, counted, and stored.
+mod block;
+pub mod entries;
+pub mod gather;

@@ -1,0 +1,160 @@
+// All ways out of a block that stood: of the routes that guard it, and of the nodes on the original blocks that return there.
+use crate::emit::gather::gather_node;
+use crate::tries::store::number_at;
+use image::section::RouteLayout;
+ghost use mathlib.Core.Path.{_≡_};
+ghost use mathlib.Core.List.{_++_};
+ghost use Prim.Native.Nat.{ℕ, _<_};
+ghost use lib.ListN.{getD};
+ghost use Rattle.image.specs.Image.{routesIn};
+ghost use Rattle.graph.specs.Fold.{flat};
+ghost use Rattle.unwind.specs.Nodes.{recordIn};
+ghost use Rattle.unwind.specs.Gather.{inSet, NodeFits, AllFit, routeRecords, nodeRecords, Pooled, Adds};
+
+// Those of the routes.
+fn gather_routes(
+    s: &[u8],
+    y: RouteLayout,
+    nodes: &[u16],
+    edges: &[u16],
+    ends: &[u16],
+    heads: &[u16],
+    landings: &[u16],
+    roots: &[u16],
+    guards: &[u64],
+    count: usize,
+    b: usize,
+    exits: &mut [u16],
+    held: usize,
+) -> usize
+    requires { ⌜ Pooled (routesIn (now s) y) b (now edges) (now ends) (now heads) (now landings) (now exits) held × (b < 65536) × (count < 65536) × AllFit (now nodes) (now edges) (now ends) (λ r. getD (now roots) r 0) count ⌝ }
+    ensures { λ r. ⌜ Adds (routesIn (now (s .entry)) y) b (now (edges .entry)) (now (ends .entry)) (now (heads .entry)) (now (landings .entry)) (now (exits .entry)) held (flat (routeRecords (routesIn (now (s .entry)) y) b (now (edges .entry)) (now (ends .entry)) (now (heads .entry)) (now (landings .entry)) (now (nodes .entry)) (now (roots .entry)) (now (guards .entry))) count) (now (exits .exit)) r ⌝ }
+{
+    let mut n = held;
+    for r in 0..count {
+        n = gather_route(
+            s,
+            y,
+            nodes,
+            edges,
+            ends,
+            heads,
+            landings,
+            roots,
+            guards,
+            r,
+            b,
+            exits,
+            n,
+        );
+    }
+    n
+}
+
+// Those of route r, if it guards b.
+fn gather_route(
+    s: &[u8],
+    y: RouteLayout,
+    nodes: &[u16],
+    edges: &[u16],
+    ends: &[u16],
+    heads: &[u16],
+    landings: &[u16],
+    roots: &[u16],
+    guards: &[u64],
+    r: usize,
+    b: usize,
+    exits: &mut [u16],
+    held: usize,
+) -> usize
+    requires { ⌜ Pooled (routesIn (now s) y) b (now edges) (now ends) (now heads) (now landings) (now exits) held × (b < 65536) × (r < 65536) × NodeFits (now edges) (now ends) (recordIn (now nodes) (getD (now roots) r 0)) ⌝ }
+    ensures { λ n. ⌜ Adds (routesIn (now (s .entry)) y) b (now (edges .entry)) (now (ends .entry)) (now (heads .entry)) (now (landings .entry)) (now (exits .entry)) held (routeRecords (routesIn (now (s .entry)) y) b (now (edges .entry)) (now (ends .entry)) (now (heads .entry)) (now (landings .entry)) (now (nodes .entry)) (now (roots .entry)) (now (guards .entry)) r) (now (exits .exit)) n ⌝ }
+{
+    if in_set(guards, r, b) {
+        let i = number_at(roots, r);
+        return gather_node(s, y, nodes, edges, ends, heads, landings, i, b, exits, held);
+    }
+    held
+}
+
+// Those of the nodes.
+fn gather_nodes(
+    s: &[u8],
+    y: RouteLayout,
+    nodes: &[u16],
+    edges: &[u16],
+    ends: &[u16],
+    heads: &[u16],
+    landings: &[u16],
+    bases: &[u16],
+    returns: &[u64],
+    count: usize,
+    b: usize,
+    exits: &mut [u16],
+    held: usize,
+) -> usize
+    requires { ⌜ Pooled (routesIn (now s) y) b (now edges) (now ends) (now heads) (now landings) (now exits) held × (b < 65536) × (count < 65536) × AllFit (now nodes) (now edges) (now ends) (λ i. i) count ⌝ }
+    ensures { λ r. ⌜ Adds (routesIn (now (s .entry)) y) b (now (edges .entry)) (now (ends .entry)) (now (heads .entry)) (now (landings .entry)) (now (exits .entry)) held (flat (nodeRecords (routesIn (now (s .entry)) y) b (now (edges .entry)) (now (ends .entry)) (now (heads .entry)) (now (landings .entry)) (now (nodes .entry)) (now (bases .entry)) (now (returns .entry))) count) (now (exits .exit)) r ⌝ }
+{
+    let mut n = held;
+    for i in 0..count {
+        n = gather_original(
+            s,
+            y,
+            nodes,
+            edges,
+            ends,
+            heads,
+            landings,
+            bases,
+            returns,
+            i,
+            b,
+            exits,
+            n,
+        );
+    }
+    n
+}
+
+// Those of node i, if it has the original blocks and returns from b.
+fn gather_original(
+    s: &[u8],
+    y: RouteLayout,
+    nodes: &[u16],
+    edges: &[u16],
+    ends: &[u16],
+    heads: &[u16],
+    landings: &[u16],
+    bases: &[u16],
+    returns: &[u64],
+    i: usize,
+    b: usize,
+    exits: &mut [u16],
+    held: usize,
+) -> usize
+    requires { ⌜ Pooled (routesIn (now s) y) b (now edges) (now ends) (now heads) (now landings) (now exits) held × (b < 65536) × (i < 65536) × NodeFits (now edges) (now ends) (recordIn (now nodes) i) ⌝ }
+    ensures { λ r. ⌜ Adds (routesIn (now (s .entry)) y) b (now (edges .entry)) (now (ends .entry)) (now (heads .entry)) (now (landings .entry)) (now (exits .entry)) held (nodeRecords (routesIn (now (s .entry)) y) b (now (edges .entry)) (now (ends .entry)) (now (heads .entry)) (now (landings .entry)) (now (nodes .entry)) (now (bases .entry)) (now (returns .entry)) i) (now (exits .exit)) r ⌝ }
+{
+    if number_at(bases, i) != 0 {
+        return held;
+    }
+    if in_set(returns, i, b) {
+        return gather_node(s, y, nodes, edges, ends, heads, landings, i, b, exits, held);
+    }
+    held
+}
+
+// Whether set i has block b.
+pub fn in_set(sets: &[u64], i: usize, b: usize) -> bool
+    requires { ⌜ i < 65536 ⌝ }
+    ensures { λ r. ⌜ r ≡ inSet (now (sets .entry)) i b ⌝ }
+{
+    if b < 1024 {
+        let k = 16 * i + b / 64;
+        if k < sets.len() {
+            return (sets[k] >> (b % 64)) % 2 == 1;
+        }
+    }
+    false
+}

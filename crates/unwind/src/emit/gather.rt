@@ -1,0 +1,123 @@
+// The ways out of one block, gathered from the nodes of the trie into sorted scratch.
+use crate::emit::entries::LEAVE;
+use crate::emit::entries::put_entry;
+use crate::tries::store::Branch;
+use crate::tries::store::branch_at;
+use crate::tries::store::node_at;
+use crate::tries::store::number_at;
+use image::access::path_at;
+use image::section::RouteLayout;
+ghost use mathlib.Core.Path.{_≡_};
+ghost use Prim.Native.Nat.{_+_, _*_, _≤_, _<_};
+ghost use lib.ListN.{length};
+ghost use Rattle.image.specs.Image.{routesIn};
+ghost use Rattle.unwind.specs.Nodes.{recordIn, BranchSmall};
+ghost use Rattle.unwind.specs.Entries.{Ordered};
+ghost use Rattle.unwind.specs.Gather.{EntryTo, endNumber, endExits, recordExits, Gathers, GathersEdges};
+
+const HANDLER: u64 = 0;
+
+const PROPAGATE: u64 = 1;
+
+// Those of node i, out of block b: `heads` has the entry of each node, `landings` the block of each end that is a handler.
+pub fn gather_node(
+    s: &[u8],
+    y: RouteLayout,
+    nodes: &[u16],
+    edges: &[u16],
+    ends: &[u16],
+    heads: &[u16],
+    landings: &[u16],
+    i: usize,
+    b: usize,
+    exits: &mut [u16],
+    held: usize,
+) -> usize
+    requires { ⌜ Ordered (routesIn (now s) y) (now exits) held × (b < 65536) × (3 * (held + (recordIn (now nodes) i .edges + recordIn (now nodes) i .ends)) ≤ length (now exits)) ⌝ }
+    ensures { λ r. ⌜ Gathers (routesIn (now (s .entry)) y) b (now (exits .entry)) held (recordExits (routesIn (now (s .entry)) y) b (now (edges .entry)) (now (ends .entry)) (now (heads .entry)) (now (landings .entry)) (recordIn (now (nodes .entry)) i)) (now (exits .exit)) r ⌝ }
+{
+    let node = node_at(nodes, i);
+    let n = gather_edges(s, y, edges, heads, node.first_edge, node.edges, exits, held);
+    gather_ends(s, y, ends, landings, node.first_end, node.ends, b, exits, n)
+}
+
+// Those of the `count` edges from `first` on.
+fn gather_edges(
+    s: &[u8],
+    y: RouteLayout,
+    edges: &[u16],
+    heads: &[u16],
+    first: usize,
+    count: usize,
+    exits: &mut [u16],
+    held: usize,
+) -> usize
+    requires { ⌜ Ordered (routesIn (now s) y) (now exits) held × (first < 65536) × (3 * (held + count) ≤ length (now exits)) ⌝ }
+    ensures { λ r. ⌜ GathersEdges (routesIn (now (s .entry)) y) (now (exits .entry)) held (now (edges .entry)) (now (heads .entry)) first count (now (exits .exit)) r ⌝ }
+{
+    let mut n = held;
+    for k in 0..count {
+        let e = branch_at(edges, first + k);
+        let end = number_at(heads, e.what);
+        n = put_entry(s, y, exits, n, entry_to(e, end));
+    }
+    n
+}
+
+// Those of the `count` ends from `first` on, out of block b.
+fn gather_ends(
+    s: &[u8],
+    y: RouteLayout,
+    ends: &[u16],
+    landings: &[u16],
+    first: usize,
+    count: usize,
+    b: usize,
+    exits: &mut [u16],
+    held: usize,
+) -> usize
+    requires { ⌜ Ordered (routesIn (now s) y) (now exits) held × (first < 65536) × (b < 65536) × (3 * (held + count) ≤ length (now exits)) ⌝ }
+    ensures { λ r. ⌜ Gathers (routesIn (now (s .entry)) y) b (now (exits .entry)) held (endExits (routesIn (now (s .entry)) y) b (now (ends .entry)) (now (landings .entry)) first count) (now (exits .exit)) r ⌝ }
+{
+    let mut n = held;
+    for k in 0..count {
+        let e = branch_at(ends, first + k);
+        let end = end_number(s, y, landings, e.what, first + k, b);
+        n = put_entry(s, y, exits, n, entry_to(e, end));
+    }
+    n
+}
+
+// The number of the end of path p, which is end k of the trie, out of block b.
+fn end_number(s: &[u8], y: RouteLayout, landings: &[u16], p: usize, k: usize, b: usize) -> usize
+    requires { ⌜ b < 65536 ⌝ }
+    ensures { λ r. ⌜ (r ≡ endNumber (routesIn (now (s .entry)) y) b (now (landings .entry)) p k) × (r < 65536) ⌝ }
+{
+    let end = path_at(s, y.paths, p).end;
+    if end == HANDLER {
+        return number_at(landings, k);
+    }
+    if end == PROPAGATE {
+        return LEAVE;
+    }
+    b
+}
+
+// With the calls of e. No calls stand nowhere, so that the numbers of an entry hang on what it says alone.
+fn entry_to(e: Branch, end: usize) -> Branch
+    requires { ⌜ BranchSmall e × (end < 65536) ⌝ }
+    ensures { λ r. ⌜ EntryTo e end r ⌝ }
+{
+    if e.calls == 0 {
+        return Branch {
+            step: 0,
+            calls: 0,
+            what: end,
+        };
+    }
+    Branch {
+        step: e.step,
+        calls: e.calls,
+        what: end,
+    }
+}
