@@ -43,8 +43,14 @@ pub extern "C" fn foldzine_reached(g: &Words) -> ReachedCount
     let r = reached(g);
     let found = r.found;
     match found {
-        Checked::Clear => ReachedCount { number: 0, count: r.count as u64 },
-        Checked::Refused(_) => ReachedCount { number: 21, count: 0 },
+        Checked::Clear => ReachedCount {
+            number: 0,
+            count: r.count as u64,
+        },
+        Checked::Refused(_) => ReachedCount {
+            number: 21,
+            count: 0,
+        },
     }
 }
 

@@ -37,14 +37,15 @@ returns-2 c =
 
 store-graph-requires : tie.Need-store-graph-requires
 store-graph-requires c κs =
-    let start = c .before .before .before .before .before .before .before .before .before .before .before .before in
-    (record {
-      accepted = start .pre;
-      passed = sym (rw (c .before .before .before .before .before .before .before .enum-told .given .1) at (c .before .before .before .before .before .before .before .before .before .check-input .ensures));
-      ended = c .before .before .before .before .before .before .before .before .before .before .code-end .ensures;
-      leading = c .before .before .before .before .before .before .leaders .ensures;
-    },
-    sym (rw (c .before .before .enum-told2 .given .1) at (c .before .before .before .before .check-result .ensures)))
+    let start = c .before .before .before .before .before .before .before .before .before .before .before .before in (
+      record {
+        accepted = start .pre;
+        passed = sym (rw (c .before .before .before .before .before .before .before .enum-told .given .1) at (c .before .before .before .before .before .before .before .before .before .check-input .ensures));
+        ended = c .before .before .before .before .before .before .before .before .before .before .code-end .ensures;
+        leading = c .before .before .before .before .before .before .leaders .ensures;
+      },
+      sym (rw (c .before .before .enum-told2 .given .1) at (c .before .before .before .before .check-result .ensures)),
+    )
 
 returns-3 : tie.Need-returns-3
 returns-3 c =

@@ -18,7 +18,7 @@ returns c =
     let start = c .before .before .before .before .before .before .before .before in
     let m = imageIn (start .args .s .now) (start .args .y) in
     code-laid m (start .pre .0) (c .before .before .before .before .empty .ensures) (c .before .before .store-table .ensures)
-        (c .store-blocks .ensures m (length-records instructionFrom (start .args .s .now) (start .args .y .code .instructions)) (start .pre .1))
+    (c .store-blocks .ensures m (length-records instructionFrom (start .args .s .now) (start .args .y .code .instructions)) (start .pre .1))
 
 pub store-code-spec : {M : Type 1} → statement M
 store-code-spec =

@@ -37,8 +37,7 @@ add-regions-requires c κs =
     let m = imageIn (a .s .now) (a .y) in
     let b = start .pre .0 in
     let p = parts m (b .passed) in
-    let n = length-records instructionFrom (a .s .now) (a .y .code .instructions) in
-    (
+    let n = length-records instructionFrom (a .s .now) (a .y .code .instructions) in (
       (handled m (b .accepted) p _ (numbered m (b .accepted) p _ (λ q h. c .before .before .before .before .before .before .before .block-numbers .ensures m n (b .leading) q (omega arith))), b .ended),
       ready m (b .accepted) p (start .pre .1) (c .before .before .before .before .before .store-code .ensures) (c .before .before .store-edges .ensures),
     )
