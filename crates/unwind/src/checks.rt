@@ -1,6 +1,8 @@
 // The checks of an addition's routes, before anything is made of them: 10 to 12, 15 and 17.
+use crate::blocks::Lead;
 use crate::blocks::block_from;
 use crate::blocks::find_start;
+use crate::blocks::leading_block;
 use crate::blocks::position;
 use graph::error::AddressBuildError;
 use graph::error::Checked;
@@ -31,7 +33,7 @@ ghost use Rattle.graph.specs.Route.{stepsBefore};
 ghost use Rattle.graph.specs.Ranges.{Placed};
 ghost use Rattle.graph.specs.WellFormed.{Built};
 ghost use Rattle.unwind.specs.Stands.{Stands, routeOf};
-ghost use Rattle.unwind.specs.Add.{rangeLeads, routeCheck};
+ghost use Rattle.unwind.specs.Add.{leadCheck, rangeLeads, routeCheck};
 
 // The first refusal among those of the routes. The scan carries along where a route's paths and their steps start.
 pub fn check_routes(g: &Words, built: usize, s: &[u8], y: RouteLayout) -> Checked
@@ -80,6 +82,20 @@ fn check_route(
         return Checked::Refused(AddressBuildError::ResumeAfterFunclet { route: r });
     }
     check_leads(g, built, start, end)
+}
+
+// 14 and 17 of an address that a node names: it starts a built block.
+pub fn check_lead(g: &Words, built: usize, a: u64) -> Checked
+    requires { ⌜ Stands (heldIn (now g) .graph) × Built (heldIn (now g) .graph) built ⌝ }
+    ensures { λ r. ⌜ checkOf r ≡ leadCheck (heldIn (now (g .entry)) .graph) a ⌝ }
+{
+    match leading_block(g, built, a) {
+        Lead::Leads(_) => Checked::Clear,
+        Lead::Inside => Checked::Refused(AddressBuildError::RouteAddressNotBlockStart {
+            address: a,
+        }),
+        Lead::Absent => Checked::Refused(AddressBuildError::MissingRouteEntry { address: a }),
+    }
 }
 
 // Where the steps of the path behind the n paths from `path` on start, if theirs start at `step`.
