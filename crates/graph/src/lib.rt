@@ -9,7 +9,7 @@ pub mod error;
 mod leaders;
 pub mod lookup;
 mod marks;
-pub mod ranges;
+mod ranges;
 pub mod reach;
 pub mod record;
 mod regions;
