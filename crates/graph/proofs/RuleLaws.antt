@@ -4,9 +4,11 @@
 --     sum-more, sum-le             one number more, and a sum grows
 --     rest-none                    nothing is left of a whole
 --     built-all, built-stop        blocks up to one that is built are; none is behind the one that fills the table
+--     filled-le, filled-more       what is filled grows
 --     some-from, all-from          what holds of none, or each, below k and from k on
 --     inPlace, place-test, place-fits     a built block begins where those before it end, and stays in the table
 --     covers-not, covers-full, covers-end     a block out of place, the one that fills the table, and none does
+--     covers-place, runs, first-is, rises     where the blocks of a graph that passes begin
 --     isRun, runs-built, run-copy  a block is built or repeats one that is
 --     Between, go-left, go-right, repeats-here, repeats-nowhere     a search by halving for the built run that a copy repeats
 --     Stands, stands               each phrase of a graph that the rule lets pass

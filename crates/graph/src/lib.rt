@@ -14,7 +14,7 @@ mod exceptions;
 mod leaders;
 pub mod lookup;
 mod marks;
-pub mod ranges;
+mod ranges;
 pub mod reach;
 pub mod record;
 mod regions;

@@ -5,28 +5,29 @@
 --     before-next                  the next instruction and the next block
 --     lead-all                     all instructions of the range lead theirs
 --     route-checks                 10 to 12, 15 and 17 of a route of an image
+--     table-some                   where a route passes there is an instruction
 -- Assumes nothing.
 use mathlib.Core.Path.{_≡_, refl, sym, ap, _∙_}
-use mathlib.Core.Bool.{Bool, true, false, cond, not, _&&_, and-false}
+use mathlib.Core.Bool.{Bool, true, false, cond, not, _&&_, _||_, and-false}
 use mathlib.Core.List.{List, [], map}
 use Prim.Native.Nat.{ℕ, suc, _+_, _≤_, _<_}
 use native.Mathlib.Decide.{decLt, ℕ-discrete}
 use native.Mathlib.Omega.{arith}
 use borrow.Author.Tests.{lt-ltb, le-ltb, lt-leb, le-leb}
-use lib.Dec.{leb, ltb}
+use lib.Dec.{eqb, leb, ltb}
 use lib.ListN.{length, getD}
 use Rattle.image.specs.Record.{routeFrom}
 use Rattle.image.specs.Refusal.{clear, refused, refusal, _then_, unless, checks}
 use Rattle.image.specs.Image.{RouteImage}
 use Rattle.image.specs.Deal.{deal, UnwindPath, UnwindRoute, pathsOf, routesOf}
 use Rattle.image.specs.declared.record.Route.{Route}
-use Rattle.image.proofs.Checks.{checks-each}
+use Rattle.image.proofs.Checks.{checks-each, then-left, then-right, unless-clear}
 use Rattle.graph.specs.Graph.{Graph, block}
-use Rattle.graph.specs.Table.{entryAt, below, rangeCheck}
+use Rattle.graph.specs.Table.{entryAt, isStart, below, codeEnd, rangeCheck}
 use Rattle.graph.specs.Route.{routeAt, resumesLate}
 use Rattle.graph.specs.WellFormed.{Built}
 use Rattle.graph.proofs.CheckLaws.{checks-clear}
-use Rattle.graph.proofs.TableLaws.{start-at, below-at}
+use Rattle.graph.proofs.TableLaws.{start-at, start-has, below-at}
 use Rattle.graph.proofs.RouteLaws.{route-is}
 use Rattle.unwind.specs.Blocks.{Leading, leads, inside, leading, within}
 use Rattle.unwind.specs.Stands.{Stands, Before, routeOf}
@@ -105,3 +106,17 @@ pub route-checks : (g : Graph) (m : RouteImage) (r : ℕ) → r < length (m .rou
 unfolding routeCheck
 route-checks g m r h =
     ap (λ (x : UnwindRoute). rangeCheck (g .table) (x .start) (x .end) then unless (not (resumesLate (routeAt (routesOf m) r))) (refusal 15 r 0) then checks (rangeLeads g x) (length (g .table))) (route-is m r h)
+
+-- routes that pass have an instruction to cover
+pub table-some : (g : Graph) (rs : List UnwindRoute) → 0 < length rs → checks (routeCheck g rs) (length rs) ≡ clear → 0 < length (g .table)
+unfolding routeCheck rangeCheck
+table-some g rs h passed =
+    let r = routeAt rs 0 in
+    let order = unless (ltb (r .start) (r .end)) (refusal 10 (r .start) (r .end)) in
+    let starts = unless (isStart (g .table) (r .start)) (refusal 11 (r .start) 0) in
+    let ends = unless (eqb (r .end) (codeEnd (g .table)) || isStart (g .table) (r .end)) (refusal 12 (r .end) 0) in
+    let late = unless (not (resumesLate r)) (refusal 15 0 0) in
+    let first : (order then starts then ends then late then checks (rangeLeads g r) (length (g .table))) ≡ clear = checks-each (routeCheck g rs) (length rs) 0 passed h in
+    let range : (order then starts then ends) ≡ clear = then-left (order then starts then ends) late (then-left (order then starts then ends then late) (checks (rangeLeads g r) (length (g .table))) first) in
+    let start = start-has (g .table) (r .start) (unless-clear (isStart (g .table) (r .start)) (refusal 11 (r .start) 0) (then-right order starts (then-left (order then starts) ends range))) in
+    omega (arith, start .1)
