@@ -26,4 +26,5 @@ pub mod TrieGroups
 pub mod TrieIntern
 pub mod TrieWork
 pub mod TrieRoutes
+pub mod TrieRead
 pub mod TrieStore
