@@ -1,5 +1,5 @@
 // The tries of the routes, in scratch that a caller lends. `trie.rs`.
-mod compare;
+pub mod compare;
 mod intern;
 mod keys;
 mod lay;
