@@ -32,6 +32,7 @@ pub mod TrieGroups
 pub mod TrieIntern
 pub mod TrieWork
 pub mod TrieRoutes
+pub mod TrieRead
 pub mod TrieStore
 pub mod NodeChecks
 pub mod Rising

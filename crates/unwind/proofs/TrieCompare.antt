@@ -4,6 +4,7 @@
 --                                                            place i on
 --     ends-handlers, ends-first, ends-others                 ends compared by their numbers
 --     tagged-less, tagged-greater, tagged-equal              the tags decide, or what comes after them
+--     branches-less, branches-greater                        the same of branches
 -- Assumes nothing.
 use mathlib.Core.Path.{_≡_, refl}
 use mathlib.Core.Bool.{Bool, true, false, cond}
@@ -18,7 +19,11 @@ use Rattle.image.specs.Image.{RouteImage}
 use Rattle.image.specs.Deal.{handler, propagate, resume, endOf}
 use Rattle.image.specs.declared.record.Path.{Path}
 use Rattle.unwind.specs.Order.{Tagged, _and-then_, compareTags, compareEnds, compareTagged}
-use Rattle.unwind.specs.Nodes.{stepIn, tagsIn}
+use Rattle.unwind.specs.declared.tries.store.Branch.{Branch}
+use Rattle.unwind.specs.declared.tries.compare.Kind.{Kind}
+use Rattle.unwind.specs.declared.tries.compare.Kind.the-variants.{Edges, Ends}
+use Rattle.unwind.specs.Nodes.{stepIn, tagsIn, edgeOf, endAt}
+use Rattle.unwind.specs.Interning.{ordered, meaning}
 
 module _ (m : RouteImage) where
   module _ (a n i : ℕ) where
@@ -108,3 +113,17 @@ module _ {A : Type 0} (c : A → A → Ordering) (x y : Tagged A) where
   pub tagged-equal : compareTags (x .calls) (y .calls) ≡ Ordering·eq → compareTagged c x y ≡ c (x .what) (y .what)
   unfolding compareTagged _and-then_
   tagged-equal e = rw e
+
+module _ (m : RouteImage) (a b : Branch) where
+  abbrev compared : Ordering
+  compared = compareTags (tagsIn m (a .step) (a .calls)) (tagsIn m (b .step) (b .calls))
+
+  pub branches-less : (k : Kind) → compared ≡ Ordering·lt → ordered k (meaning m k a) (meaning m k b) ≡ Ordering·lt
+  unfolding edgeOf endAt
+  branches-less Edges e = tagged-less compare (edgeOf m a) (edgeOf m b) e
+  branches-less Ends e = tagged-less compareEnds (endAt m a) (endAt m b) e
+
+  pub branches-greater : (k : Kind) → compared ≡ Ordering·gt → ordered k (meaning m k a) (meaning m k b) ≡ Ordering·gt
+  unfolding edgeOf endAt
+  branches-greater Edges e = tagged-greater compare (edgeOf m a) (edgeOf m b) e
+  branches-greater Ends e = tagged-greater compareEnds (endAt m a) (endAt m b) e

@@ -13,7 +13,7 @@ use Rattle.image.specs.Deal.{funclet, call, UnwindPath}
 use Rattle.unwind.specs.Order.{Tagged}
 use Rattle.unwind.specs.Trie.{Node, Interned, groups, rest, create, Children, internEach, nodeOf, intern, longest}
 use Rattle.unwind.specs.Walk.{_∈_}
-use Rattle.unwind.specs.Grown.{interned}
+use Rattle.unwind.specs.Interns.{interned}
 use Rattle.unwind.proofs.Paths.{rest-mem, groups-mem}
 
 pub longest-short : (ps : List UnwindPath) (p : UnwindPath) → p ∈ ps → length (p .steps) ≤ longest ps

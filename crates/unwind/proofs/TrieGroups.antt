@@ -26,12 +26,11 @@ use Rattle.unwind.specs.Walk.{_∈_}
 use Rattle.unwind.specs.Interning.{isLt, after, sameStep, strip, leftWith, stepsIn, leftAt, pathsOf}
 use Rattle.unwind.specs.Keys.{keySteps, keysOf, keyIn, Stands}
 use Rattle.unwind.specs.Laid.{endsList}
-use Rattle.unwind.specs.Grown.{weight}
-use Rattle.unwind.specs.Interns.{groupBehind}
+use Rattle.unwind.specs.Interns.{weight, groupBehind}
 use Rattle.unwind.proofs.Lists.{none-in}
 use Rattle.unwind.proofs.Order.{mem-sorted}
 use Rattle.unwind.proofs.Paths.{exact-key, enters-path, groups-mem}
-use Rattle.unwind.proofs.TrieOrder.{Total, total-number, total-tagged, self-eq, eq-same, is-lt}
+use Rattle.unwind.proofs.TrieOrder.{total-key, self-eq, eq-same, is-lt}
 use Rattle.unwind.proofs.TriePaths.{steps-append}
 use Rattle.unwind.proofs.TrieKeys.{joined-flat, joined-one}
 
@@ -113,9 +112,6 @@ module _ (m : RouteImage) (g : Group) (key : Key) (stands : Stands m g key) wher
 
 abbrev order : Tagged ℕ → Tagged ℕ → Ordering
 order = compareTagged compare
-
-total-key : Total order
-total-key = total-tagged compare total-number
 
 pub sumOf : (UnwindPath → ℕ) → List UnwindPath → ℕ
 sumOf φ [] = 0

@@ -29,15 +29,9 @@ use Rattle.unwind.specs.Nodes.{tagsIn, branchIn, branches, edgeOf, endAt
 use Rattle.unwind.specs.Interning.{stepsIn, leftAt, pathsOf, LeftOf, cutOf, Cuts}
 use Rattle.unwind.specs.Runs.{RunPut}
 use Rattle.unwind.specs.Laid.{endsList, endingOf, EndOf, EndLaid, EndsLaid, EdgesLaid}
-use Rattle.unwind.proofs.TrieOrder.{Total, total-number, total-ends, total-tagged, sorted-behind}
+use Rattle.unwind.proofs.TrieOrder.{total-key, total-end, sorted-behind}
 use Rattle.unwind.proofs.TrieKeys.{joined-flat, joined-one, left-none, left-some}
 use Rattle.unwind.proofs.TrieRuns.{branches-more}
-
-total-end : Total (compareTagged compareEnds)
-total-end = total-tagged compareEnds total-ends
-
-total-edge : Total (compareTagged compare)
-total-edge = total-tagged compare total-number
 
 module _ (m : RouteImage) (g : Group) where
   pub ends-flat : endsList (pathsOf m g) ≡ flat (λ k. endsList (leftAt m g (g .first + k))) (g .count)
@@ -147,7 +141,7 @@ module _ (m : RouteImage) (stack : List ℕ) (top : ℕ) (l : List ℕ) (a : ℕ
         laid = record {
           run =
               done .run
-              ∙ rw (so-far .laid .run, is) (sym (sorted-behind (compareTagged compare) total-edge (map (edgeOf m) (branches stack top k)) (edgeOf m (branchIn stack (top + k)))))
+              ∙ rw (so-far .laid .run, is) (sym (sorted-behind (compareTagged compare) total-key (map (edgeOf m) (branches stack top k)) (edgeOf m (branchIn stack (top + k)))))
               ∙ ap (sorted (compareTagged compare)) (sym (map-append (edgeOf m) (branches stack top k) (branchIn stack (top + k) ∷ [])) ∙ ap (map (edgeOf m)) (sym (branches-more stack top k)));
           most = omega (arith, done .most, so-far .laid .most);
           others = λ i h. done .others i h ∙ so-far .laid .others i h;

@@ -1,6 +1,6 @@
 -- Comparisons that order all things: lists sorted by putting, in any order, and by taking the least over and over.
 --     turned, Total                the other way round; a comparison that orders all things
---     total-number, total-tags, total-ends, total-tagged
+--     total-number, total-tags, total-ends, total-tagged, total-key, total-end
 --     put-comm, put-again          two are put in either order, and one a second time
 --     sorted-behind                one more behind the list
 --     put-member                   a member is put again
@@ -203,6 +203,12 @@ total-tagged c total =
           (sym (turn-then (compareTags (x .calls) (y .calls)) (c (x .what) (y .what))));
       trans = λ x y z p q. then-trans compareTags total-tags c total (x .calls) (y .calls) (z .calls) (x .what) (y .what) (z .what) p q;
     }
+
+pub total-key : Total (compareTagged compare)
+total-key = total-tagged compare total-number
+
+pub total-end : Total (compareTagged compareEnds)
+total-end = total-tagged compareEnds total-ends
 
 -- ---- putting
 

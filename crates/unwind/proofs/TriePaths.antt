@@ -9,7 +9,7 @@
 -- Assumes nothing.
 use mathlib.Core.Path.{_≡_, refl, sym, ap, ap₂, _∙_}
 use mathlib.Core.Bool.{Bool, true, false, cond, _&&_, false≢true}
-use mathlib.Core.List.{List, [], _∷_, _++_, map}
+use mathlib.Core.List.{List, [], _∷_, _++_, map, map-append}
 use mathlib.Core.Option.{none, some}
 use Prim.Native.Nat.{ℕ, zero, suc, _+_, _-_, _≤_, _<_}
 use native.Mathlib.Nat.{add-zero, sub-zero}
@@ -82,10 +82,6 @@ upon-enters : (l : List ℕ) (f : ℕ) (s : List UnwindStep) → upon l (enters 
 unfolding behind
 upon-enters [] f s = refl
 upon-enters (c ∷ l) f s = rw (upon-enters l f s)
-
-map-append : {A B : Type 0} (f : A → B) (l k : List A) → map f (l ++ k) ≡ map f l ++ map f k
-map-append f [] k = refl
-map-append f (x ∷ l) k = ap (λ (t : List _). f x ∷ t) (map-append f l k)
 
 module _ (m : RouteImage) where
   -- ---- runs

@@ -27,8 +27,7 @@ use Rattle.unwind.specs.declared.tries.nodes.Interned.{Interned}
 use Rattle.unwind.specs.Trie.{Node, Interned as Made, Tries, internRoutes, tries}
 use Rattle.unwind.specs.Nodes.{funcletIn, nodesIn, Stored}
 use Rattle.unwind.specs.Interning.{strip, stepsIn, leftAt, pathsOf, Starts}
-use Rattle.unwind.specs.Grown.{interned, weight}
-use Rattle.unwind.specs.Interns.{funcletOf, Grouped, Room, Interns}
+use Rattle.unwind.specs.Interns.{interned, weight, funcletOf, Grouped, Room, Interns}
 use Rattle.unwind.specs.Routed.{Scratch, TriesIn}
 use Rattle.unwind.proofs.Lists.{at-lt}
 use Rattle.unwind.proofs.Intern.{Rooted, no-more, rooted, tries-law}

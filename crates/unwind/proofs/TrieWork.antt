@@ -30,11 +30,10 @@ use Rattle.unwind.specs.Nodes.{branchIn, branches, tagsIn, funcletIn, ed
 use Rattle.unwind.specs.Interning.{after, nearest, pathsOf}
 use Rattle.unwind.specs.Keys.{keysOf, keyIn, keyOf, KeyIn, NextOf}
 use Rattle.unwind.specs.Laid.{endsList}
-use Rattle.unwind.specs.Grown.{interned, weight}
-use Rattle.unwind.specs.Interns.{groupBehind, funcletOf, Grouped, Room, Closes, Interns}
+use Rattle.unwind.specs.Interns.{interned, weight, groupBehind, funcletOf, Grouped, Room, Closes, Interns}
 use Rattle.unwind.proofs.Order.{mem-sorted}
 use Rattle.unwind.proofs.Paths.{exact-key}
-use Rattle.unwind.proofs.TrieOrder.{Total, total-number, total-tagged, next-none, next-in, next-some}
+use Rattle.unwind.proofs.TrieOrder.{total-key, next-none, next-in, next-some}
 use Rattle.unwind.proofs.TrieRuns.{branches-more, branches-same}
 use Rattle.unwind.proofs.TrieFuel.{rest-falls, interned-is}
 use Rattle.unwind.proofs.TrieGroups.{rest-paths, stepsAhead, pathsAhead, steps-start, paths-start, steps-step, paths-step, rest-some}
@@ -42,9 +41,6 @@ use Rattle.unwind.proofs.TrieIntern.{funclet-behind}
 
 abbrev order : Tagged ℕ → Tagged ℕ → Ordering
 order = compareTagged compare
-
-total-key : Total order
-total-key = total-tagged compare total-number
 
 keep-all : (l : List (Tagged ℕ)) → keep (λ (x : Tagged ℕ). true) l ≡ l
 unfolding keep
@@ -149,6 +145,21 @@ module _ (m : RouteImage) (g : Group) where
 
     module _ (room : Room nodes₀ edges₀ ends₀ stack₀ c₀ top (suc (weight (pathsOf m g))) (weight (pathsOf m g)) (length (pathsOf m g)))
         (nodes edges ends stack : List ℕ) (c : Counts) (n : ℕ) (last : NextKey) (work : Working nodes edges ends stack c n last) where
+      -- what is left of the room
+      room-left : (at n′ e d : ℕ) → c .nodes + n′ ≤ c₀ .nodes + suc (weight (pathsOf m g)) → c .edges + e ≤ c₀ .edges + weight (pathsOf m g)
+          → c .ends + d ≤ c₀ .ends + length (pathsOf m g) → at + e ≤ top + weight (pathsOf m g) → Room nodes edges ends stack c at n′ e d
+      room-left at n′ e d h₁ h₂ h₃ h₄ =
+          record {
+            nodes-few = omega (arith, room .nodes-few);
+            edges-few = omega (arith, room .edges-few);
+            ends-few = omega (arith, room .ends-few);
+            stack-few = omega (arith, room .stack-few);
+            nodes-fit = omega (arith, room .nodes-fit, work .nodes-long);
+            edges-fit = omega (arith, room .edges-fit, work .edges-long);
+            ends-fit = omega (arith, room .ends-fit, work .ends-long);
+            stack-fit = omega (arith, room .stack-fit, work .stack-long);
+          }
+
       -- ---- one group more
 
       module _ (key : Key) (next : NextOf m g last (At key)) where
@@ -158,16 +169,7 @@ module _ (m : RouteImage) (g : Group) where
             let k₀ = k .0 in
             let k₁ = k .1 in
             let k₂ = k .2 in
-            record {
-              nodes-few = omega (arith, room .nodes-few, work .nodes-most);
-              edges-few = omega (arith, room .edges-few, work .edges-most);
-              ends-few = omega (arith, room .ends-few, work .ends-most);
-              stack-few = omega (arith, room .stack-few, work .stack-most);
-              nodes-fit = omega (arith, room .nodes-fit, work .nodes-most, work .nodes-long);
-              edges-fit = omega (arith, room .edges-fit, work .edges-most, work .edges-long);
-              ends-fit = omega (arith, room .ends-fit, work .ends-most, work .ends-long);
-              stack-fit = omega (arith, room .stack-fit, work .stack-most, work .stack-long);
-            }
+            room-left (top + n) _ _ _ (omega (arith, work .nodes-most)) (omega (arith, work .edges-most)) (omega (arith, work .ends-most)) (omega (arith, work .stack-most))
 
         pub push-room : (top + n < 512) × (3 * (top + n) + 3 ≤ length stack)
         push-room =
@@ -259,16 +261,7 @@ module _ (m : RouteImage) (g : Group) where
       module _ (next : NextOf m g last Nothing) where
         pub close-room : Room nodes edges ends stack c top 1 n (length (endsList (pathsOf m g)))
         close-room =
-            record {
-              nodes-few = omega (arith, room .nodes-few, work .nodes-most);
-              edges-few = omega (arith, room .edges-few, work .edges-most);
-              ends-few = omega (arith, room .ends-few, work .ends-most);
-              stack-few = omega (arith, room .stack-few, work .stack-most);
-              nodes-fit = omega (arith, room .nodes-fit, work .nodes-most, work .nodes-long);
-              edges-fit = omega (arith, room .edges-fit, work .edges-most, work .edges-long);
-              ends-fit = omega (arith, room .ends-fit, work .ends-most, work .ends-long);
-              stack-fit = omega (arith, room .stack-fit, work .stack-most, work .stack-long);
-            }
+            room-left top _ _ _ (omega (arith, work .nodes-most)) (omega (arith, work .edges-most)) (omega (arith, work .ends-most)) (omega (arith, work .stack-most))
 
         none-is : internEach made (pathsOf m g) (left last) (nodesIn m nodes edges ends (c .nodes)) ≡ record { edges = []; trie = nodesIn m nodes edges ends (c .nodes) }
         unfolding internEach

@@ -3,7 +3,7 @@ use mathlib.Core.Path.{_≡_}
 use mathlib.Core.Bool.{Bool, true, false, cond, _&&_}
 use mathlib.Core.List.{List, [], _∷_, _++_, map}
 use mathlib.Core.Option.{Option, none, some}
-use Prim.Native.Nat.{ℕ, zero, suc, _+_, _-_, _≤_, _<_, Ordering, Ordering·lt, Ordering·eq, Ordering·gt}
+use Prim.Native.Nat.{ℕ, zero, suc, _+_, _-_, _≤_, _<_, compare, Ordering, Ordering·lt, Ordering·eq, Ordering·gt}
 use lib.Dec.{eqb}
 use lib.ListN.{length, getD}
 use Rattle.image.specs.Image.{RouteImage}
@@ -12,18 +12,35 @@ use Rattle.graph.specs.Fold.{flat}
 use Rattle.graph.specs.Route.{stepsBefore, pathIn}
 use Rattle.unwind.specs.declared.tries.compare.Order.{Order}
 use Rattle.unwind.specs.declared.tries.compare.Order.the-variants.{Less, Equal, Greater}
+use Rattle.unwind.specs.declared.tries.compare.Kind.{Kind}
+use Rattle.unwind.specs.declared.tries.compare.Kind.the-variants.{Edges, Ends}
+use Rattle.unwind.specs.declared.tries.store.Branch.{Branch}
 use Rattle.unwind.specs.declared.tries.paths.Group.{Group}
 use Rattle.unwind.specs.declared.tries.paths.Left.{Left}
 use Rattle.unwind.specs.declared.tries.paths.Left.the-variants.{Steps, Nothing}
 use Rattle.unwind.specs.declared.tries.paths.CutAt.{CutAt}
 use Rattle.unwind.specs.declared.tries.paths.CutAt.the-variants.{Over, Enters}
 use Rattle.unwind.specs.Trie.{Cut, over, enters, cut}
-use Rattle.unwind.specs.Nodes.{stepIn, tagsIn}
+use Rattle.unwind.specs.Order.{Tagged, compareTagged, compareEnds}
+use Rattle.unwind.specs.Nodes.{stepIn, tagsIn, edgeOf, endAt}
 
 abbrev pub orderingOf : Order → Ordering
 orderingOf Less = Ordering·lt
 orderingOf Equal = Ordering·eq
 orderingOf Greater = Ordering·gt
+
+-- what a branch of a kind stands for, and how those are ordered
+abbrev pub Meant : Kind → Type 0
+Meant Edges = Tagged ℕ
+Meant Ends = Tagged UnwindEnd
+
+abbrev pub ordered : (k : Kind) → Meant k → Meant k → Ordering
+ordered Edges = compareTagged compare
+ordered Ends = compareTagged compareEnds
+
+abbrev pub meaning : RouteImage → (k : Kind) → Branch → Meant k
+meaning m Edges = edgeOf m
+meaning m Ends = endAt m
 
 abbrev pub isLt : Ordering → Bool
 isLt Ordering·lt = true

@@ -1,22 +1,32 @@
 -- Interning in scratch: what it asks and what it answers.
 use mathlib.Core.Path.{_≡_}
 use mathlib.Core.Bool.{cond}
-use mathlib.Core.List.{List, map}
+use mathlib.Core.List.{List, [], _∷_, map}
+use mathlib.Core.Option.{Option}
 use Prim.Native.Nat.{ℕ, suc, _+_, _-_, _*_, _≤_, _<_}
 use lib.Dec.{eqb}
 use lib.ListN.{length}
 use Rattle.image.specs.Image.{RouteImage}
+use Rattle.image.specs.Deal.{UnwindPath}
 use Rattle.image.specs.Accepted.{AcceptedRoutes}
 use Rattle.unwind.specs.declared.tries.store.Counts.{Counts}
 use Rattle.unwind.specs.declared.tries.paths.Group.{Group}
 use Rattle.unwind.specs.declared.tries.keys.Key.{Key}
 use Rattle.unwind.specs.declared.tries.nodes.Interned.{Interned}
-use Rattle.unwind.specs.Trie.{create, nodeOf}
+use Rattle.unwind.specs.Trie.{Node, Interned as Made, create, nodeOf, intern, longest}
 use Rattle.unwind.specs.Nodes.{branchIn, branches, funcletIn, edgeOf, nodesIn, Stored}
 use Rattle.unwind.specs.Interning.{Starts, GroupIn, pathsOf}
 use Rattle.unwind.specs.Laid.{endsList}
 use Rattle.unwind.specs.Kept.{Grown}
-use Rattle.unwind.specs.Grown.{interned, weight}
+
+-- interning with a bound on the steps left that is as large as it need be
+unfoldable pub interned : ℕ → Option ℕ → List UnwindPath → List Node → Made
+interned r f ps t = intern (longest ps) r f ps t
+
+-- the steps of paths in all: interning them stores no more nodes, besides their own, and no more edges
+unfoldable pub weight : List UnwindPath → ℕ
+weight [] = 0
+weight (p ∷ ps) = length (p .steps) + weight ps
 
 -- the paths that go on behind the calls and the funclet of a key
 unfoldable pub groupBehind : Group → Key → Group

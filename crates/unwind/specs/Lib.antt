@@ -11,7 +11,6 @@ pub mod Keys
 pub mod Runs
 pub mod Laid
 pub mod Kept
-pub mod Grown
 pub mod Interns
 pub mod Routed
 pub mod Instance

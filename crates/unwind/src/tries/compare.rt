@@ -8,14 +8,20 @@ ghost use Prim.Native.Nat.{_+_, _<_, compare};
 ghost use Rattle.image.specs.Image.{routesIn};
 ghost use Rattle.image.specs.Deal.{endOf};
 ghost use Rattle.image.specs.Accepted.{AcceptedRoutes};
-ghost use Rattle.unwind.specs.Order.{compareTags, compareEnds, compareTagged};
-ghost use Rattle.unwind.specs.Nodes.{pathRecord, tagsIn, edgeOf, endAt, BranchSmall};
-ghost use Rattle.unwind.specs.Interning.{orderingOf};
+ghost use Rattle.unwind.specs.Order.{compareTags, compareEnds};
+ghost use Rattle.unwind.specs.Nodes.{pathRecord, tagsIn, BranchSmall};
+ghost use Rattle.unwind.specs.Interning.{orderingOf, ordered, meaning};
 
 pub enum Order {
     Less,
     Equal,
     Greater,
+}
+
+// What branches are: edges to nodes, or ends of paths.
+pub enum Kind {
+    Edges,
+    Ends,
 }
 
 const HANDLER: u64 = 0;
@@ -68,24 +74,17 @@ pub fn compare_ends(s: &[u8], y: RouteLayout, p: usize, q: usize) -> Order
     compare_numbers(a.end, b.end)
 }
 
-pub fn compare_edge_branches(s: &[u8], y: RouteLayout, a: Branch, b: Branch) -> Order
-    requires { ⌜ BranchSmall a × BranchSmall b ⌝ }
-    ensures { λ r. ⌜ orderingOf r ≡ compareTagged compare (edgeOf (routesIn (now (s .entry)) y) a) (edgeOf (routesIn (now (s .entry)) y) b) ⌝ }
-{
-    match compare_calls(s, y, a.step, a.calls, b.step, b.calls) {
-        Order::Less => Order::Less,
-        Order::Greater => Order::Greater,
-        Order::Equal => compare_numbers(a.what as u64, b.what as u64),
-    }
-}
-
-pub fn compare_end_branches(s: &[u8], y: RouteLayout, a: Branch, b: Branch) -> Order
+// Branches of one kind: the calls before them, and then the nodes, or the ends of the paths.
+pub fn compare_branches(s: &[u8], y: RouteLayout, kind: Kind, a: Branch, b: Branch) -> Order
     requires { ⌜ AcceptedRoutes (routesIn (now s) y) × BranchSmall a × BranchSmall b ⌝ }
-    ensures { λ r. ⌜ orderingOf r ≡ compareTagged compareEnds (endAt (routesIn (now (s .entry)) y) a) (endAt (routesIn (now (s .entry)) y) b) ⌝ }
+    ensures { λ r. ⌜ orderingOf r ≡ ordered kind (meaning (routesIn (now (s .entry)) y) kind a) (meaning (routesIn (now (s .entry)) y) kind b) ⌝ }
 {
     match compare_calls(s, y, a.step, a.calls, b.step, b.calls) {
         Order::Less => Order::Less,
         Order::Greater => Order::Greater,
-        Order::Equal => compare_ends(s, y, a.what, b.what),
+        Order::Equal => match kind {
+            Kind::Edges => compare_numbers(a.what as u64, b.what as u64),
+            Kind::Ends => compare_ends(s, y, a.what, b.what),
+        },
     }
 }

@@ -19,8 +19,7 @@ ghost use Rattle.image.specs.Image.{routesIn};
 ghost use Rattle.unwind.specs.Nodes.{Stored};
 ghost use Rattle.unwind.specs.Interning.{pathsOf};
 ghost use Rattle.unwind.specs.Laid.{endsList};
-ghost use Rattle.unwind.specs.Grown.{weight};
-ghost use Rattle.unwind.specs.Interns.{groupBehind, funcletOf, Grouped, Room, Closes, Interns};
+ghost use Rattle.unwind.specs.Interns.{weight, groupBehind, funcletOf, Grouped, Room, Closes, Interns};
 
 // The node of a group. It calls itself for each group that its paths lead to, which has fewer steps left; the edges of the
 // calls that are not finished stand on the stack, this one's from `top` on.

@@ -1,11 +1,11 @@
 // The ends and edges of a node, laid behind those that are stored.
+use crate::tries::compare::Kind;
 use crate::tries::paths::CutAt;
 use crate::tries::paths::Group;
 use crate::tries::paths::Left;
 use crate::tries::paths::cut_at;
 use crate::tries::paths::left_of;
-use crate::tries::runs::put_edge;
-use crate::tries::runs::put_end;
+use crate::tries::runs::put_sorted;
 use crate::tries::store::Branch;
 use crate::tries::store::branch_at;
 use image::section::RouteLayout;
@@ -59,7 +59,7 @@ fn lay_end(
 {
     match end_of(s, y, starts, g, q) {
         Ending::Nothing => n,
-        Ending::At(b) => put_end(s, y, ends, at, n, b),
+        Ending::At(b) => put_sorted(s, y, Kind::Ends, ends, at, n, b),
     }
 }
 
@@ -91,12 +91,20 @@ pub fn lay_edges(
     edges: &mut [u16],
     at: usize,
 ) -> usize
-    requires { ⌜ (top + n < 65536) × (at + n < 65536) × (3 * (at + n) ≤ length (now edges)) ⌝ }
+    requires { ⌜ AcceptedRoutes (routesIn (now s) y) × (top + n < 65536) × (at + n < 65536) × (3 * (at + n) ≤ length (now edges)) ⌝ }
     ensures { λ r. ⌜ EdgesLaid (routesIn (now (s .entry)) y) (now (stack .entry)) top n (now (edges .entry)) at (now (edges .exit)) r ⌝ }
 {
     let mut count = 0;
     for k in 0..n {
-        count = put_edge(s, y, edges, at, count, branch_at(stack, top + k));
+        count = put_sorted(
+            s,
+            y,
+            Kind::Edges,
+            edges,
+            at,
+            count,
+            branch_at(stack, top + k),
+        );
     }
     count
 }

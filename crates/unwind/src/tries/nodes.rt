@@ -1,7 +1,7 @@
 // Nodes by what they are: a node that stands already is not stored again.
+use crate::tries::compare::Kind;
 use crate::tries::compare::Order;
-use crate::tries::compare::compare_edge_branches;
-use crate::tries::compare::compare_end_branches;
+use crate::tries::compare::compare_branches;
 use crate::tries::store::Counts;
 use crate::tries::store::NodeRecord;
 use crate::tries::store::branch_at;
@@ -11,12 +11,13 @@ use image::access::step_at;
 use image::section::RouteLayout;
 ghost use mathlib.Core.Path.{_≡_};
 ghost use mathlib.Core.List.{map};
-ghost use Prim.Native.Nat.{_+_, _<_, compare};
+ghost use Prim.Native.Nat.{_+_, _<_};
 ghost use Rattle.image.specs.Image.{routesIn};
 ghost use Rattle.image.specs.Accepted.{AcceptedRoutes};
-ghost use Rattle.unwind.specs.Order.{compareTagged, compareEnds, same};
+ghost use Rattle.unwind.specs.Order.{same};
 ghost use Rattle.unwind.specs.Trie.{sameFunclet, sameNode, placeOf};
-ghost use Rattle.unwind.specs.Nodes.{branches, funcletIn, edgeOf, endAt, nodeIn, nodesIn, Stored, NodeSmall};
+ghost use Rattle.unwind.specs.Nodes.{branches, funcletIn, nodeIn, nodesIn, Stored, NodeSmall};
+ghost use Rattle.unwind.specs.Interning.{ordered, meaning};
 ghost use Rattle.unwind.specs.Kept.{placeIn, Behind, Kept};
 
 // Where a node stands.
@@ -95,8 +96,26 @@ fn same_node(
     ensures { λ r. ⌜ r ≡ sameNode (nodeIn (routesIn (now (s .entry)) y) (now (edges .entry)) (now (ends .entry)) a) (nodeIn (routesIn (now (s .entry)) y) (now (edges .entry)) (now (ends .entry)) b) ⌝ }
 {
     if same_funclet(s, y, a.funclet, b.funclet) {
-        if same_edges(s, y, edges, a.first_edge, a.edges, b.first_edge, b.edges) {
-            return same_ends(s, y, ends, a.first_end, a.ends, b.first_end, b.ends);
+        if same_runs(
+            s,
+            y,
+            Kind::Edges,
+            edges,
+            a.first_edge,
+            a.edges,
+            b.first_edge,
+            b.edges,
+        ) {
+            return same_runs(
+                s,
+                y,
+                Kind::Ends,
+                ends,
+                a.first_end,
+                a.ends,
+                b.first_end,
+                b.ends,
+            );
         }
     }
     false
@@ -116,42 +135,25 @@ fn same_funclet(s: &[u8], y: RouteLayout, a: usize, b: usize) -> bool
     x.value == z.value
 }
 
-// Whether the n edges from a on are the k from b on.
-fn same_edges(
+// Whether the n branches from a on are the k from b on.
+fn same_runs(
     s: &[u8],
     y: RouteLayout,
+    kind: Kind,
     list: &[u16],
     a: usize,
     n: usize,
     b: usize,
     k: usize,
 ) -> bool
-    requires { ⌜ (a + n < 1048576) × (b + k < 1048576) ⌝ }
-    ensures { λ r. ⌜ r ≡ same (compareTagged compare) (map (edgeOf (routesIn (now (s .entry)) y)) (branches (now (list .entry)) a n)) (map (edgeOf (routesIn (now (s .entry)) y)) (branches (now (list .entry)) b k)) ⌝ }
-{
-    if n != k {
-        return false;
-    }
-    for i in 0..n {
-        match compare_edge_branches(s, y, branch_at(list, a + i), branch_at(list, b + i)) {
-            Order::Less => return false,
-            Order::Greater => return false,
-            Order::Equal => {}
-        }
-    }
-    true
-}
-
-// The same of ends.
-fn same_ends(s: &[u8], y: RouteLayout, list: &[u16], a: usize, n: usize, b: usize, k: usize) -> bool
     requires { ⌜ AcceptedRoutes (routesIn (now s) y) × (a + n < 1048576) × (b + k < 1048576) ⌝ }
-    ensures { λ r. ⌜ r ≡ same (compareTagged compareEnds) (map (endAt (routesIn (now (s .entry)) y)) (branches (now (list .entry)) a n)) (map (endAt (routesIn (now (s .entry)) y)) (branches (now (list .entry)) b k)) ⌝ }
+    ensures { λ r. ⌜ r ≡ same (ordered kind) (map (meaning (routesIn (now (s .entry)) y) kind) (branches (now (list .entry)) a n)) (map (meaning (routesIn (now (s .entry)) y) kind) (branches (now (list .entry)) b k)) ⌝ }
 {
     if n != k {
         return false;
     }
     for i in 0..n {
-        match compare_end_branches(s, y, branch_at(list, a + i), branch_at(list, b + i)) {
+        match compare_branches(s, y, kind, branch_at(list, a + i), branch_at(list, b + i)) {
             Order::Less => return false,
             Order::Greater => return false,
             Order::Equal => {}

@@ -17,16 +17,16 @@ abbrev μ-loop : tie.MeasureT-loop
 loop-holds : tie.Need-loop-holds Inv-loop μ-loop
 loop-holds c = (search needs, edges-start _ _ _ _ _)
 
-put-edge-requires : tie.Need-put-edge-requires Inv-loop μ-loop
-put-edge-requires c κs =
+put-sorted-requires : tie.Need-put-sorted-requires Inv-loop μ-loop
+put-sorted-requires c κs =
     let so-far = c .before .before .before .loop .inv .1 in
-    (c .branch-at .ensures .small, omega (arith, so-far .laid .most, c .before .before .before .before .before .before .before .pre .1), omega (arith, so-far .laid .most, so-far .long, c .before .before .before .before .before .before .before .pre .2))
+    (c .before .before .before .before .before .before .before .pre .0, c .branch-at .ensures .small, omega (arith, so-far .laid .most, c .before .before .before .before .before .before .before .pre .2), omega (arith, so-far .laid .most, so-far .long, c .before .before .before .before .before .before .before .pre .3))
 
 loop-again : tie.Need-loop-again Inv-loop μ-loop
 loop-again c =
     let m = routesIn (c .before .before .before .before .before .before .before .before .before .before .args .s .now) (c .before .before .before .before .before .before .before .before .before .before .args .y) in (
       search needs,
-      edges-more m (c .before .before .before .before .before .before .before .before .before .before .args .stack .now) (c .before .before .before .before .before .before .before .before .before .before .args .top) (c .before .before .before .before .before .before .before .before .before .before .args .edges .now) (c .before .before .before .before .before .before .before .before .before .before .args .at) (c .before .before .before .before .before .before .loop .edges) _ (c .before .before .before .before .before .before .loop .count) _ (c .before .before .before .before .before .before .loop .k) (c .before .before .before .branch-at .result) (c .before .before .before .before .before .before .loop .inv .1) (c .before .before .before .branch-at .ensures .is) (c .before .before .put-edge .kept .1 .1 .0) (c .before .before .put-edge .ensures),
+      edges-more m (c .before .before .before .before .before .before .before .before .before .before .args .stack .now) (c .before .before .before .before .before .before .before .before .before .before .args .top) (c .before .before .before .before .before .before .before .before .before .before .args .edges .now) (c .before .before .before .before .before .before .before .before .before .before .args .at) (c .before .before .before .before .before .before .loop .edges) _ (c .before .before .before .before .before .before .loop .count) _ (c .before .before .before .before .before .before .loop .k) (c .before .before .before .branch-at .result) (c .before .before .before .before .before .before .loop .inv .1) (c .before .before .before .branch-at .ensures .is) (c .before .before .put-sorted .kept .1 .1 .1 .0) (c .before .before .put-sorted .ensures),
     )
 
 same-length : tie.Need-same-length Inv-loop μ-loop
@@ -47,7 +47,7 @@ lay-edges-spec =
     loop-holds
     (λ c. search needs)
     (λ c κs. search needs)
-    put-edge-requires
+    put-sorted-requires
     (λ c. search needs)
     (λ c. search needs)
     loop-again
