@@ -18,6 +18,14 @@ pub mod TrieOrder
 pub mod TrieCompare
 pub mod TriePaths
 pub mod TrieKeys
+pub mod TrieRuns
+pub mod TrieLaid
+pub mod TrieNodes
+pub mod TrieFuel
+pub mod TrieGroups
+pub mod TrieIntern
+pub mod TrieWork
+pub mod TrieRoutes
 pub mod TrieStore
 pub mod Rising
 pub mod Sources
@@ -26,3 +34,4 @@ pub mod Leaving
 pub mod EntryLaws
 pub mod GatherLaws
 pub mod PoolLaws
+pub mod LentLaws

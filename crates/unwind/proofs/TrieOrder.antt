@@ -5,7 +5,7 @@
 --     sorted-behind                one more behind the list
 --     put-member                   a member is put again
 --     put-least                    one that comes before all others
---     next-none, next-some         the next in order behind `last`: there is none, or it is the least of what is left
+--     next-none, next-in, next-some     the next in order behind `last`: there is none, or it is the least of what is left
 use mathlib.Core.Path.{_≡_, refl, sym, _∙_, ap}
 use mathlib.Core.Bool.{Bool, true, false, cond, _&&_, false≢true}
 use mathlib.Core.Option.{Option, none, some, Option·none-ne-some}
@@ -49,6 +49,11 @@ pub is-eq : (o : Ordering) → isEq o ≡ true → o ≡ Ordering·eq
 is-eq Ordering·lt e = absurd (false≢true e)
 is-eq Ordering·eq e = refl
 is-eq Ordering·gt e = absurd (false≢true e)
+
+pub is-lt : (o : Ordering) → isLt o ≡ true → o ≡ Ordering·lt
+is-lt Ordering·lt e = refl
+is-lt Ordering·eq e = absurd (false≢true e)
+is-lt Ordering·gt e = absurd (false≢true e)
 
 pub number-lt : (a b : ℕ) → a < b → compare a b ≡ Ordering·lt
 number-lt a b h = go (compare a b) refl
@@ -294,11 +299,6 @@ module _ {A : Type 0} (c : A → A → Ordering) (total : Total c) where
       go Ordering·eq e = refl
       go Ordering·gt e = e
 
-  is-lt : (o : Ordering) → isLt o ≡ true → o ≡ Ordering·lt
-  is-lt Ordering·lt e = refl
-  is-lt Ordering·eq e = absurd (false≢true e)
-  is-lt Ordering·gt e = absurd (false≢true e)
-
   not-lt : (x y : A) → isLt (c y x) ≡ false → isLe (c x y) ≡ true
   not-lt x y e = go (c x y) refl
     where
@@ -390,19 +390,22 @@ module _ {A : Type 0} (c : A → A → Ordering) (total : Total c) where
     pub next-none : (l : List A) → nearest c last none l ≡ none → keep (after c last) l ≡ []
     next-none l e = none-near none l e .1
 
+    found : (l : List A) (x : A) → (none ≡ some x) ⊎ ((x ∈ l) × (after c last x ≡ true)) → (x ∈ l) × (after c last x ≡ true)
+    found l x (inl e) = absurd (Option·none-ne-some x e)
+    found l x (inr h) = h
+
+    pub next-in : (l : List A) (x : A) → nearest c last none l ≡ some x → (x ∈ l) × (after c last x ≡ true)
+    next-in l x e = found l x (near none l x e .from)
+
     pub next-some : (l : List A) (x : A) → nearest c last none l ≡ some x → sorted c (keep (after c last) l) ≡ x ∷ sorted c (keep (after c (some x)) l)
     next-some l x e =
         let n = near none l x e in
-        let here : (x ∈ l) × (after c last x ≡ true) = found (n .from) in
+        let here = next-in l x e in
         let k = keep (after c last) l in
         sym (put-member c total (mem-keep (after c last) (here .0) (here .1)))
         ∙ put-least c total x k (λ y m. let z = keep-mem (after c last) l m in n .least y (z .0) (z .1))
         ∙ ap (λ (m : List A). x ∷ sorted c m) (keep-keep (after c last) (after c (some x)) l (λ y. beyond y (here .1)))
       where
-        found : (none ≡ some x) ⊎ ((x ∈ l) × (after c last x ≡ true)) → (x ∈ l) × (after c last x ≡ true)
-        found (inl e) = absurd (Option·none-ne-some x e)
-        found (inr h) = h
-
         beyond : (y : A) → after c last x ≡ true → after c (some x) y ≡ true → after c last y ≡ true
         beyond y = go last
           where

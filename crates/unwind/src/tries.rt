@@ -1,5 +1,58 @@
-// The trie of the routes, in scratch that a caller lends. `trie.rs`.
+// The tries of the routes, in scratch that a caller lends. `trie.rs`.
 pub mod compare;
+mod intern;
 mod keys;
+mod lay;
+mod nodes;
 mod paths;
+mod runs;
 pub mod store;
+
+use crate::tries::intern::intern;
+use crate::tries::paths::Group;
+use crate::tries::paths::path_starts;
+use crate::tries::store::Counts;
+use image::access::route_at;
+use image::section::RouteLayout;
+ghost use Rattle.image.specs.Image.{routesIn};
+ghost use Rattle.image.specs.Accepted.{AcceptedRoutes};
+ghost use Rattle.unwind.specs.Routed.{Scratch, TriesIn};
+
+// The nodes of all routes, and the root of each; how much is stored of them.
+pub fn intern_routes(
+    s: &[u8],
+    y: RouteLayout,
+    starts: &mut [u16],
+    nodes: &mut [u16],
+    edges: &mut [u16],
+    ends: &mut [u16],
+    stack: &mut [u16],
+    roots: &mut [u16],
+) -> Counts
+    requires { ⌜ AcceptedRoutes (routesIn (now s) y) × Scratch (routesIn (now s) y) (now starts) (now nodes) (now edges) (now ends) (now stack) (now roots) ⌝ }
+    ensures { λ r. ⌜ TriesIn (routesIn (now (s .entry)) y) (now (nodes .exit)) (now (edges .exit)) (now (ends .exit)) (now (roots .exit)) r ⌝ }
+{
+    path_starts(s, y, starts);
+    let n = y.routes.count as usize;
+    let mut stored = Counts {
+        nodes: 0,
+        edges: 0,
+        ends: 0,
+    };
+    let mut first = 0;
+    for r in 0..n {
+        let count = route_at(s, y.routes, r).paths;
+        let group = Group {
+            route: r,
+            first,
+            count,
+            from: 0,
+            depth: 0,
+        };
+        let root = intern(s, y, starts, group, nodes, edges, ends, stack, stored, 0);
+        roots[r] = root.place as u16;
+        stored = root.counts;
+        first += count;
+    }
+    stored
+}

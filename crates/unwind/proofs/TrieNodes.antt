@@ -1,0 +1,185 @@
+-- Nodes by what they are, and a node stored unless it stands already.
+--     Alike, same-on, same-other, same-end, same-size     two lists compared from place i on
+--     funclet-root, funclet-other, funclet-both           two funclets compared
+--     place-first, place-none, place-lt                   the first of a list that equals a node, or none; it stands there
+--     length-nodes, nodes-more, node-of, nodes-same, nodes-still     the nodes in scratch; after stores elsewhere
+--     kept-present, kept-new                              a node stands already, or is stored
+-- Assumes nothing.
+use mathlib.Core.Path.{_≡_, refl, sym, ap, _∙_}
+use mathlib.Core.Bool.{Bool, true, false, cond, _&&_, and-false}
+use mathlib.Core.List.{List, [], _∷_, _++_, map}
+use mathlib.Core.Option.{Option, none, some, Option·map, Option·none-ne-some}
+use Prim.Native.Nat.{ℕ, zero, suc, _+_, _-_, _<_, Ordering, Ordering·eq}
+use native.Mathlib.Numerals.{add-one}
+use native.Mathlib.Decide.{decLt}
+use native.Mathlib.Omega.{arith}
+use borrow.Author.Tests.{ne-eqb}
+use lib.Dec.{eqb, isEq}
+use lib.ListN.{length, getD, drop, drop-of-length-le}
+use lib.Seq.{drop-cons}
+use Rattle.image.specs.Image.{RouteImage, table}
+use Rattle.graph.proofs.FoldLaws.{length-table, getD-table, table-same}
+use Rattle.unwind.specs.declared.tries.store.NodeRecord.{NodeRecord}
+use Rattle.unwind.specs.declared.tries.store.Counts.{Counts}
+use Rattle.unwind.specs.Order.{same}
+use Rattle.unwind.specs.Trie.{Node, sameFunclet, sameNode, placeOf, created, create}
+use Rattle.unwind.specs.Nodes.{stepIn, funcletIn, recordIn, branchIn, edgeOf, endAt, nodeIn, nodesIn, Stored, NodePut}
+use Rattle.unwind.specs.Kept.{Behind, Kept}
+use Rattle.unwind.proofs.TrieRuns.{branches-same}
+
+-- ---- two lists compared from place i on
+
+module _ {A : Type 0} (c : A → A → Ordering) (l k : List A) where
+  abbrev pub Alike : ℕ → Type 0
+  Alike i = same c l k ≡ same c (drop i l) (drop i k)
+
+  module _ (i : ℕ) (d : A) (h : i < length l) (j : i < length k) (so-far : Alike i) where
+    next : same c l k ≡ (isEq (c (getD l i d) (getD k i d)) && same c (drop (suc i) l) (drop (suc i) k))
+    unfolding same
+    next = so-far ∙ rw (drop-cons l i d h, drop-cons k i d j)
+
+    pub same-on : c (getD l i d) (getD k i d) ≡ Ordering·eq → Alike (i + 1)
+    same-on e = next ∙ rw (e, add-one i)
+
+    pub same-other : isEq (c (getD l i d) (getD k i d)) ≡ false → same c l k ≡ false
+    same-other e = next ∙ rw e
+
+  pub same-end : (i : ℕ) → i ≡ length l → i ≡ length k → Alike i → same c l k ≡ true
+  unfolding same
+  same-end i e f so-far = so-far ∙ rw (drop-of-length-le l {i = i} (omega arith), drop-of-length-le k {i = i} (omega arith))
+
+pub same-size : {A : Type 0} (c : A → A → Ordering) (l k : List A) → (length l ≡ length k → ⊥) → same c l k ≡ false
+unfolding same
+same-size c [] [] ne = absurd (ne refl)
+same-size c [] (y ∷ k) ne = refl
+same-size c (x ∷ l) [] ne = refl
+same-size c (x ∷ l) (y ∷ k) ne = ap (λ (b : Bool). isEq (c x y) && b) (same-size c l k (λ e. ne (ap suc e))) ∙ and-false (isEq (c x y))
+
+-- ---- two funclets compared
+
+module _ (m : RouteImage) where
+  pub funclet-root : (a b : ℕ) → a ≡ 0 → eqb b 0 ≡ sameFunclet (funcletIn m a) (funcletIn m b)
+  unfolding funcletIn sameFunclet
+  funclet-root zero zero e = refl
+  funclet-root zero (suc b) e = ne-eqb (suc b) 0 (λ z. omega arith)
+  funclet-root (suc a) b e = absurd (omega arith)
+
+  pub funclet-other : (a b : ℕ) → (a ≡ 0 → ⊥) → b ≡ 0 → false ≡ sameFunclet (funcletIn m a) (funcletIn m b)
+  unfolding funcletIn sameFunclet
+  funclet-other zero b ne e = absurd (ne refl)
+  funclet-other (suc a) zero ne e = refl
+  funclet-other (suc a) (suc b) ne e = absurd (omega arith)
+
+  pub funclet-both : (a b : ℕ) → (a ≡ 0 → ⊥) → (b ≡ 0 → ⊥) → eqb (stepIn m (a - 1) .value) (stepIn m (b - 1) .value) ≡ sameFunclet (funcletIn m a) (funcletIn m b)
+  unfolding funcletIn sameFunclet
+  funclet-both zero b ne me = absurd (ne refl)
+  funclet-both (suc a) zero ne me = absurd (me refl)
+  funclet-both (suc a) (suc b) ne me =
+      let e : suc a - 1 ≡ a = omega arith in
+      let f : suc b - 1 ≡ b = omega arith in
+      rw (e, f)
+
+-- ---- the first of a list that equals a node
+
+module _ (n : Node) where
+  pub place-first : (l : List Node) (i : ℕ) (d : Node) → i < length l → ((j : ℕ) → j < i → sameNode n (getD l j d) ≡ false) → sameNode n (getD l i d) ≡ true → placeOf n l ≡ some i
+  unfolding placeOf
+  place-first [] i d h others here = absurd (omega arith)
+  place-first (x ∷ l) zero d h others here = rw here
+  place-first (x ∷ l) (suc i) d h others here =
+      rw (others 0 (omega arith), place-first l i d (omega arith) (λ j lt. others (suc j) (omega arith)) here)
+
+  pub place-none : (l : List Node) (d : Node) → ((j : ℕ) → j < length l → sameNode n (getD l j d) ≡ false) → placeOf n l ≡ none
+  unfolding placeOf
+  place-none [] d others = refl
+  place-none (x ∷ l) d others = rw (others 0 (omega arith), place-none l d (λ j lt. others (suc j) (omega arith)))
+
+  pub place-lt : (l : List Node) (i : ℕ) → placeOf n l ≡ some i → i < length l
+  unfolding placeOf
+  place-lt [] i e = absurd (Option·none-ne-some i e)
+  place-lt (x ∷ l) i e = go (sameNode n x) e (placeOf n l) refl (place-lt l)
+    where
+      go : (b : Bool) → cond b (some 0) (Option·map suc (placeOf n l)) ≡ some i → (o : Option ℕ) → placeOf n l ≡ o → ((j : ℕ) → placeOf n l ≡ some j → j < length l) → i < suc (length l)
+      go true p o q below = let z : 0 ≡ i = cc in omega arith
+      go false p none q below = absurd (Option·none-ne-some i (rw q at p))
+      go false p (some j) q below = let r : some (suc j) ≡ some i = rw q at p in let z : suc j ≡ i = cc in omega (arith, below j q)
+
+-- ---- the nodes in scratch
+
+module _ (m : RouteImage) (nodes edges ends : List ℕ) where
+  pub length-nodes : (n : ℕ) → length (nodesIn m nodes edges ends n) ≡ n
+  unfolding nodesIn
+  length-nodes n = length-table (λ i. nodeIn m edges ends (recordIn nodes i)) n
+
+  pub nodes-more : (n : ℕ) → nodesIn m nodes edges ends (n + 1) ≡ nodesIn m nodes edges ends n ++ (nodeIn m edges ends (recordIn nodes n) ∷ [])
+  unfolding nodesIn table
+  nodes-more n = rw add-one
+
+  pub node-of : (n i : ℕ) (d : Node) → i < n → getD (nodesIn m nodes edges ends n) i d ≡ nodeIn m edges ends (recordIn nodes i)
+  unfolding nodesIn
+  node-of n i d h = getD-table (λ k. nodeIn m edges ends (recordIn nodes k)) n i d h
+
+pub nodes-same : (m : RouteImage) (nodes′ nodes edges ends : List ℕ) (n : ℕ) → ((i : ℕ) → i < n → recordIn nodes′ i ≡ recordIn nodes i) → nodesIn m nodes′ edges ends n ≡ nodesIn m nodes edges ends n
+unfolding nodesIn
+nodes-same m nodes′ nodes edges ends n same =
+    table-same (λ i. nodeIn m edges ends (recordIn nodes′ i)) (λ i. nodeIn m edges ends (recordIn nodes i)) n
+    (λ i h. ap (nodeIn m edges ends) (same i h))
+
+-- stores behind the edges and ends that are counted leave the nodes as they are
+pub nodes-still : (m : RouteImage) (nodes edges ends edges′ ends′ : List ℕ) (c : Counts) → Stored nodes edges ends c
+    → ((k : ℕ) → k < c .edges → branchIn edges′ k ≡ branchIn edges k) → ((k : ℕ) → k < c .ends → branchIn ends′ k ≡ branchIn ends k)
+    → nodesIn m nodes edges′ ends′ (c .nodes) ≡ nodesIn m nodes edges ends (c .nodes)
+unfolding nodesIn nodeIn
+nodes-still m nodes edges ends edges′ ends′ c stored same-edges same-ends =
+    table-same (λ i. nodeIn m edges′ ends′ (recordIn nodes i)) (λ i. nodeIn m edges ends (recordIn nodes i)) (c .nodes)
+    (λ i h. λ d.
+    record {
+      funclet = funcletIn m (recordIn nodes i .funclet);
+      edges = map (edgeOf m) (branches-same edges′ edges (recordIn nodes i .«first_edge») (recordIn nodes i .edges) (λ k lt. same-edges _ (omega (arith, stored .edges-in i h))) d);
+      ends = map (endAt m) (branches-same ends′ ends (recordIn nodes i .«first_end») (recordIn nodes i .ends) (λ k lt. same-ends _ (omega (arith, stored .ends-in i h))) d);
+      route = recordIn nodes i .route;
+    })
+
+-- ---- a node stands already, or is stored
+
+module _ (m : RouteImage) (nodes edges ends : List ℕ) (c : Counts) (x : NodeRecord) (stored : Stored nodes edges ends c) where
+  abbrev trie : List Node
+  trie = nodesIn m nodes edges ends (c .nodes)
+
+  pub kept-present : (i : ℕ) → some i ≡ placeOf (nodeIn m edges ends x) trie → Kept m nodes edges ends c x nodes (record { place = i; counts = c })
+  unfolding create created
+  kept-present i e =
+      record {
+        trie = rw (← e);
+        place = rw (← e);
+        within = omega (arith, place-lt (nodeIn m edges ends x) trie i (sym e), length-nodes m nodes edges ends (c .nodes));
+        stored = stored;
+        grown = omega arith;
+      }
+
+  pub kept-new : (nodes′ : List ℕ) → none ≡ placeOf (nodeIn m edges ends x) trie → Behind nodes edges ends c x → NodePut nodes (c .nodes) x nodes′
+      → Kept m nodes edges ends c x nodes′ (record { place = c .nodes; counts = record { nodes = c .nodes + 1; edges = c .edges + x .edges; ends = c .ends + x .ends } })
+  unfolding create created
+  kept-new nodes′ e behind done =
+      record {
+        trie =
+            rw (← e)
+            (nodes-more m nodes′ edges ends (c .nodes)
+            ∙ rw (nodes-same m nodes′ nodes edges ends (c .nodes) (λ i h. done .others i (λ z. omega arith)), done .here));
+        place = rw (← e) (sym (length-nodes m nodes edges ends (c .nodes)));
+        within = omega arith;
+        stored = record {
+          nodes-fit = omega (arith, done .long, behind .room);
+          edges-fit = behind .edges-fit;
+          ends-fit = behind .ends-fit;
+          edges-in = λ i h. elim (decLt i (c .nodes)) [
+            | yes lt ↦ rw (done .others i (λ z. omega arith)) (omega (arith, stored .edges-in i lt))
+            | no ge ↦ let z : i ≡ c .nodes = omega arith in rw (z, done .here) (omega (arith, behind .first-edge))
+          ];
+          ends-in = λ i h. elim (decLt i (c .nodes)) [
+            | yes lt ↦ rw (done .others i (λ z. omega arith)) (omega (arith, stored .ends-in i lt))
+            | no ge ↦ let z : i ≡ c .nodes = omega arith in rw (z, done .here) (omega (arith, behind .first-end))
+          ];
+        };
+        grown = omega arith;
+      }

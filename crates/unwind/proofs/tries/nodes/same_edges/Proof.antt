@@ -1,0 +1,93 @@
+-- `same_edges` meets its contract. The invariant: those passed are equal, so that those left decide. Assumes nothing.
+use mathlib.Core.Path.{_≡_, refl, sym, ap, ap₂, _∙_}
+use mathlib.Core.List.{List, map}
+use Prim.Native.Nat.{ℕ, _-_, _≤_, compare}
+use native.Mathlib.Omega.{arith}
+use lib.Dec.{isEq}
+use lib.ListN.{length, getD, length-map}
+use Rattle.image.specs.Image.{routesIn}
+use Rattle.image.specs.declared.section.RouteLayout.{RouteLayout}
+use Rattle.unwind.specs.Order.{compareTagged}
+use Rattle.unwind.specs.Nodes.{branchIn, branches, edgeOf}
+use Rattle.unwind.specs.Interning.{orderingOf}
+use Rattle.unwind.proofs.TrieRuns.{length-branches, meant-of}
+use Rattle.unwind.proofs.TrieNodes.{Alike, same-on, same-other, same-end, same-size}
+use borrow.Author.Needs.{needs}
+use Rattle.unwind.proofs.tries.nodes.same_edges.Statement.{statement}
+use Rattle.unwind.proofs.tries.nodes.same_edges.Tie as tie
+
+abbrev Inv-loop : tie.InvT-loop
+Inv-loop s y list a n b k i₀ i =
+    let m = routesIn s y in
+    (i ≤ n) × Alike (compareTagged compare) (map (edgeOf m) (branches list a n)) (map (edgeOf m) (branches list b k)) i
+
+abbrev μ-loop : tie.MeasureT-loop
+μ-loop s y list a n b k i₀ i = n - i
+
+-- how many there are
+size : (s : List ℕ) (y : RouteLayout) (l : List ℕ) (a n : ℕ) → length (map (edgeOf (routesIn s y)) (branches l a n)) ≡ n
+size s y l a n = length-map (branches l a n) (edgeOf (routesIn s y)) ∙ length-branches l a n
+
+returns : tie.Need-returns Inv-loop μ-loop
+returns c =
+    sym (same-size (compareTagged compare) _ _ (λ e. c .if1 .taken (sym (size (c .before .before .before .args .s .now) (c .before .before .before .args .y) (c .before .before .before .args .list .now) (c .before .before .before .args .a) (c .before .before .before .args .n)) ∙ e ∙ size (c .before .before .before .args .s .now) (c .before .before .before .args .y) (c .before .before .before .args .list .now) (c .before .before .before .args .b) (c .before .before .before .args .k))))
+
+loop-holds : tie.Need-loop-holds Inv-loop μ-loop
+loop-holds c = (search needs, refl)
+
+compare-edge-branches-requires : tie.Need-compare-edge-branches-requires Inv-loop μ-loop
+compare-edge-branches-requires c κs = (c .before .branch-at .ensures .small, c .branch-at2 .ensures .small)
+
+-- what the comparison says of the two that stand there
+told : (c : tie.After-compare-edge-branches Inv-loop μ-loop) → let m = routesIn (c .before .before .before .before .before .before .before .before .args .s .now) (c .before .before .before .before .before .before .before .before .args .y) in let d = edgeOf m (branchIn (c .before .before .before .before .before .before .before .before .args .list .now) 0) in
+    compareTagged compare (getD (map (edgeOf m) (branches (c .before .before .before .before .before .before .before .before .args .list .now) (c .before .before .before .before .before .before .before .before .args .a) (c .before .before .before .before .before .before .before .before .args .n))) (c .before .before .before .before .loop .i) d) (getD (map (edgeOf m) (branches (c .before .before .before .before .before .before .before .before .args .list .now) (c .before .before .before .before .before .before .before .before .args .b) (c .before .before .before .before .before .before .before .before .args .k))) (c .before .before .before .before .loop .i) d) ≡ orderingOf (c .compare-edge-branches .result)
+told c =
+    let m = routesIn (c .before .before .before .before .before .before .before .before .args .s .now) (c .before .before .before .before .before .before .before .before .args .y) in
+    let d = edgeOf m (branchIn (c .before .before .before .before .before .before .before .before .args .list .now) 0) in
+    ap₂ (compareTagged compare)
+    (meant-of (edgeOf m) (c .before .before .before .before .before .before .before .before .args .list .now) (c .before .before .before .before .before .before .before .before .args .a) (c .before .before .before .before .before .before .before .before .args .n) (c .before .before .before .before .loop .i) d (c .before .before .before .loop-test .taken) ∙ ap (edgeOf m) (sym (c .before .before .branch-at .ensures .is)))
+    (meant-of (edgeOf m) (c .before .before .before .before .before .before .before .before .args .list .now) (c .before .before .before .before .before .before .before .before .args .b) (c .before .before .before .before .before .before .before .before .args .k) (c .before .before .before .before .loop .i) d (omega arith) ∙ ap (edgeOf m) (sym (c .before .branch-at2 .ensures .is)))
+    ∙ sym (c .compare-edge-branches .ensures)
+
+returns-2 : tie.Need-returns-2 Inv-loop μ-loop
+returns-2 c =
+    let m = routesIn (c .before .before .before .before .before .before .before .before .before .before .args .s .now) (c .before .before .before .before .before .before .before .before .before .before .args .y) in
+    sym (same-other (compareTagged compare) _ _ (c .before .before .before .before .before .before .loop .i) (edgeOf m (branchIn (c .before .before .before .before .before .before .before .before .before .before .args .list .now) 0)) (rw size (c .before .before .before .before .before .loop-test .taken)) (rw size (omega arith)) (c .before .before .before .before .before .before .loop .inv .1) (ap isEq (told (c .before .before) ∙ ap orderingOf (c .enum-told .given .1))))
+
+returns-3 : tie.Need-returns-3 Inv-loop μ-loop
+returns-3 c =
+    let m = routesIn (c .before .before .before .before .before .before .before .before .before .before .args .s .now) (c .before .before .before .before .before .before .before .before .before .before .args .y) in
+    sym (same-other (compareTagged compare) _ _ (c .before .before .before .before .before .before .loop .i) (edgeOf m (branchIn (c .before .before .before .before .before .before .before .before .before .before .args .list .now) 0)) (rw size (c .before .before .before .before .before .loop-test .taken)) (rw size (omega arith)) (c .before .before .before .before .before .before .loop .inv .1) (ap isEq (told (c .before .before) ∙ ap orderingOf (c .enum-told2 .given .1))))
+
+loop-again : tie.Need-loop-again Inv-loop μ-loop
+loop-again c =
+    let m = routesIn (c .before .before .before .before .before .before .before .before .before .before .args .s .now) (c .before .before .before .before .before .before .before .before .before .before .args .y) in (
+      search needs,
+      same-on (compareTagged compare) _ _ (c .before .before .before .before .before .before .loop .i) (edgeOf m (branchIn (c .before .before .before .before .before .before .before .before .before .before .args .list .now) 0)) (rw size (c .before .before .before .before .before .loop-test .taken)) (rw size (omega arith)) (c .before .before .before .before .before .before .loop .inv .1) (told (c .before .before) ∙ ap orderingOf (c .enum-told3 .given .1)),
+    )
+
+returns-4 : tie.Need-returns-4 Inv-loop μ-loop
+returns-4 c = sym (same-end (compareTagged compare) _ _ (c .before .loop .i) (rw size (omega arith)) (rw size (omega arith)) (c .before .loop .inv .1))
+
+pub same-edges-spec : {M : Type 1} → statement M
+same-edges-spec =
+    tie.close
+    (tie.spec
+    Inv-loop
+    μ-loop
+    returns
+    loop-holds
+    (λ c. search needs)
+    (λ c κs. search needs)
+    (λ c. search needs)
+    (λ c κs. search needs)
+    compare-edge-branches-requires
+    (λ c. search needs)
+    returns-2
+    (λ c. search needs)
+    returns-3
+    (λ c. search needs)
+    (λ c. search needs)
+    (λ c. search needs)
+    loop-again
+    returns-4)

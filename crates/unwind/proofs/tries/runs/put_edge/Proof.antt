@@ -1,0 +1,45 @@
+-- `put_edge` meets its contract. Assumes nothing.
+use mathlib.Core.List.{map}
+use Prim.Native.Nat.{compare}
+use native.Mathlib.Omega.{arith}
+use lib.ListN.{length-map}
+use Rattle.image.specs.Image.{routesIn}
+use Rattle.unwind.specs.declared.tries.runs.Spot.the-variants.{At}
+use Rattle.unwind.specs.Order.{compareTagged}
+use Rattle.unwind.specs.Nodes.{branches, edgeOf}
+use Rattle.unwind.specs.Runs.{SpotOf}
+use Rattle.unwind.proofs.TrieRuns.{length-branches, run-present, run-inserted}
+use borrow.Author.Needs.{needs}
+use Rattle.unwind.proofs.tries.runs.put_edge.Statement.{statement}
+use Rattle.unwind.proofs.tries.runs.put_edge.Tie as tie
+
+insert-requires : tie.Need-insert-requires
+insert-requires c κs =
+    let m = routesIn (c .before .before .before .before .before .before .before .before .args .s .now) (c .before .before .before .before .before .before .before .before .args .y) in
+    let l = branches (c .before .before .before .before .before .before .before .before .args .list .now) (c .before .before .before .before .before .before .before .before .args .at) (c .before .before .before .before .before .before .before .before .args .n) in
+    let spot : SpotOf (compareTagged compare) (edgeOf m (c .before .before .before .before .before .before .before .before .args .b)) (map (edgeOf m) l) (At (c .before .before .j .given .0 .0)) = rw (c .before .before .j .given .1) at (c .before .before .before .before .edge-spot .ensures) in
+    (c .before .before .before .before .before .before .before .before .pre .0, omega (arith, spot .0, length-map l (edgeOf m), length-branches (c .before .before .before .before .before .before .before .before .args .list .now) (c .before .before .before .before .before .before .before .before .args .at) (c .before .before .before .before .before .before .before .before .args .n)), c .before .before .before .before .before .before .before .before .pre .1, c .before .before .before .before .before .before .before .before .pre .2)
+
+returns : tie.Need-returns
+returns c =
+    let m = routesIn (c .before .before .before .before .before .before .args .s .now) (c .before .before .before .before .before .before .args .y) in
+    run-present (compareTagged compare) (edgeOf m) (c .before .before .before .before .before .before .args .list .now) (c .before .before .before .before .before .before .args .at) (c .before .before .before .before .before .before .args .n) (c .before .before .before .before .before .before .args .b) (rw (c .enum-told .given .1) at (c .before .before .edge-spot .ensures))
+
+returns-2 : tie.Need-returns-2
+returns-2 c =
+    let m = routesIn (c .before .before .before .before .before .before .before .before .before .before .before .args .s .now) (c .before .before .before .before .before .before .before .before .before .before .before .args .y) in
+    run-inserted (compareTagged compare) (edgeOf m) (c .before .before .before .before .before .before .before .before .before .before .before .args .list .now) (c .before .before .before .before .before .before .before .before .before .before .before .args .at) (c .before .before .before .before .before .before .before .before .before .before .before .args .n) (c .before .before .before .before .before .before .before .before .before .before .before .args .b) _ _ (rw (c .before .before .before .before .before .j .given .1) at (c .before .before .before .before .before .before .before .edge-spot .ensures)) (c .before .before .insert .ensures)
+
+pub put-edge-spec : {M : Type 1} → statement M
+put-edge-spec =
+    tie.close
+    (tie.spec
+    (λ c κs. search needs)
+    (λ c. search needs)
+    (λ c. search needs)
+    insert-requires
+    (λ c. search needs)
+    (λ c. search needs)
+    returns
+    (λ c. search needs)
+    returns-2)

@@ -1,0 +1,161 @@
+// Nodes by what they are: a node that stands already is not stored again.
+use crate::tries::compare::Order;
+use crate::tries::compare::compare_edge_branches;
+use crate::tries::compare::compare_end_branches;
+use crate::tries::store::Counts;
+use crate::tries::store::NodeRecord;
+use crate::tries::store::branch_at;
+use crate::tries::store::node_at;
+use crate::tries::store::put_node;
+use image::access::step_at;
+use image::section::RouteLayout;
+ghost use mathlib.Core.Path.{_≡_};
+ghost use mathlib.Core.List.{map};
+ghost use Prim.Native.Nat.{_+_, _<_, compare};
+ghost use Rattle.image.specs.Image.{routesIn};
+ghost use Rattle.image.specs.Accepted.{AcceptedRoutes};
+ghost use Rattle.unwind.specs.Order.{compareTagged, compareEnds, same};
+ghost use Rattle.unwind.specs.Trie.{sameFunclet, sameNode, placeOf};
+ghost use Rattle.unwind.specs.Nodes.{branches, funcletIn, edgeOf, endAt, nodeIn, nodesIn, Stored, NodeSmall};
+ghost use Rattle.unwind.specs.Kept.{placeIn, Behind, Kept};
+
+// Where a node stands.
+pub enum Place {
+    At(usize),
+    Nothing,
+}
+
+// A node's place, and how many nodes, edges and ends are stored then.
+pub struct Interned {
+    pub place: usize,
+    pub counts: Counts,
+}
+
+// Stores a node whose edges and ends are laid behind those that are stored, unless an equal one stands.
+pub fn keep_node(
+    s: &[u8],
+    y: RouteLayout,
+    nodes: &mut [u16],
+    edges: &[u16],
+    ends: &[u16],
+    counts: Counts,
+    x: NodeRecord,
+) -> Interned
+    requires { ⌜ AcceptedRoutes (routesIn (now s) y) × Stored (now nodes) (now edges) (now ends) counts × Behind (now nodes) (now edges) (now ends) counts x ⌝ }
+    ensures { λ r. ⌜ Kept (routesIn (now (s .entry)) y) (now (nodes .entry)) (now (edges .entry)) (now (ends .entry)) counts x (now (nodes .exit)) r ⌝ }
+{
+    let n = counts.nodes;
+    match find_node(s, y, nodes, edges, ends, n, x) {
+        Place::At(i) => Interned { place: i, counts },
+        Place::Nothing => {
+            put_node(nodes, n, x);
+            Interned {
+                place: n,
+                counts: Counts {
+                    nodes: n + 1,
+                    edges: counts.edges + x.edges,
+                    ends: counts.ends + x.ends,
+                },
+            }
+        }
+    }
+}
+
+// The first of the n nodes that equals x.
+fn find_node(
+    s: &[u8],
+    y: RouteLayout,
+    nodes: &[u16],
+    edges: &[u16],
+    ends: &[u16],
+    n: usize,
+    x: NodeRecord,
+) -> Place
+    requires { ⌜ AcceptedRoutes (routesIn (now s) y) × NodeSmall x ⌝ }
+    ensures { λ r. ⌜ placeIn r ≡ placeOf (nodeIn (routesIn (now (s .entry)) y) (now (edges .entry)) (now (ends .entry)) x) (nodesIn (routesIn (now (s .entry)) y) (now (nodes .entry)) (now (edges .entry)) (now (ends .entry)) n) ⌝ }
+{
+    for i in 0..n {
+        if same_node(s, y, edges, ends, x, node_at(nodes, i)) {
+            return Place::At(i);
+        }
+    }
+    Place::Nothing
+}
+
+// Equal nodes: all but the route.
+fn same_node(
+    s: &[u8],
+    y: RouteLayout,
+    edges: &[u16],
+    ends: &[u16],
+    a: NodeRecord,
+    b: NodeRecord,
+) -> bool
+    requires { ⌜ AcceptedRoutes (routesIn (now s) y) × NodeSmall a × NodeSmall b ⌝ }
+    ensures { λ r. ⌜ r ≡ sameNode (nodeIn (routesIn (now (s .entry)) y) (now (edges .entry)) (now (ends .entry)) a) (nodeIn (routesIn (now (s .entry)) y) (now (edges .entry)) (now (ends .entry)) b) ⌝ }
+{
+    if same_funclet(s, y, a.funclet, b.funclet) {
+        if same_edges(s, y, edges, a.first_edge, a.edges, b.first_edge, b.edges) {
+            return same_ends(s, y, ends, a.first_end, a.ends, b.first_end, b.ends);
+        }
+    }
+    false
+}
+
+fn same_funclet(s: &[u8], y: RouteLayout, a: usize, b: usize) -> bool
+    ensures { λ r. ⌜ r ≡ sameFunclet (funcletIn (routesIn (now (s .entry)) y) a) (funcletIn (routesIn (now (s .entry)) y) b) ⌝ }
+{
+    if a == 0 {
+        return b == 0;
+    }
+    if b == 0 {
+        return false;
+    }
+    let x = step_at(s, y.steps, a - 1);
+    let z = step_at(s, y.steps, b - 1);
+    x.value == z.value
+}
+
+// Whether the n edges from a on are the k from b on.
+fn same_edges(
+    s: &[u8],
+    y: RouteLayout,
+    list: &[u16],
+    a: usize,
+    n: usize,
+    b: usize,
+    k: usize,
+) -> bool
+    requires { ⌜ (a + n < 1048576) × (b + k < 1048576) ⌝ }
+    ensures { λ r. ⌜ r ≡ same (compareTagged compare) (map (edgeOf (routesIn (now (s .entry)) y)) (branches (now (list .entry)) a n)) (map (edgeOf (routesIn (now (s .entry)) y)) (branches (now (list .entry)) b k)) ⌝ }
+{
+    if n != k {
+        return false;
+    }
+    for i in 0..n {
+        match compare_edge_branches(s, y, branch_at(list, a + i), branch_at(list, b + i)) {
+            Order::Less => return false,
+            Order::Greater => return false,
+            Order::Equal => {}
+        }
+    }
+    true
+}
+
+// The same of ends.
+fn same_ends(s: &[u8], y: RouteLayout, list: &[u16], a: usize, n: usize, b: usize, k: usize) -> bool
+    requires { ⌜ AcceptedRoutes (routesIn (now s) y) × (a + n < 1048576) × (b + k < 1048576) ⌝ }
+    ensures { λ r. ⌜ r ≡ same (compareTagged compareEnds) (map (endAt (routesIn (now (s .entry)) y)) (branches (now (list .entry)) a n)) (map (endAt (routesIn (now (s .entry)) y)) (branches (now (list .entry)) b k)) ⌝ }
+{
+    if n != k {
+        return false;
+    }
+    for i in 0..n {
+        match compare_end_branches(s, y, branch_at(list, a + i), branch_at(list, b + i)) {
+            Order::Less => return false,
+            Order::Greater => return false,
+            Order::Equal => {}
+        }
+    }
+    true
+}
