@@ -8,6 +8,7 @@ use mathlib.Core.Path.{_≡_, refl, sym, _∙_, ap}
 use mathlib.Core.Logic.{_⊎_, inl, inr}
 use mathlib.Core.Bool.{Bool, true, false, cond, not, _&&_}
 use mathlib.Core.List.{List, [], _∷_, _++_, map, map-append}
+use mathlib.Core.Option.{some}
 use Prim.Native.Nat.{ℕ, zero, suc, _+_, _*_, _≤_, _<_}
 use native.Mathlib.Decide.{ℕ-discrete}
 use native.Mathlib.Omega.{arith}
@@ -54,6 +55,10 @@ is-block : (n : ℕ) → n < 65535 → endIn n ≡ block n
 unfolding endIn
 is-block n h = rw (ne-eqb n 65535 (λ e. omega arith))
 
+at-node : (z : List Node) (i : ℕ) {n : Node} → at z i ≡ some n → nodeAt z i ≡ n
+unfolding nodeAt
+at-node z i e = at-getD z i _ e
+
 module _ (g : Graph) (m : RouteImage) (nodes edges ends roots heads landings guards bases returns : List ℕ) (c : Counts) (t : TriesIn m nodes edges ends roots c) (s : Leads g m ends heads landings c) where
   abbrev z : List Node
   z = tries (routesOf m) .nodes
@@ -75,14 +80,14 @@ module _ (g : Graph) (m : RouteImage) (nodes edges ends roots heads landings gua
   child-below i k h j =
       let long = count-is in
       let here = lt-at z i (omega arith) in
-      let same : here .0 ≡ nodeIn m edges ends (recordIn nodes i) = sym (at-getD z i _ (here .1)) ∙ node-is i h in
+      let same : here .0 ≡ nodeIn m edges ends (recordIn nodes i) = sym (at-node z i (here .1)) ∙ node-is i h in
       let low = tries-law (routesOf m) .fits .fit i (here .0) (here .1) .lower (edgeOf m (branchIn edges (recordIn nodes i .«first_edge» + k)))
           (rw same (mem-map (edgeOf m) (table-mem (λ k. branchIn edges (recordIn nodes i .«first_edge» + k)) (recordIn nodes i .edges) k j))) in
       omega arith
 
   module _ (b : ℕ) (few : b < 65535) where
     edge-same : (i k : ℕ) → i < c .nodes → k < recordIn nodes i .edges → let e = branchIn edges (recordIn nodes i .«first_edge» + k) in
-        exitTo m b e (getD heads (e .what) 0) ≡ record { leap = record { source = b; end = block (entryOf g fs z (e .what)) }; calls = edgeOf m e .calls }
+        exitTo m b e (getD heads (e .what) 0) ≡ record { leap = record { source = b; end = block (entryOf g fs z (edgeOf m e .what)) }; calls = edgeOf m e .calls }
     unfolding edgeOf
     edge-same i k h j =
         let e = branchIn edges (recordIn nodes i .«first_edge» + k) in
@@ -123,3 +128,38 @@ module _ (g : Graph) (m : RouteImage) (nodes edges ends roots heads landings gua
             ∙ sym (map-table off (λ k. endAt m (branchIn ends (x .«first_end» + k))) (x .ends))
             ∙ ap (map off) (sym (map-table (endAt m) (λ k. branchIn ends (x .«first_end» + k)) (x .ends))) in
         (λ u. e u ++ f u) ∙ ap (exitsFrom g (routesOf m) b) (sym (node-is i h))
+
+    -- ---- those of a block that stood
+
+    module _ (k : Sides g m guards bases returns c) where
+      abbrev later-is : ℕ → Bool
+      later-is = later g fs z
+
+      route-same : (r : ℕ) → r < length (m .routes) → routeRecords m b edges ends heads landings nodes roots guards r ≡ routeExits g (routesOf m) b r
+      unfolding routeRecords routeExits
+      route-same r h =
+          let e : getD roots r 0 ≡ getD (tries (routesOf m) .roots) r 0 = sym (getD-take (length (m .routes)) roots r 0 h) ∙ ap (λ (l : List ℕ). getD l r 0) (t .roots-are) in
+          let x : recordExits m b edges ends heads landings (recordIn nodes (getD roots r 0)) ≡ exitsFrom g (routesOf m) b (nodeAt z (getD (tries (routesOf m) .roots) r 0)) = record-exits (getD roots r 0) (t .roots-in r h) ∙ ap (λ (i : ℕ). exitsFrom g (routesOf m) b (nodeAt z i)) e in
+          λ u. cond (k .guards-are r b h u) (x u) []
+
+      node-same : b < length (g .blocks) → (i : ℕ) → i < c .nodes → nodeRecords m b edges ends heads landings nodes bases returns i ≡ nodeExits g (routesOf m) b i
+      unfolding nodeRecords nodeExits
+      node-same stood i h =
+          let e : (eqb (getD bases i 0) 0 && inSet returns i b) ≡ (not (later-is i) && among (keep (returning g) (blocksOf g fs z i)) b) = λ u. original u && k .returns-are i b h u in
+          λ u. cond (e u) (record-exits i h u) []
+        where
+          go : (x : Bool) → eqb (cond x (base g fs z i) 0) 0 ≡ not x
+          go true = ne-eqb (base g fs z i) 0 (λ q. omega (arith, from-above g (routesOf m) z i))
+          go false = refl
+
+          original : eqb (getD bases i 0) 0 ≡ not (later-is i)
+          original = ap (λ (n : ℕ). eqb n 0) (k .bases-are i h) ∙ go (later-is i)
+
+      pub block-records : b < length (g .blocks) → sorted compareExits (blockRecords m b nodes edges ends heads landings roots guards bases returns c) ≡ exitsAt (map exit (ways g (routesOf m))) b
+      unfolding blockRecords
+      block-records stood =
+          let routes : flat (routeRecords m b edges ends heads landings nodes roots guards) (length (m .routes)) ≡ flat (routeExits g (routesOf m) b) (length (routesOf m)) =
+              flat-same _ _ (length (m .routes)) route-same ∙ ap (flat (routeExits g (routesOf m) b)) (sym (length-routes m)) in
+          let others : flat (nodeRecords m b edges ends heads landings nodes bases returns) (c .nodes) ≡ flat (nodeExits g (routesOf m) b) (length z) =
+              flat-same _ _ (c .nodes) (node-same stood) ∙ ap (flat (nodeExits g (routesOf m) b)) (sym count-is) in
+          (λ u. sorted compareExits (routes u ++ others u)) ∙ sym (standing-exits g (routesOf m) b stood)
