@@ -3,13 +3,15 @@
 --     node-is                      a node in scratch
 --     child-below                  the node after an edge is an earlier one
 --     record-exits                 the exits of a node
---     block-records                those of a block that stood
+--     copy-records, block-records  those of a copy, and of a block that stood
+--     held-from, block-held, pooled-none, node-fits    what is gathered from nothing, and room for it
 use mathlib.Core.Path.{_≡_, refl, sym, _∙_, ap}
 use mathlib.Core.Logic.{_⊎_, inl, inr}
 use mathlib.Core.Bool.{Bool, true, false, cond, not, _&&_}
 use mathlib.Core.List.{List, [], _∷_, _++_, map, map-append}
 use mathlib.Core.Option.{some}
 use Prim.Native.Nat.{ℕ, zero, suc, _+_, _*_, _≤_, _<_}
+use native.Mathlib.Nat.{not-suc-le-zero}
 use native.Mathlib.Decide.{ℕ-discrete}
 use native.Mathlib.Omega.{arith}
 use borrow.Author.Tests.{eq-eqb, ne-eqb}
@@ -33,18 +35,21 @@ use Rattle.unwind.specs.Part.{funclets, returning}
 use Rattle.unwind.specs.Trie.{Node, nodeAt, tries}
 use Rattle.unwind.specs.Nodes.{branchIn, recordIn, branches, pathRecord, edgeOf, endAt, nodeIn, nodesIn}
 use Rattle.unwind.specs.Routed.{TriesIn}
-use Rattle.unwind.specs.Instance.{blocksOf, later, base, entryOf}
+use Rattle.unwind.specs.Instance.{blocksOf, later, base, place, entryOf}
 use Rattle.unwind.specs.Ways.{HopEnd, block, leave, endAt as hopEnd, ways}
-use Rattle.unwind.specs.Sources.{Exit, exit, compareExits, exitsAt, exitsFrom, routeExits, nodeExits}
-use Rattle.unwind.specs.Entries.{endIn}
-use Rattle.unwind.specs.Gather.{exitTo, edgeExits, endNumber, endExits, recordExits, inSet, routeRecords, nodeRecords}
-use Rattle.unwind.specs.Lent.{Leads, Sides, blockRecords}
+use Rattle.unwind.specs.Sources.{Exit, exit, compareExits, exitsAt, exitsFrom, routeExits, nodeExits, copyExits}
+use Rattle.unwind.specs.Entries.{endIn, exitsIn}
+use Rattle.unwind.specs.Gather.{exitTo, edgeExits, endNumber, endExits, recordExits, Gathers, inSet, NodeFits, routeRecords, nodeRecords, Pooled, Adds}
+use Rattle.unwind.specs.Lent.{Leads, Sides, blockRecords, Holds, BlockHeld}
 use Rattle.unwind.specs.Walk.{_∈_}
-use Rattle.unwind.proofs.Lists.{at, lt-at, at-getD, mem-map}
+use Rattle.unwind.proofs.Lists.{none-in, at, lt-at, at-getD, mem-map}
 use Rattle.unwind.proofs.Intern.{tries-law}
 use Rattle.unwind.proofs.Instance.{from-above}
+use Rattle.unwind.proofs.Rising.{total-exits}
 use Rattle.unwind.proofs.EntryLaws.{table-mem}
-use Rattle.unwind.proofs.Leaving.{standing-exits}
+use Rattle.unwind.proofs.GatherLaws.{put-all-sorted}
+use Rattle.unwind.proofs.PoolLaws.{adds-both, pooled-most}
+use Rattle.unwind.proofs.Leaving.{standing-exits, copy-exits}
 
 pub map-table : {A B : Type 0} (f : A → B) (h : ℕ → A) (n : ℕ) → map f (table h n) ≡ table (λ k. f (h k)) n
 unfolding table
@@ -58,6 +63,34 @@ is-block n h = rw (ne-eqb n 65535 (λ e. omega arith))
 at-node : (z : List Node) (i : ℕ) {n : Node} → at z i ≡ some n → nodeAt z i ≡ n
 unfolding nodeAt
 at-node z i e = at-getD z i _ e
+
+-- ---- gathered from nothing
+
+module _ (m : RouteImage) (b : ℕ) (l l′ : List ℕ) (n : ℕ) (xs : List Exit) where
+  pub held-from : Gathers m b l 0 xs l′ n → Holds m b xs l′ n
+  unfolding exitsIn table sorted
+  held-from p = record { ordered = p .ordered; is = p .is ∙ put-all-sorted compareExits total-exits xs [] }
+
+pub pooled-none : (m : RouteImage) (b : ℕ) (edges ends heads landings l : List ℕ) → 2 * (length edges + length ends) ≤ length l → Pooled m b edges ends heads landings l 0
+unfolding exitsIn table
+pooled-none m b edges ends heads landings l room =
+    record { ordered = record { fit = omega arith; rises = λ b i j h k. absurd (not-suc-le-zero k) }; within = λ x k. absurd (none-in k); room = room }
+
+pub block-held : (m : RouteImage) (b : ℕ) (nodes edges ends heads landings roots guards bases returns : List ℕ) (c : Counts) {l l₁ l₂ : List ℕ} {n r : ℕ} (k : ℕ) → length (m .routes) ≡ k → Adds m b edges ends heads landings l 0 (flat (routeRecords m b edges ends heads landings nodes roots guards) k) l₁ n → Adds m b edges ends heads landings l₁ n (flat (nodeRecords m b edges ends heads landings nodes bases returns) (c .nodes)) l₂ r → BlockHeld m b (blockRecords m b nodes edges ends heads landings roots guards bases returns c) edges ends l l₂ r
+unfolding blockRecords
+block-held m b nodes edges ends heads landings roots guards bases returns c {l = l} {l₂ = l₂} {r = r} k e s p =
+    let routes = flat (routeRecords m b edges ends heads landings nodes roots guards) k in
+    let others = flat (nodeRecords m b edges ends heads landings nodes bases returns) (c .nodes) in
+    let all = adds-both m b edges ends heads landings routes others s p in
+    record { long = all .gathers .long; holds = rw e (held-from m b l l₂ r (routes ++ others) (all .gathers)); most = pooled-most m b edges ends heads landings l₂ r (all .pooled) }
+
+pub node-fits : (m : RouteImage) (nodes edges ends roots : List ℕ) (c : Counts) → TriesIn m nodes edges ends roots c → (i : ℕ) → i < c .nodes → NodeFits edges ends (recordIn nodes i)
+node-fits m nodes edges ends roots c t i h =
+    let a = t .stored .edges-in i h in
+    let d = t .stored .ends-in i h in
+    let p = t .stored .edges-fit in
+    let q = t .stored .ends-fit in
+    record { edges-in = omega arith; ends-in = omega arith }
 
 module _ (g : Graph) (m : RouteImage) (nodes edges ends roots heads landings guards bases returns : List ℕ) (c : Counts) (t : TriesIn m nodes edges ends roots c) (s : Leads g m ends heads landings c) where
   abbrev z : List Node
@@ -82,7 +115,7 @@ module _ (g : Graph) (m : RouteImage) (nodes edges ends roots heads landings gua
       let here = lt-at z i (omega arith) in
       let same : here .0 ≡ nodeIn m edges ends (recordIn nodes i) = sym (at-node z i (here .1)) ∙ node-is i h in
       let low = tries-law (routesOf m) .fits .fit i (here .0) (here .1) .lower (edgeOf m (branchIn edges (recordIn nodes i .«first_edge» + k)))
-          (rw same (mem-map (edgeOf m) (table-mem (λ k. branchIn edges (recordIn nodes i .«first_edge» + k)) (recordIn nodes i .edges) k j))) in
+      (rw same (mem-map (edgeOf m) (table-mem (λ k. branchIn edges (recordIn nodes i .«first_edge» + k)) (recordIn nodes i .edges) k j))) in
       omega arith
 
   module _ (b : ℕ) (few : b < 65535) where
@@ -120,14 +153,23 @@ module _ (g : Graph) (m : RouteImage) (nodes edges ends roots heads landings gua
         let on : Tagged ℕ → Exit = λ d. record { leap = record { source = b; end = block (entryOf g fs z (d .what)) }; calls = d .calls } in
         let off : Tagged UnwindEnd → Exit = λ d. record { leap = record { source = b; end = hopEnd g (routesOf m) b (d .what) }; calls = d .calls } in
         let e : table (λ k. exitTo m b (branchIn edges (x .«first_edge» + k)) (getD heads (branchIn edges (x .«first_edge» + k) .what) 0)) (x .edges) ≡ map on (map (edgeOf m) (branches edges (x .«first_edge») (x .edges))) =
-            table-same _ (λ k. on (edgeOf m (branchIn edges (x .«first_edge» + k)))) (x .edges) (λ k j. edge-same i k h j)
-            ∙ sym (map-table on (λ k. edgeOf m (branchIn edges (x .«first_edge» + k))) (x .edges))
-            ∙ ap (map on) (sym (map-table (edgeOf m) (λ k. branchIn edges (x .«first_edge» + k)) (x .edges))) in
+        table-same _ (λ k. on (edgeOf m (branchIn edges (x .«first_edge» + k)))) (x .edges) (λ k j. edge-same i k h j)
+        ∙ sym (map-table on (λ k. edgeOf m (branchIn edges (x .«first_edge» + k))) (x .edges))
+        ∙ ap (map on) (sym (map-table (edgeOf m) (λ k. branchIn edges (x .«first_edge» + k)) (x .edges))) in
         let f : table (λ k. exitTo m b (branchIn ends (x .«first_end» + k)) (endNumber m b landings (branchIn ends (x .«first_end» + k) .what) (x .«first_end» + k))) (x .ends) ≡ map off (map (endAt m) (branches ends (x .«first_end») (x .ends))) =
-            table-same _ (λ k. off (endAt m (branchIn ends (x .«first_end» + k)))) (x .ends) (λ k j. end-same (x .«first_end» + k) (let all = t .stored .ends-in i h in omega arith))
-            ∙ sym (map-table off (λ k. endAt m (branchIn ends (x .«first_end» + k))) (x .ends))
-            ∙ ap (map off) (sym (map-table (endAt m) (λ k. branchIn ends (x .«first_end» + k)) (x .ends))) in
+        table-same _ (λ k. off (endAt m (branchIn ends (x .«first_end» + k)))) (x .ends) (λ k j. end-same (x .«first_end» + k) (let all = t .stored .ends-in i h in omega arith))
+        ∙ sym (map-table off (λ k. endAt m (branchIn ends (x .«first_end» + k))) (x .ends))
+        ∙ ap (map off) (sym (map-table (endAt m) (λ k. branchIn ends (x .«first_end» + k)) (x .ends))) in
         (λ u. e u ++ f u) ∙ ap (exitsFrom g (routesOf m) b) (sym (node-is i h))
+
+    -- ---- those of a copy
+
+    pub copy-records : (i o : ℕ) → i < c .nodes → later g fs z i ≡ true → o ∈ blocksOf g fs z i → place g fs z i o ≡ b → sorted compareExits (cond (returning g o) (recordExits m b edges ends heads landings (recordIn nodes i)) []) ≡ exitsAt (map exit (ways g (routesOf m))) b
+    unfolding copyExits
+    copy-records i o h l own e =
+        let long = count-is in
+        let there = copy-exits g (routesOf m) i o (omega arith) l own in
+        ap (λ (t : List Exit). sorted compareExits (cond (returning g o) t [])) (record-exits i h) ∙ sym (rw e at there)
 
     -- ---- those of a block that stood
 
@@ -159,7 +201,7 @@ module _ (g : Graph) (m : RouteImage) (nodes edges ends roots heads landings gua
       unfolding blockRecords
       block-records stood =
           let routes : flat (routeRecords m b edges ends heads landings nodes roots guards) (length (m .routes)) ≡ flat (routeExits g (routesOf m) b) (length (routesOf m)) =
-              flat-same _ _ (length (m .routes)) route-same ∙ ap (flat (routeExits g (routesOf m) b)) (sym (length-routes m)) in
+          flat-same _ _ (length (m .routes)) route-same ∙ ap (flat (routeExits g (routesOf m) b)) (sym (length-routes m)) in
           let others : flat (nodeRecords m b edges ends heads landings nodes bases returns) (c .nodes) ≡ flat (nodeExits g (routesOf m) b) (length z) =
-              flat-same _ _ (c .nodes) (node-same stood) ∙ ap (flat (nodeExits g (routesOf m) b)) (sym count-is) in
+          flat-same _ _ (c .nodes) (node-same stood) ∙ ap (flat (nodeExits g (routesOf m) b)) (sym count-is) in
           (λ u. sorted compareExits (routes u ++ others u)) ∙ sym (standing-exits g (routesOf m) b stood)

@@ -2,7 +2,7 @@
 use mathlib.Core.Path.{_≡_}
 use mathlib.Core.Bool.{cond}
 use mathlib.Core.List.{List, _++_}
-use Prim.Native.Nat.{ℕ, _<_}
+use Prim.Native.Nat.{ℕ, _+_, _/_, _≤_, _<_}
 use lib.ListN.{length, getD}
 use Rattle.image.specs.Image.{RouteImage}
 use Rattle.image.specs.Deal.{handler, endOf, routesOf}
@@ -47,3 +47,9 @@ module _ (m : RouteImage) (b : ℕ) where
   pub record Holds (xs : List Exit) (l : List ℕ) (n : ℕ) : Type 0 where
     pub ordered : Ordered m l n
     pub is : exitsIn m b l n ≡ sorted compareExits xs
+
+  -- n of them, no more than edges and ends
+  pub record BlockHeld (xs : List Exit) (edges ends l l′ : List ℕ) (n : ℕ) : Type 0 where
+    pub long : length l′ ≡ length l
+    pub holds : Holds xs l′ n
+    pub most : n ≤ length edges / 3 + length ends / 3
