@@ -35,3 +35,4 @@ pub mod EntryLaws
 pub mod GatherLaws
 pub mod PoolLaws
 pub mod LentLaws
+pub mod SizeLaws

@@ -18,6 +18,7 @@ pub mod Sources
 pub mod Entries
 pub mod Gather
 pub mod Lent
+pub mod Sizes
 pub mod Add
 pub mod Walk
 pub mod Demand
