@@ -4,7 +4,8 @@
 --     child-below                  the node after an edge is an earlier one
 --     record-exits                 the exits of a node
 --     copy-records, block-records  those of a copy, and of a block that stood
---     held-from, block-held, pooled-none, node-fits    what is gathered from nothing, and room for it
+--     standing-hops                the hops of a block that stood
+--     held-from, block-held, block-size, pooled-none, node-fits    what is gathered from nothing, and room for it
 use mathlib.Core.Path.{_≡_, refl, sym, _∙_, ap}
 use mathlib.Core.Logic.{_⊎_, inl, inr}
 use mathlib.Core.Bool.{Bool, true, false, cond, not, _&&_}
@@ -25,6 +26,7 @@ use Rattle.graph.specs.Fold.{flat, among}
 use Rattle.graph.specs.Route.{routeAt}
 use Rattle.graph.proofs.FoldLaws.{length-table, table-same, getD-table, flat-same}
 use Rattle.graph.proofs.RouteLaws.{length-routes}
+use Rattle.unwind.specs.declared.emit.count.Sizes.{Sizes}
 use Rattle.unwind.specs.declared.tries.store.Branch.{Branch}
 use Rattle.unwind.specs.declared.tries.store.NodeRecord.{NodeRecord}
 use Rattle.unwind.specs.declared.tries.store.Counts.{Counts}
@@ -37,10 +39,11 @@ use Rattle.unwind.specs.Nodes.{branchIn, recordIn, branches, pathRecord,
 use Rattle.unwind.specs.Routed.{TriesIn}
 use Rattle.unwind.specs.Instance.{blocksOf, later, base, place, entryOf}
 use Rattle.unwind.specs.Ways.{HopEnd, block, leave, endAt as hopEnd, ways}
-use Rattle.unwind.specs.Sources.{Exit, exit, compareExits, exitsAt, exitsFrom, routeExits, nodeExits, copyExits}
+use Rattle.unwind.specs.Sources.{Exit, exit, compareExits, exitsAt, exitsFrom, routeExits, nodeExits, copyExits, hopsOn}
 use Rattle.unwind.specs.Entries.{endIn, exitsIn}
 use Rattle.unwind.specs.Gather.{exitTo, edgeExits, endNumber, endExits, recordExits, Gathers, inSet, NodeFits, routeRecords, nodeRecords, Pooled, Adds}
-use Rattle.unwind.specs.Lent.{Leads, Sides, blockRecords, Holds, BlockHeld}
+use Rattle.unwind.specs.Lent.{Leads, Sides, blockRecords, Holds, BlockHeld, blockHops}
+use Rattle.unwind.specs.Sizes.{HopsSize, SizesOf}
 use Rattle.unwind.specs.Walk.{_∈_}
 use Rattle.unwind.proofs.Lists.{none-in, at, lt-at, at-getD, mem-map}
 use Rattle.unwind.proofs.Intern.{tries-law}
@@ -83,6 +86,11 @@ block-held m b nodes edges ends heads landings roots guards bases returns c {l =
     let others = flat (nodeRecords m b edges ends heads landings nodes bases returns) (c .nodes) in
     let all = adds-both m b edges ends heads landings routes others s p in
     record { long = all .gathers .long; holds = rw e (held-from m b l l₂ r (routes ++ others) (all .gathers)); most = pooled-most m b edges ends heads landings l₂ r (all .pooled) }
+
+-- what is counted of them
+pub block-size : (m : RouteImage) (b : ℕ) (nodes edges ends heads landings roots guards bases returns : List ℕ) (c : Counts) {l : List ℕ} {n : ℕ} {q : Sizes} → Holds m b (blockRecords m b nodes edges ends heads landings roots guards bases returns c) l n → SizesOf l n q → HopsSize (blockHops m nodes edges ends heads landings roots guards bases returns c b) q
+unfolding blockHops
+block-size m b nodes edges ends heads landings roots guards bases returns c h s = rw (h .is) at (s .of m b)
 
 pub node-fits : (m : RouteImage) (nodes edges ends roots : List ℕ) (c : Counts) → TriesIn m nodes edges ends roots c → (i : ℕ) → i < c .nodes → NodeFits edges ends (recordIn nodes i)
 node-fits m nodes edges ends roots c t i h =
@@ -205,3 +213,7 @@ module _ (g : Graph) (m : RouteImage) (nodes edges ends roots heads landings gua
           let others : flat (nodeRecords m b edges ends heads landings nodes bases returns) (c .nodes) ≡ flat (nodeExits g (routesOf m) b) (length z) =
           flat-same _ _ (c .nodes) (node-same stood) ∙ ap (flat (nodeExits g (routesOf m) b)) (sym count-is) in
           (λ u. sorted compareExits (routes u ++ others u)) ∙ sym (standing-exits g (routesOf m) b stood)
+
+      pub standing-hops : b < length (g .blocks) → blockHops m nodes edges ends heads landings roots guards bases returns c b ≡ hopsOn [] (exitsAt (map exit (ways g (routesOf m))) b)
+      unfolding blockHops
+      standing-hops stood = ap (hopsOn []) (block-records stood)

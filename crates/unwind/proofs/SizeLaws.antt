@@ -1,6 +1,7 @@
 -- Sizes of hops.
 --     keep-all                     all are chosen
 --     lastEnd, size-none, size-next    entries counted one after the other
+--     sizes-both, sizes-more       of two lists of hops, and of many
 --     then-same, then-leave, then-block, then-most    one entry more
 use mathlib.Core.Path.{_≡_, refl, sym, _∙_, ap}
 use mathlib.Core.Bool.{Bool, true, false, cond}
@@ -10,8 +11,10 @@ use native.Mathlib.Numerals.{add-one}
 use native.Mathlib.Omega.{arith}
 use borrow.Author.Tests.{eq-eqb, ne-eqb}
 use lib.Dec.{eqb, isEq}
-use lib.ListN.{length}
+use lib.ListN.{length, length-append}
 use Rattle.image.specs.Image.{RouteImage, table}
+use Rattle.graph.specs.Fold.{flat}
+use Rattle.graph.proofs.FoldLaws.{flat-more}
 use Rattle.unwind.specs.declared.emit.count.Sizes.{Sizes}
 use Rattle.unwind.specs.Lists.{keep, joined}
 use Rattle.unwind.specs.Order.{_and-then_}
@@ -19,9 +22,11 @@ use Rattle.unwind.specs.Nodes.{branchIn}
 use Rattle.unwind.specs.Ways.{block, leave, Hop, Leap, compareLeaps}
 use Rattle.unwind.specs.Sources.{Exit, hopsThen, hopsOn, toBlock}
 use Rattle.unwind.specs.Entries.{endIn, exitIn, exitsIn}
-use Rattle.unwind.specs.Sizes.{HopsSize, SizesOf, sizesThen}
+use Rattle.unwind.specs.Sizes.{HopsSize, SizesOf, sizesThen, sizesBoth}
+use Rattle.unwind.proofs.TrieKeys.{joined-append}
 use Rattle.unwind.proofs.TrieOrder.{number-eq}
 use Rattle.unwind.proofs.Sources.{hops-then, lists-then, number-one, number-then}
+use Rattle.unwind.proofs.Wants.{keep-append}
 use Rattle.unwind.proofs.EntryLaws.{ends-compare}
 
 pub keep-all : {A : Type 0} (l : List A) → keep (λ (x : A). true) l ≡ l
@@ -127,3 +132,20 @@ module _ (z : Sizes) (last end : ℕ) where
 
 pub last-next : (l : List ℕ) (k : ℕ) → branchIn l k .what ≡ lastEnd l (k + 1)
 last-next l k = rw (add-one k)
+
+-- ---- of many lists
+
+pub sizes-both : (hs ks : List Hop) (p q : Sizes) → HopsSize hs p → HopsSize ks q → HopsSize (hs ++ ks) (sizesBoth p q)
+sizes-both hs ks p q x y =
+    record {
+      hops = (λ i. x .hops i + y .hops i) ∙ sym (length-append hs ks);
+      lists = (λ i. x .lists i + y .lists i) ∙ sym (ap length (joined-append (λ (h : Hop). h .calls) hs ks) ∙ length-append (joined (λ (h : Hop). h .calls) hs) (joined (λ (h : Hop). h .calls) ks));
+      blocks = (λ i. x .blocks i + y .blocks i) ∙ sym (ap length (keep-append (λ (h : Hop). toBlock (h .end)) hs ks) ∙ length-append (keep (λ (h : Hop). toBlock (h .end)) hs) (keep (λ (h : Hop). toBlock (h .end)) ks));
+    }
+
+pub sizes-none : (f : ℕ → List Hop) → HopsSize (flat f 0) (record { hops = 0; lists = 0; blocks = 0 })
+unfolding flat joined keep
+sizes-none f = record { hops = refl; lists = refl; blocks = refl }
+
+pub sizes-more : (f : ℕ → List Hop) (b : ℕ) (p q : Sizes) → HopsSize (flat f b) p → HopsSize (f b) q → HopsSize (flat f (b + 1)) (sizesBoth p q)
+sizes-more f b p q x y = rw (flat-more f b) (sizes-both (flat f b) (f b) p q x y)

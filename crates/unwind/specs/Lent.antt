@@ -1,8 +1,8 @@
 -- What the hops are gathered from: the tries, and where their nodes, ends and routes lie in the graph before.
 use mathlib.Core.Path.{_≡_}
 use mathlib.Core.Bool.{cond}
-use mathlib.Core.List.{List, _++_}
-use Prim.Native.Nat.{ℕ, _+_, _/_, _≤_, _<_}
+use mathlib.Core.List.{List, [], _++_}
+use Prim.Native.Nat.{ℕ, _+_, _*_, _/_, _≤_, _<_}
 use lib.ListN.{length, getD}
 use Rattle.image.specs.Image.{RouteImage}
 use Rattle.image.specs.Deal.{handler, endOf, routesOf}
@@ -18,7 +18,8 @@ use Rattle.unwind.specs.Trie.{tries}
 use Rattle.unwind.specs.Nodes.{branchIn, pathRecord}
 use Rattle.unwind.specs.Routed.{TriesIn}
 use Rattle.unwind.specs.Instance.{blocksOf, later, base, entryOf}
-use Rattle.unwind.specs.Sources.{Exit, compareExits}
+use Rattle.unwind.specs.Ways.{Hop}
+use Rattle.unwind.specs.Sources.{Exit, compareExits, hopsOn}
 use Rattle.unwind.specs.Entries.{exitsIn, Ordered}
 use Rattle.unwind.specs.Gather.{inSet, routeRecords, nodeRecords}
 
@@ -35,6 +36,12 @@ module _ (g : Graph) (m : RouteImage) where
     pub guards-are : (r b : ℕ) → r < length (m .routes) → inSet guards r b ≡ among (guarded g (routeAt (routesOf m) r)) b
     pub bases-are : (i : ℕ) → i < c .nodes → getD bases i 0 ≡ cond (later g (funclets (routesOf m)) (tries (routesOf m) .nodes) i) (base g (funclets (routesOf m)) (tries (routesOf m) .nodes) i) 0
     pub returns-are : (i b : ℕ) → i < c .nodes → inSet returns i b ≡ among (keep (returning g) (blocksOf g (funclets (routesOf m)) (tries (routesOf m) .nodes) i)) b
+
+-- room for the exits of one block
+pub record Roomy (edges ends exits : List ℕ) : Type 0 where
+  pub edges-few : length edges ≤ 65536
+  pub ends-few : length ends ≤ 65536
+  pub room : 2 * (length edges + length ends) ≤ length exits
 
 module _ (m : RouteImage) (b : ℕ) where
   -- the exits of a block that stood, by the numbers that are lent
@@ -53,3 +60,8 @@ module _ (m : RouteImage) (b : ℕ) where
     pub long : length l′ ≡ length l
     pub holds : Holds xs l′ n
     pub most : n ≤ length edges / 3 + length ends / 3
+
+-- the hops out of block b, by the numbers that are lent
+unfoldable pub blockHops : RouteImage → List ℕ → List ℕ → List ℕ → List ℕ → List ℕ → List ℕ → List ℕ → List ℕ → List ℕ → Counts → ℕ → List Hop
+blockHops m nodes edges ends heads landings roots guards bases returns c b =
+    hopsOn [] (sorted compareExits (blockRecords m b nodes edges ends heads landings roots guards bases returns c))

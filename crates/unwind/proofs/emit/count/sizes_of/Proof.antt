@@ -66,7 +66,8 @@ loop-again c =
 returns : tie.Need-returns Inv-loop μ-loop
 returns c =
     let all : c .before .loop .k ≡ c .before .before .before .args .n = omega (arith, c .before .loop .inv .0) in
-    record { of = rw all at (c .before .loop .inv .1 .of) }
+    let end = c .before .loop .inv .1 in
+    record { of = rw all at (end .of); hops-most = omega (arith, end .hops); lists-most = omega (arith, end .lists); blocks-most = omega (arith, end .blocks) }
 
 pub sizes-of-spec : {M : Type 1} → statement M
 sizes-of-spec =
