@@ -42,3 +42,5 @@ pub mod Leaving
 pub mod EntryLaws
 pub mod GatherLaws
 pub mod PoolLaws
+pub mod LentLaws
+pub mod SizeLaws

@@ -18,6 +18,8 @@ pub mod Ways
 pub mod Sources
 pub mod Entries
 pub mod Gather
+pub mod Lent
+pub mod Sizes
 pub mod Add
 pub mod Walk
 pub mod Demand

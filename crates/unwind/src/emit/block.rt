@@ -1,15 +1,71 @@
 // All ways out of a block that stood: of the routes that guard it, and of the nodes on the original blocks that return there.
 use crate::emit::gather::gather_node;
+use crate::tries::store::Counts;
 use crate::tries::store::number_at;
 use image::section::RouteLayout;
 ghost use mathlib.Core.Path.{_≡_};
-ghost use mathlib.Core.List.{_++_};
-ghost use Prim.Native.Nat.{ℕ, _<_};
-ghost use lib.ListN.{getD};
+ghost use Prim.Native.Nat.{_+_, _*_, _≤_, _<_};
+ghost use lib.ListN.{length, getD};
 ghost use Rattle.image.specs.Image.{routesIn};
+ghost use Rattle.image.specs.Accepted.{AcceptedRoutes};
 ghost use Rattle.graph.specs.Fold.{flat};
 ghost use Rattle.unwind.specs.Nodes.{recordIn};
 ghost use Rattle.unwind.specs.Gather.{inSet, NodeFits, AllFit, routeRecords, nodeRecords, Pooled, Adds};
+ghost use Rattle.unwind.specs.Routed.{TriesIn};
+ghost use Rattle.unwind.specs.Lent.{blockRecords, BlockHeld};
+
+// All of them, and how many there are.
+pub fn gather_block(
+    s: &[u8],
+    y: RouteLayout,
+    nodes: &[u16],
+    edges: &[u16],
+    ends: &[u16],
+    heads: &[u16],
+    landings: &[u16],
+    roots: &[u16],
+    guards: &[u64],
+    bases: &[u16],
+    returns: &[u64],
+    stored: Counts,
+    b: usize,
+    exits: &mut [u16],
+) -> usize
+    requires { ⌜ AcceptedRoutes (routesIn (now s) y) × TriesIn (routesIn (now s) y) (now nodes) (now edges) (now ends) (now roots) stored × (b < 65536) × (2 * (length (now edges) + length (now ends)) ≤ length (now exits)) ⌝ }
+    ensures { λ r. ⌜ BlockHeld (routesIn (now (s .entry)) y) b (blockRecords (routesIn (now (s .entry)) y) b (now (nodes .entry)) (now (edges .entry)) (now (ends .entry)) (now (heads .entry)) (now (landings .entry)) (now (roots .entry)) (now (guards .entry)) (now (bases .entry)) (now (returns .entry)) stored) (now (edges .entry)) (now (ends .entry)) (now (exits .entry)) (now (exits .exit)) r ⌝ }
+{
+    let count = y.routes.count as usize;
+    let n = gather_routes(
+        s,
+        y,
+        nodes,
+        edges,
+        ends,
+        heads,
+        landings,
+        roots,
+        guards,
+        count,
+        b,
+        exits,
+        0,
+    );
+    gather_nodes(
+        s,
+        y,
+        nodes,
+        edges,
+        ends,
+        heads,
+        landings,
+        bases,
+        returns,
+        stored.nodes,
+        b,
+        exits,
+        n,
+    )
+}
 
 // Those of the routes.
 fn gather_routes(

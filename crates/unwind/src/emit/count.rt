@@ -1,0 +1,130 @@
+// The sizes of what is added, before any of it is stored.
+use crate::emit::block::gather_block;
+use crate::emit::entries::LEAVE;
+use crate::tries::store::Counts;
+use crate::tries::store::branch_at;
+use image::section::RouteLayout;
+ghost use mathlib.Core.Path.{_≡_};
+ghost use Prim.Native.Nat.{_*_, _≤_, _<_};
+ghost use lib.ListN.{length};
+ghost use Rattle.image.specs.Image.{routesIn};
+ghost use Rattle.image.specs.Accepted.{AcceptedRoutes};
+ghost use Rattle.graph.specs.Fold.{flat};
+ghost use Rattle.unwind.specs.Routed.{TriesIn};
+ghost use Rattle.unwind.specs.Lent.{Roomy, blockHops};
+ghost use Rattle.unwind.specs.Sizes.{HopsSize, SizesOf, sizesThen, sizesBoth};
+
+// Hops, the lists that they have, and the hops that end at a block: one route edge each.
+pub struct Sizes {
+    pub hops: usize,
+    pub lists: usize,
+    pub blocks: usize,
+}
+
+// No end: what stands before the first entry.
+const NOWHERE: usize = 65536;
+
+// Those of the hops out of the first `blocks` blocks, which stood before.
+pub fn count_blocks(
+    s: &[u8],
+    y: RouteLayout,
+    nodes: &[u16],
+    edges: &[u16],
+    ends: &[u16],
+    heads: &[u16],
+    landings: &[u16],
+    roots: &[u16],
+    guards: &[u64],
+    bases: &[u16],
+    returns: &[u64],
+    stored: Counts,
+    blocks: usize,
+    exits: &mut [u16],
+) -> Sizes
+    requires { ⌜ AcceptedRoutes (routesIn (now s) y) × TriesIn (routesIn (now s) y) (now nodes) (now edges) (now ends) (now roots) stored × (blocks ≤ 1024) × Roomy (now edges) (now ends) (now exits) ⌝ }
+    ensures { λ r. ⌜ HopsSize (flat (blockHops (routesIn (now (s .entry)) y) (now (nodes .entry)) (now (edges .entry)) (now (ends .entry)) (now (heads .entry)) (now (landings .entry)) (now (roots .entry)) (now (guards .entry)) (now (bases .entry)) (now (returns .entry)) stored) blocks) r ⌝ }
+{
+    let mut sizes = Sizes {
+        hops: 0,
+        lists: 0,
+        blocks: 0,
+    };
+    for b in 0..blocks {
+        let n = gather_block(
+            s,
+            y,
+            nodes,
+            edges,
+            ends,
+            heads,
+            landings,
+            roots,
+            guards,
+            bases,
+            returns,
+            stored,
+            b,
+            exits,
+        );
+        let more = sizes_of(exits, n);
+        sizes = sizes_both(sizes, more);
+    }
+    sizes
+}
+
+fn sizes_both(p: Sizes, q: Sizes) -> Sizes
+    requires { ⌜ (p .hops < 4294967296) × (p .lists < 4294967296) × (p .blocks < 4294967296) × (q .hops < 65536) × (q .lists < 65536) × (q .blocks < 65536) ⌝ }
+    ensures { λ r. ⌜ r ≡ sizesBoth p q ⌝ }
+{
+    Sizes {
+        hops: p.hops + q.hops,
+        lists: p.lists + q.lists,
+        blocks: p.blocks + q.blocks,
+    }
+}
+
+// Those of the n ways out of one block.
+pub fn sizes_of(exits: &[u16], n: usize) -> Sizes
+    requires { ⌜ (3 * n ≤ length (now exits)) × (n < 65536) ⌝ }
+    ensures { λ r. ⌜ SizesOf (now (exits .entry)) n r ⌝ }
+{
+    let mut sizes = Sizes {
+        hops: 0,
+        lists: 0,
+        blocks: 0,
+    };
+    let mut last = NOWHERE;
+    for k in 0..n {
+        let end = branch_at(exits, k).what;
+        sizes = with_entry(sizes, last, end);
+        last = end;
+    }
+    sizes
+}
+
+// One entry more, behind one to `last`: a hop more if it ends elsewhere.
+fn with_entry(z: Sizes, last: usize, end: usize) -> Sizes
+    requires { ⌜ (z .hops < 4294967296) × (z .lists < 4294967296) × (z .blocks < 4294967296) ⌝ }
+    ensures { λ r. ⌜ r ≡ sizesThen z last end ⌝ }
+{
+    let lists = z.lists + 1;
+    if last == end {
+        return Sizes {
+            hops: z.hops,
+            lists,
+            blocks: z.blocks,
+        };
+    }
+    if end == LEAVE {
+        return Sizes {
+            hops: z.hops + 1,
+            lists,
+            blocks: z.blocks,
+        };
+    }
+    Sizes {
+        hops: z.hops + 1,
+        lists,
+        blocks: z.blocks + 1,
+    }
+}
