@@ -13,6 +13,9 @@ ghost use Rattle.graph.specs.Error.{refusalOf};
 ghost use Rattle.graph.specs.Build.{buildFrom};
 ghost use Rattle.export.specs.Answers.{refusalAnswer, toldBuild, Leaves, toldReached};
 
+// The number where nothing is refused.
+const NOTHING: u64 = 0;
+
 #[repr(C)]
 pub struct Answer {
     pub number: u64,
@@ -44,7 +47,7 @@ pub extern "C" fn foldzine_reached(g: &Words) -> ReachedCount
     let found = r.found;
     match found {
         Checked::Clear => ReachedCount {
-            number: 0,
+            number: NOTHING,
             count: r.count as u64,
         },
         Checked::Refused(_) => ReachedCount {
@@ -58,7 +61,7 @@ fn nothing_refused() -> Answer
     ensures { λ r. ⌜ r ≡ refusalAnswer (refusal 0 0 0) ⌝ }
 {
     Answer {
-        number: 0,
+        number: NOTHING,
         first: 0,
         second: 0,
     }
