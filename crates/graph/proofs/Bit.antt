@@ -3,22 +3,24 @@
 --     bit-shift               what a shift and a remainder read
 --     bit-or, bit-xor         a digit of an or, and of an exclusive or
 --     bit-power-same, -other  the digits of a power of two
---     ones-bits               `count_ones` counts the digits
+--     ones-bits, ones-none    `count_ones` counts the digits
+--     ones-split              those of the lowest k digits, and those above
 --     trailing-bit            `trailing_zeros` finds the lowest digit that is set
 --     bit-below               the digits of a number below a power of two
 -- Assumes nothing.
 use mathlib.Core.Path.{_≡_, refl, sym, ap, _∙_}
 use mathlib.Core.Bool.{Bool}
 use Prim.Native.Nat.{ℕ, zero, suc, _+_, _*_, _/_, _%_, _^_, _≤_, _<_, max, suc-le-suc}
-use native.Mathlib.Nat.{one-mul, pow-suc, not-suc-le-zero}
+use native.Mathlib.Nat.{one-mul, pow-suc, not-suc-le-zero, div-le-self}
 use native.Mathlib.Numerals.{one-add}
 use native.Mathlib.Omega.{arith}
+use borrow.Author.Tests.{ne-eqb}
 use lib.Dec.{eqb, lit<}
 use lib.Pow.{shr-shr, shl-exact}
 use lib.Bits.{bitOr, bitXor, differ, or-step, xor-step}
 use lib.Count.{ones, ones-step, trailingZeros, under}
 use Rattle.graph.specs.Fold.{count}
-use Rattle.graph.proofs.FoldLaws.{count-add, count-same}
+use Rattle.graph.proofs.FoldLaws.{count-add, count-same, count-none}
 
 unfoldable pub bit : ℕ → ℕ → ℕ
 bit x zero = x % 2
@@ -105,6 +107,22 @@ ones-bits (suc n) x h =
     let rest = count-same (λ (k : ℕ). digits x (1 + k)) (digits (x / 2)) n (λ k lt. ap (digits x) (one-add k)) in
     let all = ap (count (digits x)) (sym (one-add n)) ∙ count-add (digits x) 1 n in
     omega (arith, ones-step x, ones-bits n (x / 2) (omega (arith, pow-suc 2 n)), first x)
+
+pub ones-none : ones 0 ≡ 0
+unfolding count
+ones-none = ones-bits 0 0 (omega arith)
+
+bit-shifted : (x k j : ℕ) → bit (x / 2 ^ k) j ≡ bit x (k + j)
+bit-shifted x k j = sym (bit-shift (x / 2 ^ k) j) ∙ ap (λ (n : ℕ). n % 2) (shr-shr x k j) ∙ bit-shift x (k + j)
+
+pub ones-split : (x k : ℕ) → x < 2 ^ 64 → ones x ≡ count (λ (j : ℕ). eqb (bit x j) 1) k + ones (x / 2 ^ k)
+ones-split x k h =
+    let f : ℕ → Bool = λ j. eqb (bit x j) 1 in
+    let shifted : x / 2 ^ k < 2 ^ 64 = omega (arith, div-le-self x (2 ^ k)) in
+    let high = ones-bits 64 (x / 2 ^ k) shifted ∙ count-same _ (λ (j : ℕ). f (k + j)) 64 (λ j lt. ap (λ (n : ℕ). eqb n 1) (bit-shifted x k j)) in
+    let past = count-none (λ (j : ℕ). f (64 + j)) k (λ j lt. ne-eqb (bit x (64 + j)) 1 (omega (arith, bit-below 64 x (64 + j) h (omega arith)))) in
+    let turn : k + 64 ≡ 64 + k = omega arith in
+    omega (arith, ones-bits 64 x h, high, past, count-add f k 64, count-add f 64 k, ap (count f) turn)
 
 -- ---- the lowest digit that is set
 

@@ -5,12 +5,13 @@
 --     size-including, size-excluding       how many blocks there are then; size-le
 --     including-past, excluding-is         what a store writes
 --     Ored, size-more, lowest-is, none-more         a word more of a loop
+--     ones-past, rank-more, rank-all       how many blocks are below one
 --     zero-below, shift-below, word-below, below-is     a set's blocks are below n
 -- Assumes nothing.
 use mathlib.Core.Path.{_≡_, refl, sym, ap, ap₂, _∙_}
 use mathlib.Core.Bool.{Bool, true, false, cond, not, _&&_, _||_}
 use mathlib.Core.List.{List}
-use Prim.Native.Nat.{ℕ, zero, suc, _+_, _-_, _*_, _/_, _%_, _^_, _≤_, _<_, max}
+use Prim.Native.Nat.{ℕ, zero, suc, _+_, _-_, _*_, _/_, _%_, _^_, _≤_, _<_, min, max}
 use native.Mathlib.Nat.{not-suc-le-zero, div-eq-of-lt, div-lt-iff-lt-mul}
 use native.Mathlib.Decide.{ℕ-discrete, decLt}
 use native.Mathlib.Omega.{arith}
@@ -27,7 +28,7 @@ use Rattle.graph.specs.BlockSet.{member, none, including, excluding, Uni
 use Rattle.graph.specs.WellFormed.{within}
 use Rattle.graph.specs.declared.blockset.Lowest.the-variants.{At}
 use Rattle.graph.proofs.FoldLaws.{all-at, count-same, count-none, count-add, count-one, count-le}
-use Rattle.graph.proofs.Bit.{bit, bit-shift, bit-below, bit-lt, bit-zero, bit-or, bit-xor, bit-power-same, bit-power-other, ones-bits, trailing-bit}
+use Rattle.graph.proofs.Bit.{bit, bit-shift, bit-below, bit-lt, bit-zero, bit-or, bit-xor, bit-power-same, bit-power-other, ones-bits, ones-none, ones-split, trailing-bit}
 
 -- digit b of the set
 abbrev digit : List ℕ → ℕ → ℕ
@@ -233,6 +234,30 @@ module _ (w : List ℕ) (i : ℕ) where
               split (λ (d : ℕ). member w d ≡ false) i c (below c)
               (λ k e. member-at w i k (omega arith) ∙ ap (λ (n : ℕ). eqb n 1) (low .none-below k (omega arith))),
         )
+
+-- the blocks below k of a word's, of which those past the word are none
+pub ones-past : (x k : ℕ) → x < 2 ^ 64 → 64 ≤ k → ones (x / 2 ^ k) ≡ 0
+ones-past x k h le = ap ones (div-eq-of-lt (omega (arith, pow-mono {i = 64} {j = k} le))) ∙ ones-none
+
+pub rank-more : (w : List ℕ) (i k : ℕ) → getD w i 0 < 2 ^ 64 → count (member w) (64 * i + min k 64) ≡ count (member w) (64 * i) + (ones (getD w i 0) - ones (getD w i 0 / 2 ^ k))
+rank-more w i k fits =
+    let v : ℕ = getD w i 0 in
+    let here = count-add (member w) (64 * i) (min k 64) in
+    let digits = count-same (λ (j : ℕ). member w (64 * i + j)) (λ (j : ℕ). eqb (bit v j) 1) (min k 64) (λ j h. member-at w i j (omega arith)) in
+    elim (decLt k 64) [
+      | yes lt ↦ let m : min k 64 ≡ k = omega arith in omega (arith, here, digits, ones-split v k fits, ap (count (λ (j : ℕ). eqb (bit v j) 1)) m)
+      | no ge ↦ let m : min k 64 ≡ 64 = omega arith in omega (arith, here, digits, ones-bits 64 v fits, ap (count (λ (j : ℕ). eqb (bit v j) 1)) m, ones-past v k fits (omega arith))
+    ]
+
+pub rank-all : (w : List ℕ) → length w ≡ 16 → (b : ℕ) → count (member w) (min b 1024) ≡ count (member w) b
+rank-all w long b =
+    elim (decLt b 1024) [
+      | yes lt ↦ ap (count (member w)) (omega arith)
+      | no ge ↦
+          let m : min b 1024 ≡ 1024 = omega arith in
+          let rest : b ≡ 1024 + (b - 1024) = omega arith in
+          omega (arith, ap (count (member w)) m, ap (count (member w)) rest, count-add (member w) 1024 (b - 1024), count-none (λ (j : ℕ). member w (1024 + j)) (b - 1024) (λ j h. member-past w (1024 + j) long (omega arith)))
+    ]
 
 -- nothing in sixteen words is nothing at all
 pub none-at-all : (w : List ℕ) → length w ≡ 16 → ((c : ℕ) → c < 1024 → member w c ≡ false) → (c : ℕ) → member w c ≡ false

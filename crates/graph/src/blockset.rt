@@ -1,9 +1,10 @@
 // Sets of blocks, of which there are 1,024: block b is bit b % 64 of word b / 64. No other module looks into a set's words.
 ghost use mathlib.Core.Path.{_≡_};
-ghost use Prim.Native.Nat.{_-_, _*_, _^_, _≤_, _<_};
+ghost use Prim.Native.Nat.{_-_, _*_, _/_, _^_, _≤_, _<_};
 ghost use lib.Count.{ones, trailingZeros};
 ghost use lib.Dec.{ltb};
 ghost use lib.ListN.{length};
+ghost use Rattle.graph.specs.Fold.{count};
 ghost use Rattle.graph.specs.BlockSet.{member, none, including, excluding, Union, sizeOf, LowestOf};
 ghost use Rattle.graph.specs.WellFormed.{within};
 
@@ -65,7 +66,7 @@ impl BlockSet {
 }
 
 // What the type says and a list does not: there are sixteen words. A caller learns it by the call.
-fn sixteen(w: &[u64; 16])
+pub fn sixteen(w: &[u64; 16])
     ensures { λ _. ⌜ length (now (w .entry)) ≡ 16 ⌝ }
 {
     let _all: &[u64] = w;
@@ -124,6 +125,22 @@ pub fn size_of(w: &[u64; 16]) -> usize
     n
 }
 
+// How many blocks are below b.
+pub fn rank_in(w: &[u64; 16], b: usize) -> usize
+    ensures { λ r. ⌜ r ≡ count (member (now (w .entry))) b ⌝ }
+{
+    sixteen(w);
+    let mut n = 0;
+    for i in 0..16 {
+        let before = 64 * i;
+        if b <= before {
+            return n;
+        }
+        n += ones_below(w[i], b - before);
+    }
+    n
+}
+
 // The lowest block, by trailing zeros.
 pub fn lowest_in(w: &[u64; 16]) -> Lowest
     ensures { λ r. ⌜ LowestOf (now (w .entry)) r ⌝ }
@@ -142,6 +159,16 @@ fn ones_of(word: u64) -> usize
     ensures { λ r. ⌜ (r ≡ ones word) × (r ≤ 64) × (word < 2 ^ 64) ⌝ }
 {
     u64::count_ones(word) as usize
+}
+
+// How many of the lowest k digits are ones.
+fn ones_below(word: u64, k: usize) -> usize
+    ensures { λ r. ⌜ (r ≡ ones word - ones (word / 2 ^ k)) × (r ≤ 64) × (word < 2 ^ 64) ⌝ }
+{
+    if k < 64 {
+        return ones_of(word) - ones_of(word >> k);
+    }
+    ones_of(word)
 }
 
 fn zeros_of(word: u64) -> usize

@@ -1,6 +1,7 @@
 -- The funclets of the routes of an image, step by step, and the built blocks that they start.
 --     funclets-steps               an address is a funclet if some step of the image names it
 --     leadsTo, leads-to            the block that an address starts, as a test
+--     leads-begins, leads-block, part-named    the block, and the part of its funclet
 --     member-entering, length-entering     a set with it
 --     Entered, entered-none, entered-put, entered-skip     the set with those of the steps below j
 --     entries-are                  the set with those of all steps
@@ -36,8 +37,9 @@ use Rattle.graph.proofs.TableLaws.{start-at, below-at}
 use Rattle.graph.proofs.RouteLaws.{length-routes, paths-of, path-of, paths-in, steps-of, step-of, steps-in}
 use Rattle.unwind.specs.Blocks.{Leading, leads, inside, absent, firstOf, leading, blockIn, blockOf}
 use Rattle.unwind.specs.Part.{funclets}
-use Rattle.unwind.specs.Stands.{Stands}
-use Rattle.unwind.specs.PartSearch.{Barriers, entering}
+use Rattle.unwind.specs.Stands.{Stands, Has}
+use Rattle.unwind.specs.PartSearch.{Barriers, PartFrom, entering}
+use Rattle.unwind.specs.Instance.{partOf}
 use Rattle.unwind.specs.Add.{leadFound, leadCheck}
 use Rattle.unwind.specs.Walk.{_∈_, Funclet, Built as BuiltBlock, Begins}
 use Rattle.unwind.proofs.Lists.{and-both, and-true, both-ways, mem-getD, mem-at, at-lt, at-getD, mem-among, among-mem}
@@ -137,6 +139,15 @@ leadsTo absent b = false
 pub leads-begins : (g : Graph) (a c : ℕ) → leading g a ≡ leads c → Begins g a c
 unfolding leadCheck leadFound blockOf blockIn
 leads-begins g a c e = rw (ap blockIn e) at (lead-begins g a (rw e refl))
+
+pub leads-block : (g : Graph) (a c : ℕ) → leading g a ≡ leads c → blockOf g a ≡ c
+unfolding blockOf blockIn
+leads-block g a c e = ap blockIn e
+
+-- the part of the funclet f, whose entry is block e
+pub part-named : (g : Graph) (rs : List UnwindRoute) (w : List ℕ) (f e : ℕ) (r : List ℕ) → leading g f ≡ leads e → Barriers g rs w → PartFrom g w e r → Has r (partOf g (funclets rs) (some f))
+unfolding partOf
+part-named g rs w f e r is bars found = rw (leads-block g f e is) (rw (leads-begins g f e is .address) at (found rs bars))
 
 module _ (g : Graph) (s : Stands g) (n : ℕ) (built : Built g n) (there : 0 < length (g .table)) (b : ℕ) (h : b < length (g .blocks)) where
   pub leads-to : (a : ℕ) → leadsTo (leading g a) b ≡ (isBuilt g b && eqb a (firstOf g b .address))

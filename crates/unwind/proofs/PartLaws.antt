@@ -5,16 +5,17 @@
 --     bent-on                      the links of a block, one edge further
 --     part-has                     what is reached is the part
 --     Leaves, leaves-none, leaves-put, leaves-skip, sources-are     the blocks that an ordinary edge goes out of
+--     Sifted, sifted-none, sifted-put, sifted-skip, sifted-less, sifted-all     the blocks of a set that return
 -- Assumes nothing.
 use mathlib.Core.Path.{_≡_, refl, sym, ap, subst, _∙_}
-use mathlib.Core.Bool.{Bool, true, false, cond, not, _&&_, _||_, false≢true, true≢false, or-false, or-comm}
+use mathlib.Core.Bool.{Bool, true, false, cond, not, _&&_, _||_, false≢true, true≢false, and-false, or-false, or-comm}
 use mathlib.Core.Logic.{_⊎_, inl, inr, ⊎-elim}
 use mathlib.Core.List.{List, [], _∷_, map}
 use Prim.Native.Nat.{ℕ, zero, suc, _+_, _-_, _≤_, _<_}
 use native.Mathlib.Numerals.{add-one}
 use native.Mathlib.Decide.{ℕ-discrete}
 use native.Mathlib.Omega.{arith}
-use borrow.Author.Tests.{eq-eqb, lt-ltb, ltb-true}
+use borrow.Author.Tests.{eq-eqb, ne-eqb, lt-ltb, ltb-true}
 use lib.Dec.{eqb, ltb}
 use lib.ListN.{length, getD, drop, length-map, List·getD-map}
 use Rattle.image.specs.Deal.{UnwindRoute}
@@ -22,18 +23,18 @@ use Rattle.graph.specs.declared.record.Edge.{Edge}
 use Rattle.graph.specs.Graph.{Graph, edge}
 use Rattle.graph.specs.Words.{edgeOf}
 use Rattle.graph.specs.Fold.{some as any, all, among}
-use Rattle.graph.specs.BlockSet.{member, none, including}
+use Rattle.graph.specs.BlockSet.{member, none, including, excluding, sizeOf}
 use Rattle.graph.specs.Reached.{Reached, start, step}
 use Rattle.graph.specs.Search.{In, Finds, Ends, linkIn, link, Linked, Works, seeing}
 use Rattle.graph.specs.WellFormed.{isBlock, edgeEndsExist, isBuilt}
 use Rattle.graph.proofs.FoldLaws.{decided, some-front}
-use Rattle.graph.proofs.BlockLaws.{member-none, member-including, length-including}
+use Rattle.graph.proofs.BlockLaws.{member-below, member-none, member-including, member-excluding, length-including, length-excluding, size-excluding}
 use Rattle.graph.proofs.SearchLaws as search-laws
 use Rattle.unwind.specs.Lists.{keep, isEmpty}
 use Rattle.unwind.specs.Blocks.{firstOf}
-use Rattle.unwind.specs.Part.{funclets, ordinary, outgoing, part}
+use Rattle.unwind.specs.Part.{funclets, ordinary, outgoing, part, returning}
 use Rattle.unwind.specs.Stands.{Stands, Has}
-use Rattle.unwind.specs.PartSearch.{Barriers, Sources, followed, bent, bounded}
+use Rattle.unwind.specs.PartSearch.{Barriers, Sources, Returns, followed, bent, bounded}
 use Rattle.unwind.specs.Walk.{_∈_, Built as BuiltBlock, Begins, Other, Reach, start as enter, step as onward}
 use Rattle.unwind.proofs.Lists.{both-ways, and-both, and-true, so-not, not-so, mem-getD, mem-at, at-lt, at-getD, mem-among, among-mem}
 use Rattle.unwind.proofs.Sound.{ends-exist}
@@ -295,3 +296,72 @@ module _ (g : Graph) where
 
   pub sources-are : (w : List ℕ) → Leaves g (length (g .edges)) w → Sources g w
   sources-are w x = record { goes = λ b. x .has b ∙ sources-is b g }
+
+-- ---- the blocks of a set that return
+
+-- found are those that return of the set but for those left
+pub record Sifted (g : Graph) (w left found : List ℕ) : Type 0 where
+  pub long : (length left ≡ 16) × (length found ≡ 16)
+  pub inside : (b : ℕ) → member left b ≡ true → member w b ≡ true
+  pub those : (b : ℕ) → member found b ≡ ((member w b && not (member left b)) && returning g b)
+
+module _ (g : Graph) (w : List ℕ) where
+  pub sifted-none : length w ≡ 16 → Sifted g w w none
+  sifted-none long = record { long = (long, refl); inside = λ b m. m; those = λ b. member-none b ∙ sym (go (member w b) (returning g b)) }
+    where
+      go : (x y : Bool) → ((x && not x) && y) ≡ false
+      go true y = refl
+      go false y = refl
+
+  module _ (left found : List ℕ) (x : Sifted g w left found) where
+    pub sifted-all : ((b : ℕ) → member left b ≡ false) → Returns g w found
+    sifted-all out = record { those = λ b. x .those b ∙ rw (out b) (ap (λ (t : Bool). t && returning g b) (and-true-right (member w b))) }
+      where
+        and-true-right : (t : Bool) → (t && true) ≡ t
+        and-true-right true = refl
+        and-true-right false = refl
+
+    module _ (b : ℕ) (there : member left b ≡ true) where
+      few : b < 1024
+      few = member-below left b (x .long .0) there
+
+      less : (c : ℕ) → member (excluding left b) c ≡ (not (eqb b c) && member left c)
+      less c = member-excluding left (x .long .0) b c
+
+      still : (c : ℕ) → member (excluding left b) c ≡ true → member w c ≡ true
+      still c m = x .inside c (and-both (not (eqb b c)) (member left c) (sym (less c) ∙ m) .1)
+
+      -- what is left of another block
+      apart : (c : ℕ) → (b ≡ c → ⊥) → member (excluding left b) c ≡ member left c
+      apart c ne = less c ∙ rw (ne-eqb b c ne)
+
+      gone : member (excluding left b) b ≡ false
+      gone = less b ∙ rw (eq-eqb b b refl)
+
+      pub sifted-less : sizeOf left ≡ suc (sizeOf (excluding left b))
+      sifted-less = size-excluding left (x .long .0) b few there
+
+      pub sifted-put : returning g b ≡ true → Sifted g w (excluding left b) (including found b)
+      sifted-put is =
+          record {
+            long = (length-excluding left b ∙ x .long .0, length-including found b ∙ x .long .1);
+            inside = still;
+            those = λ c.
+                member-including found (x .long .1) b few c
+                ∙ elim (ℕ-discrete b c) [
+                  | yes e ↦ rw (← e, eq-eqb b b refl, x .inside b there, gone, is)
+                  | no ne ↦ rw (ne-eqb b c ne, apart c ne) (x .those c)
+                ];
+          }
+
+      pub sifted-skip : returning g b ≡ false → Sifted g w (excluding left b) found
+      sifted-skip out =
+          record {
+            long = (length-excluding left b ∙ x .long .0, x .long .1);
+            inside = still;
+            those = λ c.
+                elim (ℕ-discrete b c) [
+                  | yes e ↦ rw (← e, gone, out) (x .those b ∙ rw (there, out) (and-false (member w b && false)) ∙ sym (and-false (member w b && true)))
+                  | no ne ↦ rw (apart c ne) (x .those c)
+                ];
+          }

@@ -3,6 +3,7 @@
 --     among-kept, length-kept, rank-kept       which numbers, how many, and how many stand before one
 --     keep-kept                    the kept ones of a rising list
 --     Rises, part-kept, keep-rises, guarded-kept     parts, what is kept of them, and guarded blocks are such lists
+--     returns-has                  the set of those that return has the kept list
 --     has-lt, size-has, rank-has   a set that has such a list: as many blocks, and as many below one
 -- Assumes nothing.
 use mathlib.Core.Path.{_≡_, refl, sym, ap, _∙_}
@@ -26,7 +27,8 @@ use Rattle.unwind.specs.Lists.{keep, upto, rank}
 use Rattle.unwind.specs.Blocks.{builtBlocks, firstOf, within, keepsEdge, guarded}
 use Rattle.unwind.specs.Part.{onward, round, rounds, part, returning}
 use Rattle.unwind.specs.Stands.{Has}
-use Rattle.unwind.proofs.Lists.{and-both}
+use Rattle.unwind.specs.PartSearch.{Returns}
+use Rattle.unwind.proofs.Lists.{and-both, and-true, both-ways, mem-keep, keep-mem, mem-among, among-mem}
 
 module _ {A : Type 0} where
   pub keep-append : (f : A → Bool) (l m : List A) → keep f (l ++ m) ≡ keep f l ++ keep f m
@@ -153,7 +155,16 @@ pub guarded-kept : (g : Graph) (r : UnwindRoute) → Rises (length (g .blocks)) 
 unfolding guarded builtBlocks
 guarded-kept g r = keep-rises (length (g .blocks)) _ _ (record { test = isBuilt g; is = refl })
 
--- ---- a set that has such a list
+-- ---- a set that has a list
+
+among-keep : (f : ℕ → Bool) (l : List ℕ) (b : ℕ) → among (keep f l) b ≡ (among l b && f b)
+among-keep f l b =
+    both-ways _ _
+    (λ e. let x = keep-mem f l (among-mem (keep f l) b e) in and-true (mem-among (x .0)) (x .1))
+    (λ e. let x = and-both (among l b) (f b) e in mem-among (mem-keep f (among-mem l b (x .0)) (x .1)))
+
+pub returns-has : (g : Graph) (l w r : List ℕ) → Has w l → Returns g w r → Has r (keep (returning g) l)
+returns-has g l w r has x b = x .those b ∙ rw (has b) (sym (among-keep (returning g) l b))
 
 module _ (n : ℕ) (few : n ≤ 1024) (l : List ℕ) (r : Rises n l) (w : List ℕ) (has : Has w l) where
   member-is : (b : ℕ) → member w b ≡ (ltb b n && r .test b)

@@ -14,7 +14,7 @@ use Rattle.graph.specs.WellFormed.{isBuilt}
 use Rattle.unwind.specs.Lists.{keep, isEmpty}
 use Rattle.unwind.specs.Blocks.{Leading, leads, inside, absent, firstOf}
 use Rattle.unwind.specs.Stands.{Has}
-use Rattle.unwind.specs.Part.{funclets, ordinary, outgoing, part}
+use Rattle.unwind.specs.Part.{funclets, ordinary, outgoing, part, returning}
 
 -- the built blocks that start a funclet of the routes
 pub record Barriers (g : Graph) (rs : List UnwindRoute) (w : List ℕ) : Type 0 where
@@ -23,6 +23,10 @@ pub record Barriers (g : Graph) (rs : List UnwindRoute) (w : List ℕ) : Type 0 
 -- the blocks that an ordinary edge goes out of
 pub record Sources (g : Graph) (w : List ℕ) : Type 0 where
   pub goes : (b : ℕ) → member w b ≡ not (isEmpty (keep ordinary (outgoing g b)))
+
+-- the blocks of a set that return
+pub record Returns (g : Graph) (w r : List ℕ) : Type 0 where
+  pub those : (b : ℕ) → member r b ≡ (member w b && returning g b)
 
 -- the part of the funclet whose entry is block e, in any routes whose funclets w bars
 abbrev pub PartFrom : Graph → List ℕ → ℕ → List ℕ → Type 0

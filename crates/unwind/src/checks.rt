@@ -91,7 +91,9 @@ pub fn check_lead(g: &Words, built: usize, a: u64) -> Checked
 {
     match leading_block(g, built, a) {
         Lead::Leads(_) => Checked::Clear,
-        Lead::Inside => Checked::Refused(AddressBuildError::RouteAddressNotBlockStart { address: a }),
+        Lead::Inside => Checked::Refused(AddressBuildError::RouteAddressNotBlockStart {
+            address: a,
+        }),
         Lead::Absent => Checked::Refused(AddressBuildError::MissingRouteEntry { address: a }),
     }
 }

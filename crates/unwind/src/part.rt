@@ -6,6 +6,7 @@ use graph::blockset::Lowest;
 use graph::blockset::has_in;
 use graph::blockset::lowest_in;
 use graph::blockset::put_in;
+use graph::blockset::sixteen;
 use graph::blockset::take_from;
 use graph::reach::see;
 use graph::resume::FUNCLET;
@@ -29,7 +30,7 @@ ghost use Rattle.graph.specs.WellFormed.{isBuilt, Built};
 ghost use Rattle.unwind.specs.Blocks.{leading};
 ghost use Rattle.unwind.specs.Part.{returning as isReturning};
 ghost use Rattle.unwind.specs.Stands.{Stands};
-ghost use Rattle.unwind.specs.PartSearch.{Barriers, Sources, PartFrom, entering, bounded, Takes};
+ghost use Rattle.unwind.specs.PartSearch.{Barriers, Sources, Returns, PartFrom, entering, bounded, Takes};
 
 // 'without an ExceptionUnwind or Call edge'
 const CALL: u64 = 5;
@@ -101,6 +102,25 @@ pub fn returning(g: &Words, sources: &[u64; 16], b: usize) -> bool
         return true;
     }
     (flow == JUMP) & !has_in(sources, b)
+}
+
+// The blocks of a set that return.
+pub fn returns_of(g: &Words, sources: &[u64; 16], set: &[u64; 16]) -> [u64; 16]
+    requires { ⌜ Stands (heldIn (now g) .graph) × Sources (heldIn (now g) .graph) (now sources) ⌝ }
+    ensures { λ r. ⌜ Returns (heldIn (now (g .entry)) .graph) (now (set .entry)) r ⌝ }
+{
+    sixteen(set);
+    let mut left = *set;
+    let mut found = [0u64; 16];
+    loop {
+        let Lowest::At(b) = lowest_in(&left) else {
+            return found;
+        };
+        take_from(&mut left, b);
+        if returning(g, sources, b) {
+            put_in(&mut found, b);
+        }
+    }
 }
 
 // The part of the funclet whose entry is block `start`, along edges that are linked by their source.

@@ -1,5 +1,5 @@
 -- `check_lead` meets its contract, answer by answer. Assumes nothing.
-use mathlib.Core.Path.{refl, sym, ap, _∙_}
+use mathlib.Core.Path.{_≡_, refl, sym, ap, _∙_}
 use borrow.Author.Needs.{needs}
 use Rattle.unwind.specs.Stands.{leadingOf}
 use Rattle.unwind.specs.Add.{leadFound, leadCheck}
