@@ -34,3 +34,5 @@ pub mod TrieWork
 pub mod TrieRoutes
 pub mod TrieStore
 pub mod NodeChecks
+pub mod SlotLaws
+pub mod PlaceLaws

@@ -15,6 +15,7 @@ pub mod Grown
 pub mod Interns
 pub mod Routed
 pub mod Instance
+pub mod Placed
 pub mod Ways
 pub mod Add
 pub mod Walk

@@ -3,4 +3,6 @@ pub mod blocks;
 pub mod checks;
 pub mod node_checks;
 pub mod part;
+pub mod place;
+pub mod slots;
 pub mod tries;
