@@ -44,3 +44,5 @@ pub mod GatherLaws
 pub mod PoolLaws
 pub mod LentLaws
 pub mod SizeLaws
+pub mod SlotLaws
+pub mod PlaceLaws

@@ -14,6 +14,7 @@ pub mod Kept
 pub mod Interns
 pub mod Routed
 pub mod Instance
+pub mod Placed
 pub mod Ways
 pub mod Sources
 pub mod Entries

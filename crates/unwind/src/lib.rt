@@ -4,4 +4,6 @@ mod checks;
 mod emit;
 mod node_checks;
 mod part;
+mod place;
+mod slots;
 mod tries;

@@ -3,7 +3,7 @@ pub mod compare;
 mod intern;
 mod keys;
 mod lay;
-mod nodes;
+pub mod nodes;
 mod paths;
 mod runs;
 pub mod store;

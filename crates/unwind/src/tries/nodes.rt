@@ -121,7 +121,7 @@ fn same_node(
     false
 }
 
-fn same_funclet(s: &[u8], y: RouteLayout, a: usize, b: usize) -> bool
+pub fn same_funclet(s: &[u8], y: RouteLayout, a: usize, b: usize) -> bool
     ensures { λ r. ⌜ r ≡ sameFunclet (funcletIn (routesIn (now (s .entry)) y) a) (funcletIn (routesIn (now (s .entry)) y) b) ⌝ }
 {
     if a == 0 {

@@ -1,0 +1,64 @@
+-- `place_clone` meets its contract. Assumes nothing.
+use mathlib.Core.Path.{_≡_, refl, sym, ap, _∙_}
+use Prim.Native.Nat.{ℕ, _+_, _≤_, _<_}
+use native.Mathlib.Omega.{arith}
+use borrow.Author.Needs.{needs}
+use Rattle.unwind.specs.Placed.{setAt}
+use Rattle.unwind.proofs.PlaceLaws.{sizes-kept, rank-most}
+use Rattle.unwind.proofs.place.place_clone.Statement.{statement}
+use Rattle.unwind.proofs.place.place_clone.Tie as tie
+
+set-at-requires : tie.Need-set-at-requires
+set-at-requires c κs = let pre = c .before .before .before .before .before .pre in omega (arith, pre .0, pre .1 .parts-fit)
+
+set-at-requires-2 : tie.Need-set-at-requires-2
+set-at-requires-2 c κs = let pre = c .before .before .before .before .before .before .before .pre in omega (arith, pre .0, pre .1 .returns-fit)
+
+-- a rank is no more than there are blocks
+ranked : (c : tie.After-rank-in) → c .rank-in .result ≤ 1024
+ranked c = rw (c .rank-in .ensures, c .before .before .before .before .before .before .set-at .ensures) (rank-most (c .before .before .before .before .before .before .before .before .before .before .before .before .args .parts .now) (c .before .before .before .before .before .before .before .before .before .before .before .before .args .first) _)
+
+add-entry : tie.Need-add-entry
+add-entry c = omega (arith, ranked c, c .before .before .before .before .before .before .before .before .before .before .before .before .pre .2)
+
+store-node-requires : tie.Need-store-node-requires
+store-node-requires c κs =
+    let pre = c .before .before .before .before .before .before .before .before .before .before .before .before .before .before .before .before .before .before .pre in
+    let s = pre .1 in
+    (omega (arith, s .bases-fit), omega (arith, s .entries-fit), omega (arith, s .parts-fit), omega (arith, s .returns-fit), omega (arith, pre .2), omega (arith, pre .2, ranked (c .before .before .before .before .before .before)))
+
+same-length : tie.Need-same-length
+same-length c = sizes-kept (c .before .before .before .before .before .before .before .before .before .before .store-node .ensures) .bases-long
+
+same-length-2 : tie.Need-same-length-2
+same-length-2 c = sizes-kept (c .before .before .before .before .before .before .before .before .before .before .store-node .ensures) .entries-long
+
+same-length-3 : tie.Need-same-length-3
+same-length-3 c = sizes-kept (c .before .before .before .before .before .before .before .before .before .before .store-node .ensures) .parts-long
+
+same-length-4 : tie.Need-same-length-4
+same-length-4 c = sizes-kept (c .before .before .before .before .before .before .before .before .before .before .store-node .ensures) .returns-long
+
+returns : tie.Need-returns
+returns c =
+    let part = c .before .before .before .before .before .before .before .before .before .before .before .before .before .before .before .before .before .before .before .before .before .before .before .set-at .ensures in (
+      rw (c .before .before .before .before .before .before .before .before .before .before .before .before .before .before .before .before .before .rank-in .ensures, c .before .before .before .before .before .before .before .before .before .before .before .before .before .before .before .before .before .before .number-at .ensures .0, part, c .before .before .before .before .before .before .before .before .before .before .before .before .before .before .before .before .before .before .before .before .before .set-at2 .ensures) at (c .before .before .before .before .before .before .before .before .before .before .store-node .ensures),
+      rw part at (c .size-of .ensures),
+    )
+
+pub place-clone-spec : {M : Type 1} → statement M
+place-clone-spec =
+    tie.close
+    (tie.spec
+    set-at-requires
+    set-at-requires-2
+    (λ c κs. search needs)
+    (λ c κs. search needs)
+    add-entry
+    store-node-requires
+    (λ c κs. search needs)
+    same-length
+    same-length-2
+    same-length-3
+    same-length-4
+    returns)

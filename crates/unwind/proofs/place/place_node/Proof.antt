@@ -1,0 +1,73 @@
+-- `place_node` meets its contract: a later node of a funclet, or the first. Assumes nothing.
+use mathlib.Core.Path.{_≡_, refl, sym, ap, _∙_}
+use native.Mathlib.Omega.{arith}
+use borrow.Author.Needs.{needs}
+use Rattle.image.specs.Image.{routesIn}
+use Rattle.graph.specs.Words.{heldIn}
+use Rattle.graph.proofs.RecordLaws.{block-most}
+use Rattle.unwind.proofs.PlaceLaws.{sizes-kept, first-next, clone-next}
+use Rattle.unwind.proofs.place.place_node.Statement.{statement}
+use Rattle.unwind.proofs.place.place_node.Tie as tie
+
+place-clone-requires : tie.Need-place-clone-requires
+place-clone-requires c κs = let pre = c .before .before .before .before .before .before .before .before .before .before .before .before .before .before .pre in (c .before .before .before .before .if1 .taken, pre .2, pre .3)
+
+same-length : tie.Need-same-length
+same-length c = sizes-kept (c .before .before .before .before .before .before .before .before .place-clone .ensures .0) .bases-long
+
+same-length-2 : tie.Need-same-length-2
+same-length-2 c = sizes-kept (c .before .before .before .before .before .before .before .before .place-clone .ensures .0) .entries-long
+
+same-length-3 : tie.Need-same-length-3
+same-length-3 c = sizes-kept (c .before .before .before .before .before .before .before .before .place-clone .ensures .0) .parts-long
+
+same-length-4 : tie.Need-same-length-4
+same-length-4 c = sizes-kept (c .before .before .before .before .before .before .before .before .place-clone .ensures .0) .returns-long
+
+returns : tie.Need-returns
+returns c =
+    let a = c .before .before .before .before .before .before .before .before .before .before .before .before .before .before .before .before .before .before .before .before .before .before .before .args in
+    let pre = c .before .before .before .before .before .before .before .before .before .before .before .before .before .before .before .before .before .before .before .before .before .before .before .pre in
+    let stored = c .before .before .before .before .before .before .before .before .place-clone .ensures in
+    clone-next (heldIn (a .g .now) .graph) (routesIn (a .s .now) (a .y)) (a .nodes .now) (a .i) _ _ _ _ _ _ _ _ (pre .2) (block-most (a .g .now)) (pre .1) (a .base) _ (c .before .before .before .before .before .before .before .before .before .before .before .before .before .before .first-like .ensures) (c .before .before .before .before .before .before .before .before .before .before .before .before .before .if1 .taken) _ (stored .1) (stored .0)
+
+place-first-requires : tie.Need-place-first-requires
+place-first-requires c κs = let pre = c .before .before .before .before .before .before .before .before .before .before .before .before .before .before .pre in (pre .0, pre .1, pre .2)
+
+same-length-5 : tie.Need-same-length-5
+same-length-5 c = sizes-kept (c .before .before .before .before .before .before .before .before .place-first .ensures .placed) .bases-long
+
+same-length-6 : tie.Need-same-length-6
+same-length-6 c = sizes-kept (c .before .before .before .before .before .before .before .before .place-first .ensures .placed) .entries-long
+
+same-length-7 : tie.Need-same-length-7
+same-length-7 c = sizes-kept (c .before .before .before .before .before .before .before .before .place-first .ensures .placed) .parts-long
+
+same-length-8 : tie.Need-same-length-8
+same-length-8 c = sizes-kept (c .before .before .before .before .before .before .before .before .place-first .ensures .placed) .returns-long
+
+returns-2 : tie.Need-returns-2
+returns-2 c =
+    let a = c .before .before .before .before .before .before .before .before .before .before .before .before .before .before .before .before .before .before .before .before .before .before .before .args in
+    let pre = c .before .before .before .before .before .before .before .before .before .before .before .before .before .before .before .before .before .before .before .before .before .before .before .pre in
+    let first = c .before .before .before .before .before .before .before .before .before .before .before .before .before .before .first-like .ensures in
+    let itself : c .before .before .before .before .before .before .before .before .before .before .before .before .before .before .first-like .result ≡ a .i = omega (arith, first .most, c .before .before .before .before .before .before .before .before .before .before .before .before .before .if1 .left) in
+    first-next (heldIn (a .g .now) .graph) (routesIn (a .s .now) (a .y)) (a .nodes .now) (a .i) _ _ _ _ _ _ _ _ (pre .2) (a .base) (rw itself at first) (c .before .before .before .before .before .before .before .before .place-first .ensures)
+
+pub place-node-spec : {M : Type 1} → statement M
+place-node-spec =
+    tie.close
+    (tie.spec
+    (λ c κs. search needs)
+    place-clone-requires
+    same-length
+    same-length-2
+    same-length-3
+    same-length-4
+    returns
+    place-first-requires
+    same-length-5
+    same-length-6
+    same-length-7
+    same-length-8
+    returns-2)

@@ -1,0 +1,108 @@
+-- Instances in scratch: for each node of the trie where its blocks stand, and which they are.
+use mathlib.Core.Path.{_≡_}
+use mathlib.Core.Bool.{Bool, true, false, cond}
+use mathlib.Core.List.{List}
+use mathlib.Core.Option.{Option}
+use Prim.Native.Nat.{ℕ, _+_, _*_, _≤_, _<_}
+use lib.Dec.{leb}
+use lib.ListN.{length, getD, set}
+use Rattle.image.specs.Refusal.{Check, clear, refusal, unless}
+use Rattle.image.specs.Image.{RouteImage, table}
+use Rattle.image.specs.Deal.{routesOf}
+use Rattle.graph.specs.Graph.{Graph}
+use Rattle.graph.specs.Fold.{some}
+use Rattle.graph.specs.Search.{Linked, Roomy}
+use Rattle.graph.specs.WellFormed.{Built}
+use Rattle.unwind.specs.Lists.{keep}
+use Rattle.unwind.specs.Stands.{Stands, Has}
+use Rattle.unwind.specs.Part.{funclets, returning}
+use Rattle.unwind.specs.PartSearch.{Barriers, Sources}
+use Rattle.unwind.specs.Trie.{Node, sameFunclet}
+use Rattle.unwind.specs.Nodes.{recordIn, funcletIn, nodesIn}
+use Rattle.unwind.specs.Instance.{entryBlock, partOf, blocksOf, later, base, entryOf, cloneBlocks}
+
+-- set i of a slice, sixteen words each
+unfoldable pub setAt : List ℕ → ℕ → List ℕ
+setAt l i = table (λ k. getD l (16 * i + k) 0) 16
+
+-- set i is w, and all others are as they were
+pub record SetPut (l : List ℕ) (i : ℕ) (w l′ : List ℕ) : Type 0 where
+  pub long : length l′ ≡ length l
+  pub here : setAt l′ i ≡ w
+  pub others : (j : ℕ) → (j ≡ i → ⊥) → setAt l′ j ≡ setAt l j
+
+-- there is room for n nodes
+pub record Slots (n : ℕ) (bases entries parts returns : List ℕ) : Type 0 where
+  pub bases-fit : n ≤ length bases
+  pub entries-fit : n ≤ length entries
+  pub parts-fit : 16 * n ≤ length parts
+  pub returns-fit : 16 * n ≤ length returns
+
+-- and there is as much as before
+pub record SameSizes (bases entries parts returns bases′ entries′ parts′ returns′ : List ℕ) : Type 0 where
+  pub bases-long : length bases′ ≡ length bases
+  pub entries-long : length entries′ ≡ length entries
+  pub parts-long : length parts′ ≡ length parts
+  pub returns-long : length returns′ ≡ length returns
+
+-- THE INSTANCES of the first n nodes: the first copy's number, or 0 where the node uses the original blocks; the entry; the
+-- original blocks, and those of them that return
+pub record Placed (g : Graph) (fs : List ℕ) (z : List Node) (bases entries parts returns : List ℕ) (n : ℕ) : Type 0 where
+  pub base-is : (i : ℕ) → i < n → getD bases i 0 ≡ cond (later g fs z i) (base g fs z i) 0
+  pub entry-is : (i : ℕ) → i < n → getD entries i 0 ≡ entryOf g fs z i
+  pub part-has : (i : ℕ) → i < n → Has (setAt parts i) (blocksOf g fs z i)
+  pub returns-has : (i : ℕ) → i < n → Has (setAt returns i) (keep (returning g) (blocksOf g fs z i))
+
+-- ---- what is asked and answered of one node
+
+-- the funclet of node i
+abbrev pub funcletAt : RouteImage → List ℕ → ℕ → Option ℕ
+funcletAt m nodes i = funcletIn m (recordIn nodes i .funclet)
+
+abbrev pub like : RouteImage → List ℕ → ℕ → ℕ → Bool
+like m nodes i j = sameFunclet (funcletAt m nodes j) (funcletAt m nodes i)
+
+-- what is at hand: the graph's built blocks and links, the entries of funclets, and the blocks that an ordinary edge goes out of
+pub record Ready (g : Graph) (m : RouteImage) (n : ℕ) (head next barriers sources : List ℕ) : Type 0 where
+  pub stands : Stands g
+  pub built : Built g n
+  pub roomy : Roomy g head next
+  pub linked : Linked g head next 0
+  pub bars : Barriers g (routesOf m) barriers
+  pub goes : Sources g sources
+
+-- r is the first node with the funclet of node i
+pub record FirstLike (m : RouteImage) (nodes : List ℕ) (i r : ℕ) : Type 0 where
+  pub most : r ≤ i
+  pub none-before : some (like m nodes i) r ≡ false
+  pub same : r < i → like m nodes i r ≡ true
+
+-- node i is stored so
+pub record NodePlaced (i b e : ℕ) (w r bases entries parts returns bases′ entries′ parts′ returns′ : List ℕ) : Type 0 where
+  pub bases-set : bases′ ≡ set bases i b
+  pub entries-set : entries′ ≡ set entries i e
+  pub part-put : SetPut parts i w parts′
+  pub returns-put : SetPut returns i r returns′
+
+-- node i is the first of its funclet, and is stored so
+pub record FirstPlaced (g : Graph) (m : RouteImage) (nodes : List ℕ) (i : ℕ) (bases entries parts returns bases′ entries′ parts′ returns′ : List ℕ) : Type 0 where
+  pub part : List ℕ
+  pub ret : List ℕ
+  pub part-has : Has part (partOf g (funclets (routesOf m)) (funcletAt m nodes i))
+  pub returns-has : Has ret (keep (returning g) (partOf g (funclets (routesOf m)) (funcletAt m nodes i)))
+  pub placed : NodePlaced i 0 (entryBlock g (funcletAt m nodes i)) part ret bases entries parts returns bases′ entries′ parts′ returns′
+
+-- one more instance, which copies r blocks, the first as block b
+pub record Placing (g : Graph) (m : RouteImage) (nodes : List ℕ) (i b r : ℕ) (bases entries parts returns bases′ entries′ parts′ returns′ : List ℕ) : Type 0 where
+  pub few : r ≤ 1024
+  pub sizes : SameSizes bases entries parts returns bases′ entries′ parts′ returns′
+  pub next : (edges ends : List ℕ) (n : ℕ) → i < n → b ≡ base g (funclets (routesOf m)) (nodesIn m nodes edges ends n) i
+      → Placed g (funclets (routesOf m)) (nodesIn m nodes edges ends n) bases entries parts returns i
+      → Placed g (funclets (routesOf m)) (nodesIn m nodes edges ends n) bases′ entries′ parts′ returns′ (i + 1)
+      × (b + r ≡ base g (funclets (routesOf m)) (nodesIn m nodes edges ends n) (i + 1))
+
+-- all n, and 18: 'when the definition's result exceeds: 18 blocks 1,024'; whatever the edges and ends of the nodes
+pub record PlacedAll (g : Graph) (m : RouteImage) (nodes : List ℕ) (n : ℕ) (bases entries parts returns : List ℕ) (c : Check) : Type 0 where
+  pub slots : Slots n bases entries parts returns
+  pub check : (edges ends : List ℕ) → c ≡ unless (leb (length (g .blocks) + length (cloneBlocks g (funclets (routesOf m)) (nodesIn m nodes edges ends n))) 1024) (refusal 18 0 0)
+  pub placed : (edges ends : List ℕ) → c ≡ clear → Placed g (funclets (routesOf m)) (nodesIn m nodes edges ends n) bases entries parts returns n

@@ -1,0 +1,217 @@
+// Instances in scratch: for each node of the trie the first of its copies, its entry, its blocks and those that return.
+use crate::blocks::Lead;
+use crate::blocks::leading_block;
+use crate::part::part_of;
+use crate::part::returns_of;
+use crate::slots::put_set;
+use crate::slots::set_at;
+use crate::tries::nodes::same_funclet;
+use crate::tries::store::node_at;
+use crate::tries::store::number_at;
+use graph::blockset::rank_in;
+use graph::blockset::size_of;
+use graph::error::AddressBuildError;
+use graph::error::Checked;
+use graph::store::Words;
+use graph::store::blocks::block_count;
+use image::access::step_at;
+use image::section::RouteLayout;
+ghost use mathlib.Core.Path.{_≡_};
+ghost use mathlib.Core.Bool.{true};
+ghost use Prim.Native.Nat.{ℕ, _+_, _*_, _≤_, _<_};
+ghost use lib.ListN.{length, getD};
+ghost use Rattle.image.specs.Refusal.{clear};
+ghost use Rattle.image.specs.Image.{routesIn};
+ghost use Rattle.graph.specs.Words.{heldIn};
+ghost use Rattle.graph.specs.Error.{checkOf};
+ghost use Rattle.graph.specs.Fold.{count};
+ghost use Rattle.graph.specs.BlockSet.{member, none, sizeOf};
+ghost use Rattle.graph.specs.Search.{Linked, Roomy};
+ghost use Rattle.graph.specs.WellFormed.{isBuilt, Built};
+ghost use Rattle.unwind.specs.Stands.{Stands};
+ghost use Rattle.unwind.specs.PartSearch.{PartFrom};
+ghost use Rattle.unwind.specs.Nodes.{funcletIn};
+ghost use Rattle.unwind.specs.Instance.{entryBlock};
+ghost use Rattle.unwind.specs.Add.{funcletCheck};
+ghost use Rattle.unwind.specs.Placed.{setAt, Slots, funcletAt, Ready, FirstLike, NodePlaced, FirstPlaced, Placing, PlacedAll};
+
+// Most blocks of a graph (18).
+const MOST: usize = 1024;
+
+// The instances of the n nodes; 18 where with their copies there are too many blocks.
+pub fn place_nodes(
+    g: &Words,
+    built: usize,
+    s: &[u8],
+    y: RouteLayout,
+    nodes: &[u16],
+    n: usize,
+    head: &[u16],
+    next: &[u16],
+    barriers: &[u64; 16],
+    sources: &[u64; 16],
+    bases: &mut [u16],
+    entries: &mut [u16],
+    parts: &mut [u64],
+    returns: &mut [u64],
+) -> Checked
+    requires { ⌜ Ready (heldIn (now g) .graph) (routesIn (now s) y) built (now head) (now next) (now barriers) (now sources) × ((i : ℕ) → i < n → funcletCheck (heldIn (now g) .graph) (funcletAt (routesIn (now s) y) (now nodes) i) ≡ clear) × Slots n (now bases) (now entries) (now parts) (now returns) ⌝ }
+    ensures { λ r. ⌜ PlacedAll (heldIn (now (g .entry)) .graph) (routesIn (now (s .entry)) y) (now (nodes .entry)) n (now (bases .exit)) (now (entries .exit)) (now (parts .exit)) (now (returns .exit)) (checkOf r) ⌝ }
+{
+    let mut base = block_count(g);
+    for i in 0..n {
+        base += place_node(
+            g, built, s, y, nodes, head, next, barriers, sources, i, base, bases, entries, parts,
+            returns,
+        );
+        if MOST < base {
+            return Checked::Refused(AddressBuildError::TooManyBlocks);
+        }
+    }
+    Checked::Clear
+}
+
+// Node i, whose copies, if it makes any, begin with block `base`: how many it makes.
+fn place_node(
+    g: &Words,
+    built: usize,
+    s: &[u8],
+    y: RouteLayout,
+    nodes: &[u16],
+    head: &[u16],
+    next: &[u16],
+    barriers: &[u64; 16],
+    sources: &[u64; 16],
+    i: usize,
+    base: usize,
+    bases: &mut [u16],
+    entries: &mut [u16],
+    parts: &mut [u64],
+    returns: &mut [u64],
+) -> usize
+    requires { ⌜ Ready (heldIn (now g) .graph) (routesIn (now s) y) built (now head) (now next) (now barriers) (now sources) × (funcletCheck (heldIn (now g) .graph) (funcletAt (routesIn (now s) y) (now nodes) i) ≡ clear) × Slots (i + 1) (now bases) (now entries) (now parts) (now returns) × (base ≤ 1024) ⌝ }
+    ensures { λ r. ⌜ Placing (heldIn (now (g .entry)) .graph) (routesIn (now (s .entry)) y) (now (nodes .entry)) i base r (now (bases .entry)) (now (entries .entry)) (now (parts .entry)) (now (returns .entry)) (now (bases .exit)) (now (entries .exit)) (now (parts .exit)) (now (returns .exit)) ⌝ }
+{
+    let first = first_like(s, y, nodes, i);
+    if first < i {
+        return place_clone(first, i, base, bases, entries, parts, returns);
+    }
+    place_first(
+        g, built, s, y, nodes, head, next, barriers, sources, i, bases, entries, parts, returns,
+    );
+    0
+}
+
+// Node i, the first of its funclet: it has the original blocks.
+fn place_first(
+    g: &Words,
+    built: usize,
+    s: &[u8],
+    y: RouteLayout,
+    nodes: &[u16],
+    head: &[u16],
+    next: &[u16],
+    barriers: &[u64; 16],
+    sources: &[u64; 16],
+    i: usize,
+    bases: &mut [u16],
+    entries: &mut [u16],
+    parts: &mut [u64],
+    returns: &mut [u64],
+)
+    requires { ⌜ Ready (heldIn (now g) .graph) (routesIn (now s) y) built (now head) (now next) (now barriers) (now sources) × (funcletCheck (heldIn (now g) .graph) (funcletAt (routesIn (now s) y) (now nodes) i) ≡ clear) × Slots (i + 1) (now bases) (now entries) (now parts) (now returns) ⌝ }
+    ensures { λ _. ⌜ FirstPlaced (heldIn (now (g .entry)) .graph) (routesIn (now (s .entry)) y) (now (nodes .entry)) i (now (bases .entry)) (now (entries .entry)) (now (parts .entry)) (now (returns .entry)) (now (bases .exit)) (now (entries .exit)) (now (parts .exit)) (now (returns .exit)) ⌝ }
+{
+    let f = node_at(nodes, i).funclet;
+    let entry = entry_of(g, built, s, y, f);
+    let part = part_at(g, head, next, barriers, f, entry);
+    let ret = returns_of(g, sources, &part);
+    store_node(i, 0, entry, &part, &ret, bases, entries, parts, returns);
+}
+
+// Node i, a later one of the funclet of node `first`: it has copies, the first of which is block `base`. How many?
+fn place_clone(
+    first: usize,
+    i: usize,
+    base: usize,
+    bases: &mut [u16],
+    entries: &mut [u16],
+    parts: &mut [u64],
+    returns: &mut [u64],
+) -> usize
+    requires { ⌜ (first < i) × Slots (i + 1) (now bases) (now entries) (now parts) (now returns) × (base ≤ 1024) ⌝ }
+    ensures { λ r. ⌜ NodePlaced i base (base + count (member (setAt (now (parts .entry)) first)) (getD (now (entries .entry)) first 0)) (setAt (now (parts .entry)) first) (setAt (now (returns .entry)) first) (now (bases .entry)) (now (entries .entry)) (now (parts .entry)) (now (returns .entry)) (now (bases .exit)) (now (entries .exit)) (now (parts .exit)) (now (returns .exit)) × (r ≡ sizeOf (setAt (now (parts .entry)) first)) ⌝ }
+{
+    let part = set_at(parts, first);
+    let ret = set_at(returns, first);
+    let entry = base + rank_in(&part, number_at(entries, first));
+    store_node(i, base, entry, &part, &ret, bases, entries, parts, returns);
+    size_of(&part)
+}
+
+// The first node with the funclet of node i.
+fn first_like(s: &[u8], y: RouteLayout, nodes: &[u16], i: usize) -> usize
+    ensures { λ r. ⌜ FirstLike (routesIn (now (s .entry)) y) (now (nodes .entry)) i r ⌝ }
+{
+    let f = node_at(nodes, i).funclet;
+    for j in 0..i {
+        if same_funclet(s, y, node_at(nodes, j).funclet, f) {
+            return j;
+        }
+    }
+    i
+}
+
+// The entry of the funclet that step f - 1 names; 0 at the root of a route.
+fn entry_of(g: &Words, built: usize, s: &[u8], y: RouteLayout, f: usize) -> usize
+    requires { ⌜ Stands (heldIn (now g) .graph) × Built (heldIn (now g) .graph) built ⌝ }
+    ensures { λ r. ⌜ r ≡ entryBlock (heldIn (now (g .entry)) .graph) (funcletIn (routesIn (now (s .entry)) y) f) ⌝ }
+{
+    if f == 0 {
+        return 0;
+    }
+    match leading_block(g, built, step_at(s, y.steps, f - 1).value) {
+        Lead::Leads(b) => b,
+        Lead::Inside => 0,
+        Lead::Absent => 0,
+    }
+}
+
+// Its part; none at the root of a route.
+fn part_at(
+    g: &Words,
+    head: &[u16],
+    next: &[u16],
+    barriers: &[u64; 16],
+    f: usize,
+    entry: usize,
+) -> [u64; 16]
+    requires { ⌜ Stands (heldIn (now g) .graph) × Roomy (heldIn (now g) .graph) (now head) (now next) × Linked (heldIn (now g) .graph) (now head) (now next) 0 × ((f ≡ 0 → ⊥) → (entry < length (heldIn (now g) .graph .blocks)) × (isBuilt (heldIn (now g) .graph) entry ≡ true)) ⌝ }
+    ensures { λ r. ⌜ (f ≡ 0 → r ≡ none) × ((f ≡ 0 → ⊥) → PartFrom (heldIn (now (g .entry)) .graph) (now (barriers .entry)) entry r) ⌝ }
+{
+    if f == 0 {
+        return [0; 16];
+    }
+    part_of(g, head, next, barriers, entry)
+}
+
+// Stores node i: the first of its copies, or 0, its entry, its blocks, and those that return.
+fn store_node(
+    i: usize,
+    base: usize,
+    entry: usize,
+    part: &[u64; 16],
+    ret: &[u64; 16],
+    bases: &mut [u16],
+    entries: &mut [u16],
+    parts: &mut [u64],
+    returns: &mut [u64],
+)
+    requires { ⌜ (i < length (now bases)) × (i < length (now entries)) × (16 * i + 16 ≤ length (now parts)) × (16 * i + 16 ≤ length (now returns)) × (base < 65536) × (entry < 65536) ⌝ }
+    ensures { λ _. ⌜ NodePlaced i base entry (now (part .entry)) (now (ret .entry)) (now (bases .entry)) (now (entries .entry)) (now (parts .entry)) (now (returns .entry)) (now (bases .exit)) (now (entries .exit)) (now (parts .exit)) (now (returns .exit)) ⌝ }
+{
+    bases[i] = base as u16;
+    entries[i] = entry as u16;
+    put_set(parts, i, part);
+    put_set(returns, i, ret);
+}
