@@ -36,3 +36,4 @@ pub mod GatherLaws
 pub mod PoolLaws
 pub mod LentLaws
 pub mod SizeLaws
+pub mod CopyLaws
