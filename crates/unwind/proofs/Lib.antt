@@ -37,3 +37,4 @@ pub mod PoolLaws
 pub mod LentLaws
 pub mod SizeLaws
 pub mod CopyLaws
+pub mod AllHops
