@@ -38,3 +38,4 @@ pub mod LentLaws
 pub mod SizeLaws
 pub mod CopyLaws
 pub mod AllHops
+pub mod CopiesAre
