@@ -264,7 +264,7 @@ module _ (g : Graph) (rs : List UnwindRoute) where
 
 -- ---- the number of a copy
 
-upto-rising : (n : ℕ) → Rising compare (upto n)
+pub upto-rising : (n : ℕ) → Rising compare (upto n)
 unfolding upto Rising
 upto-rising zero = tt
 upto-rising (suc n) = rising-join compare (upto n) (n ∷ []) (upto-rising n) (λ y m. absurd (none-in m), tt) (λ x y i j. less x y i j)

@@ -46,3 +46,6 @@ pub mod LentLaws
 pub mod SizeLaws
 pub mod SlotLaws
 pub mod PlaceLaws
+pub mod CopyLaws
+pub mod AllHops
+pub mod CopiesAre

@@ -37,6 +37,10 @@ module _ (g : Graph) (m : RouteImage) where
     pub bases-are : (i : ℕ) → i < c .nodes → getD bases i 0 ≡ cond (later g (funclets (routesOf m)) (tries (routesOf m) .nodes) i) (base g (funclets (routesOf m)) (tries (routesOf m) .nodes) i) 0
     pub returns-are : (i b : ℕ) → i < c .nodes → inSet returns i b ≡ among (keep (returning g) (blocksOf g (funclets (routesOf m)) (tries (routesOf m) .nodes) i)) b
 
+  -- the original blocks of each node
+  pub record PartsIn (parts : List ℕ) (c : Counts) : Type 0 where
+    pub parts-are : (i b : ℕ) → i < c .nodes → inSet parts i b ≡ among (blocksOf g (funclets (routesOf m)) (tries (routesOf m) .nodes) i) b
+
 -- room for the exits of one block
 pub record Roomy (edges ends exits : List ℕ) : Type 0 where
   pub edges-few : length edges ≤ 65536

@@ -21,6 +21,7 @@ pub mod Entries
 pub mod Gather
 pub mod Lent
 pub mod Sizes
+pub mod Copies
 pub mod Add
 pub mod Walk
 pub mod Demand

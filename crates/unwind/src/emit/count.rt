@@ -72,7 +72,7 @@ pub fn count_blocks(
     sizes
 }
 
-fn sizes_both(p: Sizes, q: Sizes) -> Sizes
+pub fn sizes_both(p: Sizes, q: Sizes) -> Sizes
     requires { ⌜ (p .hops < 4294967296) × (p .lists < 4294967296) × (p .blocks < 4294967296) × (q .hops < 65536) × (q .lists < 65536) × (q .blocks < 65536) ⌝ }
     ensures { λ r. ⌜ r ≡ sizesBoth p q ⌝ }
 {

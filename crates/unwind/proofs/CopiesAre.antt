@@ -1,0 +1,103 @@
+-- The hops that are counted of a node's copies are those that leave them.
+--     copy-is                      those of one copy
+--     copies-are                   those of all copies of a node
+use mathlib.Core.Path.{_≡_, refl, sym, _∙_, ap}
+use mathlib.Core.Logic.{_⊎_, inl, inr}
+use mathlib.Core.Bool.{Bool, true, false, cond, false≢true}
+use mathlib.Core.List.{List, [], map}
+use Prim.Native.Nat.{ℕ, _+_, _≤_, _<_}
+use native.Mathlib.Omega.{arith}
+use lib.ListN.{length}
+use Rattle.image.specs.Image.{RouteImage}
+use Rattle.image.specs.Deal.{routesOf}
+use Rattle.graph.specs.Graph.{Graph}
+use Rattle.graph.specs.Fold.{flat, among}
+use Rattle.graph.proofs.FoldLaws.{flat-same, decided}
+use Rattle.unwind.specs.declared.tries.store.Counts.{Counts}
+use Rattle.unwind.specs.Lists.{keep, upto}
+use Rattle.unwind.specs.Order.{sorted}
+use Rattle.unwind.specs.Part.{funclets, returning}
+use Rattle.unwind.specs.Trie.{Node, tries}
+use Rattle.unwind.specs.Nodes.{recordIn}
+use Rattle.unwind.specs.Routed.{TriesIn}
+use Rattle.unwind.specs.Instance.{blocksOf, later, copied, base, place}
+use Rattle.unwind.specs.Ways.{Hop, ways}
+use Rattle.unwind.specs.Sources.{Exit, exit, compareExits, exitsAt, hopsOn}
+use Rattle.unwind.specs.Gather.{recordExits, inSet}
+use Rattle.unwind.specs.Lent.{Leads, Sides, PartsIn}
+use Rattle.unwind.specs.Copies.{copyNumber, hopsFrom, hopsIf, copyHops}
+use Rattle.unwind.specs.Walk.{_∈_}
+use Rattle.unwind.proofs.Lists.{mem-keep, keep-mem, mem-among, among-mem}
+use Rattle.unwind.proofs.Instance.{copied-later}
+use Rattle.unwind.proofs.Leaving.{place-below}
+use Rattle.unwind.proofs.LentLaws.{count-is, copy-records}
+use Rattle.unwind.proofs.AllHops.{copy-number, flat-chosen, part-is, place-is}
+
+among-keep : (f : ℕ → Bool) (l : List ℕ) (o : ℕ) → o ∈ l → among (keep f l) o ≡ f o
+among-keep f l o h = go (f o) refl (among (keep f l) o) refl
+  where
+    go : (a : Bool) → f o ≡ a → (b : Bool) → among (keep f l) o ≡ b → b ≡ a
+    go true e true p = refl
+    go true e false p = absurd (false≢true (sym p ∙ mem-among (mem-keep f h e)))
+    go false e true p = absurd (false≢true (sym e ∙ keep-mem f l (among-mem (keep f l) o p) .1))
+    go false e false p = refl
+
+none-kept : (f : ℕ → Bool) (l : List ℕ) (o : ℕ) → among l o ≡ false → among (keep f l) o ≡ false
+none-kept f l o n = go (among (keep f l) o) refl
+  where
+    go : (b : Bool) → among (keep f l) o ≡ b → b ≡ false
+    go true p = absurd (false≢true (sym n ∙ mem-among (keep-mem f l (among-mem (keep f l) o p) .0)))
+    go false p = refl
+
+if-hops : (t : Bool) (xs : List Exit) → hopsOn [] (sorted compareExits (cond t xs [])) ≡ cond t (hopsOn [] (sorted compareExits xs)) []
+unfolding hopsOn sorted
+if-hops true xs = refl
+if-hops false xs = refl
+
+module _ (g : Graph) (m : RouteImage) (nodes edges ends roots heads landings guards bases parts returns : List ℕ) (c : Counts) (t : TriesIn m nodes edges ends roots c) (s : Leads g m ends heads landings c) (k : Sides g m guards bases returns c) (q : PartsIn g m parts c) where
+  abbrev z : List Node
+  z = tries (routesOf m) .nodes
+
+  abbrev fs : List ℕ
+  fs = funclets (routesOf m)
+
+  abbrev out : ℕ → List Hop
+  out b = hopsOn [] (exitsAt (map exit (ways g (routesOf m))) b)
+
+  module _ (few : length (g .blocks) + length (flat (copied g fs z) (length z)) ≤ 65535) (i : ℕ) (inside : i < c .nodes) (copies : later g fs z i ≡ true) where
+    abbrev own : List ℕ
+    own = blocksOf g fs z i
+
+    abbrev first : ℕ
+    first = base g fs z i
+
+    abbrev here : ℕ → List Hop
+    here = copyHops m nodes edges ends heads landings parts returns i first
+
+    pub copy-is : (o : ℕ) → here o ≡ cond (inSet parts i o) (out (first + length (keep (inSet parts i) (upto o)))) []
+    unfolding copyHops hopsIf hopsFrom
+    copy-is o = go (decided (among own o))
+      where
+        go : (among own o ≡ true) ⊎ (among own o ≡ false) → here o ≡ cond (inSet parts i o) (out (first + length (keep (inSet parts i) (upto o)))) []
+        go (inl e) =
+            let mine : o ∈ own = among-mem own o e in
+            let b : ℕ = copyNumber parts i first o in
+            let long : length z ≡ c .nodes = count-is g m nodes edges ends roots heads landings guards bases returns c t s in
+            let at : place g fs z i o ≡ b = place-is g m parts c q i inside o first copies refl mine in
+            let low : b < 65535 = omega (arith, place-below g (routesOf m) i o (omega arith) mine) in
+            let exits = copy-records g m nodes edges ends roots heads landings guards bases returns c t s b low i o inside copies mine at in
+            let same : inSet returns i o ≡ returning g o = k .returns-are i o inside ∙ among-keep (returning g) own o mine in
+            ap (λ (u : Bool). cond u (hopsOn [] (sorted compareExits (recordExits m b edges ends heads landings (recordIn nodes i)))) []) same
+            ∙ sym (if-hops (returning g o) (recordExits m b edges ends heads landings (recordIn nodes i)))
+            ∙ ap (hopsOn []) exits
+            ∙ ap out (copy-number parts i first o)
+            ∙ ap (λ (u : Bool). cond u (out (first + length (keep (inSet parts i) (upto o)))) []) (sym (q .parts-are i o inside ∙ e))
+        go (inr e) =
+            let no : inSet returns i o ≡ false = k .returns-are i o inside ∙ none-kept (returning g) own o e in
+            rw (no, q .parts-are i o inside ∙ e)
+
+    pub copies-are : flat here (length (g .blocks)) ≡ flat (λ n. out (first + n)) (length (copied g fs z i))
+    copies-are =
+        flat-same here (λ o. cond (inSet parts i o) (out (first + length (keep (inSet parts i) (upto o)))) []) (length (g .blocks)) (λ o h. copy-is o)
+        ∙ flat-chosen (inSet parts i) (λ n. out (first + n)) (length (g .blocks))
+        ∙ ap (λ (l : List ℕ). flat (λ n. out (first + n)) (length l)) (sym (copied-later g (routesOf m) z i copies ∙ part-is g m parts c q i inside))

@@ -1,0 +1,64 @@
+-- The hops out of copies.
+--     record-length                how many exits a node has
+--     few-from, few-in, few-out    those of a node, if it returns there
+--     copy-first, copy-next        the number of a copy
+use mathlib.Core.Path.{_≡_, refl, sym, _∙_, ap, subst}
+use mathlib.Core.Bool.{Bool, true, false, cond}
+use mathlib.Core.List.{List, [], _++_}
+use Prim.Native.Nat.{ℕ, _+_, _≤_, _<_}
+use native.Mathlib.Numerals.{add-one}
+use native.Mathlib.Omega.{arith}
+use lib.ListN.{length, length-append}
+use Rattle.image.specs.Image.{RouteImage}
+use Rattle.graph.proofs.FoldLaws.{length-table}
+use Rattle.unwind.specs.declared.emit.count.Sizes.{Sizes}
+use Rattle.unwind.specs.declared.tries.store.NodeRecord.{NodeRecord}
+use Rattle.unwind.specs.Lists.{keep, joined}
+use Rattle.unwind.specs.Nodes.{recordIn}
+use Rattle.unwind.specs.Ways.{Hop}
+use Rattle.unwind.specs.Gather.{edgeExits, endExits, recordExits, Gathers, inSet}
+use Rattle.unwind.specs.Sizes.{HopsSize, SizesOf}
+use Rattle.unwind.specs.Copies.{copyNumber, hopsFrom, hopsIf, FewHops}
+use Rattle.unwind.proofs.LentLaws.{held-from}
+
+module _ (m : RouteImage) (b : ℕ) (nodes edges ends heads landings : List ℕ) where
+  pub record-length : (x : NodeRecord) → length (recordExits m b edges ends heads landings x) ≡ x .edges + x .ends
+  unfolding recordExits edgeExits endExits
+  record-length x = length-append (edgeExits m b edges heads (x .«first_edge») (x .edges)) (endExits m b ends landings (x .«first_end») (x .ends)) ∙ rw (length-table _ (x .edges), length-table _ (x .ends))
+
+  pub few-from : (i : ℕ) {l l′ : List ℕ} {n : ℕ} {r : Sizes} → Gathers m b l 0 (recordExits m b edges ends heads landings (recordIn nodes i)) l′ n → SizesOf l′ n r → n < 65536 → FewHops (hopsFrom m nodes edges ends heads landings i b) l l′ r
+  unfolding hopsFrom
+  few-from i {l} {l′} {n} p s few =
+      record {
+        long = p .long;
+        of = rw (held-from m b l l′ n (recordExits m b edges ends heads landings (recordIn nodes i)) p .is) at (s .of m b);
+        hops = let h = s .hops-most in omega arith;
+        lists = let h = s .lists-most in omega arith;
+        blocks = let h = s .blocks-most in omega arith;
+      }
+
+  module _ (returns : List ℕ) (i o : ℕ) where
+    pub few-in : {l l′ : List ℕ} {r : Sizes} → true ≡ inSet returns i o → FewHops (hopsFrom m nodes edges ends heads landings i b) l l′ r → FewHops (hopsIf m nodes edges ends heads landings returns i o b) l l′ r
+    unfolding hopsIf
+    few-in {l} {l′} {r} e s = subst (λ (t : Bool). FewHops (cond t (hopsFrom m nodes edges ends heads landings i b) []) l l′ r) e s
+
+    pub few-out : (l : List ℕ) → false ≡ inSet returns i o → FewHops (hopsIf m nodes edges ends heads landings returns i o b) l l (record { hops = 0; lists = 0; blocks = 0 })
+    unfolding hopsIf keep joined
+    few-out l e =
+        subst (λ (t : Bool). FewHops (cond t (hopsFrom m nodes edges ends heads landings i b) []) l l (record { hops = 0; lists = 0; blocks = 0 })) e
+        (record { long = refl; of = record { hops = refl; lists = refl; blocks = refl }; hops = omega arith; lists = omega arith; blocks = omega arith })
+
+pub copy-first : (parts : List ℕ) (i base : ℕ) → base ≡ copyNumber parts i base 0
+unfolding copyNumber
+copy-first parts i base = refl
+
+pub copy-next : (parts : List ℕ) (i base o b : ℕ) → b ≡ copyNumber parts i base o → b + cond (inSet parts i o) 1 0 ≡ copyNumber parts i base (o + 1)
+unfolding copyNumber
+copy-next parts i base o b e = rw (add-one o) (ap (λ (n : ℕ). n + cond (inSet parts i o) 1 0) e)
+
+pub copy-most : (parts : List ℕ) (i o b : ℕ) → b + cond (inSet parts i o) 1 0 ≤ b + 1
+copy-most parts i o b = go (inSet parts i o)
+  where
+    go : (t : Bool) → b + cond t 1 0 ≤ b + 1
+    go true = omega arith
+    go false = omega arith

@@ -1,0 +1,106 @@
+-- `count_copies` meets its contract. The invariant: the hops of the copies passed are counted. Assumes nothing.
+use mathlib.Core.Path.{_≡_, refl, sym, _∙_, subst}
+use mathlib.Core.List.{List}
+use Prim.Native.Nat.{ℕ, _+_, _*_, _-_, _≤_}
+use native.Mathlib.Omega.{arith}
+use lib.ListN.{length}
+use Rattle.image.specs.Image.{routesIn}
+use Rattle.graph.specs.Fold.{flat}
+use Rattle.unwind.specs.declared.emit.count.Sizes.{Sizes}
+use Rattle.unwind.specs.Ways.{Hop}
+use Rattle.unwind.specs.Sizes.{HopsSize}
+use Rattle.unwind.specs.Copies.{copyNumber, hopsIf, copyHops}
+use Rattle.unwind.proofs.SizeLaws.{sizes-none, sizes-more}
+use Rattle.unwind.proofs.CopyLaws.{copy-first, copy-next, copy-most}
+use borrow.Author.Needs.{needs}
+use Rattle.unwind.proofs.emit.copies.count_copies.Statement.{statement}
+use Rattle.unwind.proofs.emit.copies.count_copies.Tie as tie
+
+pub record Summed (f : ℕ → List Hop) (o : ℕ) (z : Sizes) : Type 0 where
+  pub hops : z .hops ≤ o * 65536
+  pub lists : z .lists ≤ o * 65536
+  pub blocks : z .blocks ≤ o * 65536
+  pub of : HopsSize (flat f o) z
+
+abbrev Inv-loop : tie.InvT-loop
+Inv-loop s y nodes edges ends heads landings parts returns i base blocks exits₀ sizes₀ b₀ o₀ exits sizes b o =
+    (o ≤ blocks) × (length exits ≡ length exits₀) × (b ≡ copyNumber parts i base o) × (b ≤ base + o) × Summed (copyHops (routesIn s y) nodes edges ends heads landings parts returns i base) o sizes
+
+abbrev μ-loop : tie.MeasureT-loop
+μ-loop s y nodes edges ends heads landings parts returns i base blocks exits₀ sizes₀ b₀ o₀ exits sizes b o = blocks - o
+
+loop-holds : tie.Need-loop-holds Inv-loop μ-loop
+loop-holds c =
+    let a = c .before .before .before .before .before .before .before .before .before .args in
+    (omega arith, refl, copy-first (a .parts .now) (a .i) (a .base), omega arith, record { hops = omega arith; lists = omega arith; blocks = omega arith; of = sizes-none (copyHops (routesIn (a .s .now) (a .y)) (a .nodes .now) (a .edges .now) (a .ends .now) (a .heads .now) (a .landings .now) (a .parts .now) (a .returns .now) (a .i) (a .base)) })
+
+count-copy-requires : tie.Need-count-copy-requires Inv-loop μ-loop
+count-copy-requires c κs =
+    let start = c .before .before .before .before .before .before .before .before .before .before .before .before in
+    let top = c .before .before .loop in
+    let room = start .pre .4 in
+    (start .pre .0, start .pre .1, omega (arith, start .pre .2, start .pre .3, top .inv .0, top .inv .3), record { edges-few = room .edges-few; ends-few = room .ends-few; room = omega (arith, room .room, top .inv .1) })
+
+sizes-both-requires : tie.Need-sizes-both-requires Inv-loop μ-loop
+sizes-both-requires c κs =
+    let start = c .before .before .before .before .before .before .before .before .before .before .before .before .before .before .before in
+    let was = c .before .before .before .before .before .loop .inv .4 in
+    let more = c .before .before .count-copy .ensures in
+    let test = c .before .before .before .before .loop-test .taken in
+    let all = start .pre .3 in
+    (omega (arith, was .hops), omega (arith, was .lists), omega (arith, was .blocks), more .hops, more .lists, more .blocks)
+
+next-copy-requires : tie.Need-next-copy-requires Inv-loop μ-loop
+next-copy-requires c κs =
+    let start = c .before .before .before .before .before .before .before .before .before .before .before .before .before .before .before .before in
+    let top = c .before .before .before .before .before .before .loop in
+    (start .pre .1, omega (arith, start .pre .2, start .pre .3, top .inv .0, top .inv .3))
+
+loop-again : tie.Need-loop-again Inv-loop μ-loop
+unfolding copyHops
+loop-again c =
+    let start = c .before .before .before .before .before .before .before .before .before .before .before .before .before .before .before .before .before in
+    let a = start .args in
+    let top = c .before .before .before .before .before .before .before .loop in
+    let more = c .before .before .before .before .count-copy .ensures in
+    let next = c .before .sizes-both .ensures in
+    let step = c .next-copy .ensures in
+    let was = top .inv .4 in
+    let here = subst (λ (b : ℕ). HopsSize (hopsIf (routesIn (a .s .now) (a .y)) (a .nodes .now) (a .edges .now) (a .ends .now) (a .heads .now) (a .landings .now) (a .returns .now) (a .i) (top .o) b) (c .before .before .before .before .count-copy .result)) (top .inv .2) (more .of) in (
+      omega (arith, c .before .before .before .before .before .before .loop-test .taken),
+      more .long ∙ top .inv .1,
+      step ∙ copy-next (a .parts .now) (a .i) (a .base) (top .o) (top .b) (top .inv .2),
+      omega (arith, step, copy-most (a .parts .now) (a .i) (top .o) (top .b), top .inv .3),
+      record {
+        hops = rw next (omega (arith, was .hops, more .hops));
+        lists = rw next (omega (arith, was .lists, more .lists));
+        blocks = rw next (omega (arith, was .blocks, more .blocks));
+        of =
+            rw next
+            (sizes-more (copyHops (routesIn (a .s .now) (a .y)) (a .nodes .now) (a .edges .now) (a .ends .now) (a .heads .now) (a .landings .now) (a .parts .now) (a .returns .now) (a .i) (a .base)) (top .o) (top .sizes) (c .before .before .before .before .count-copy .result) (was .of) here);
+      },
+    )
+
+same-length : tie.Need-same-length Inv-loop μ-loop
+same-length c = c .before .loop .inv .1
+
+returns : tie.Need-returns Inv-loop μ-loop
+returns c =
+    let all : c .before .loop .o ≡ c .before .before .before .before .before .before .before .before .before .before .before .args .blocks = omega (arith, c .before .loop .inv .0) in
+    rw all at (c .before .loop .inv .4 .of)
+
+pub count-copies-spec : {M : Type 1} → statement M
+count-copies-spec =
+    tie.close
+    (tie.spec
+    Inv-loop
+    μ-loop
+    loop-holds
+    count-copy-requires
+    sizes-both-requires
+    next-copy-requires
+    (λ c. search needs)
+    (λ c. search needs)
+    loop-again
+    same-length
+    returns)

@@ -1,0 +1,38 @@
+-- The hops out of the copies of one node, by the numbers that are lent.
+use mathlib.Core.Path.{_≡_}
+use mathlib.Core.Bool.{cond}
+use mathlib.Core.List.{List, []}
+use Prim.Native.Nat.{ℕ, zero, suc, _+_, _<_}
+use lib.ListN.{length}
+use Rattle.image.specs.Image.{RouteImage}
+use Rattle.unwind.specs.declared.emit.count.Sizes.{Sizes}
+use Rattle.unwind.specs.Order.{sorted}
+use Rattle.unwind.specs.Nodes.{recordIn}
+use Rattle.unwind.specs.Ways.{Hop}
+use Rattle.unwind.specs.Sources.{compareExits, hopsOn}
+use Rattle.unwind.specs.Gather.{recordExits, inSet}
+use Rattle.unwind.specs.Sizes.{HopsSize}
+
+-- the number of the copy of block o: behind those of the lower blocks of the node's part
+unfoldable pub copyNumber : List ℕ → ℕ → ℕ → ℕ → ℕ
+copyNumber parts i base zero = base
+copyNumber parts i base (suc o) = copyNumber parts i base o + cond (inSet parts i o) 1 0
+
+module _ (m : RouteImage) (nodes edges ends heads landings : List ℕ) where
+  -- the hops of node i out of b, and those out of b if it is the copy of a block o from which the node returns
+  unfoldable pub hopsFrom : ℕ → ℕ → List Hop
+  hopsFrom i b = hopsOn [] (sorted compareExits (recordExits m b edges ends heads landings (recordIn nodes i)))
+
+  unfoldable pub hopsIf : List ℕ → ℕ → ℕ → ℕ → List Hop
+  hopsIf returns i o b = cond (inSet returns i o) (hopsFrom i b) []
+
+  unfoldable pub copyHops : List ℕ → List ℕ → ℕ → ℕ → ℕ → List Hop
+  copyHops parts returns i base o = hopsIf returns i o (copyNumber parts i base o)
+
+-- few hops, counted; scratch is used
+pub record FewHops (hs : List Hop) (l l′ : List ℕ) (r : Sizes) : Type 0 where
+  pub long : length l′ ≡ length l
+  pub of : HopsSize hs r
+  pub hops : r .hops < 65536
+  pub lists : r .lists < 65536
+  pub blocks : r .blocks < 65536

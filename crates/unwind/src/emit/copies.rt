@@ -1,0 +1,122 @@
+// The sizes of the hops out of the copies of one node.
+use crate::emit::block::in_set;
+use crate::emit::count::Sizes;
+use crate::emit::count::sizes_both;
+use crate::emit::count::sizes_of;
+use crate::emit::gather::gather_node;
+use image::section::RouteLayout;
+ghost use mathlib.Core.Path.{_≡_};
+ghost use mathlib.Core.Bool.{cond};
+ghost use Prim.Native.Nat.{_+_, _≤_, _<_};
+ghost use Rattle.image.specs.Image.{routesIn};
+ghost use Rattle.graph.specs.Fold.{flat};
+ghost use Rattle.unwind.specs.Nodes.{recordIn};
+ghost use Rattle.unwind.specs.Gather.{NodeFits, inSet};
+ghost use Rattle.unwind.specs.Lent.{Roomy};
+ghost use Rattle.unwind.specs.Sizes.{HopsSize};
+ghost use Rattle.unwind.specs.Copies.{hopsFrom, hopsIf, copyHops, FewHops};
+
+// Those of node i, whose first copy is block `base`: of each of the first `blocks` blocks that is one of its part.
+pub fn count_copies(
+    s: &[u8],
+    y: RouteLayout,
+    nodes: &[u16],
+    edges: &[u16],
+    ends: &[u16],
+    heads: &[u16],
+    landings: &[u16],
+    parts: &[u64],
+    returns: &[u64],
+    i: usize,
+    base: usize,
+    blocks: usize,
+    exits: &mut [u16],
+) -> Sizes
+    requires { ⌜ NodeFits (now edges) (now ends) (recordIn (now nodes) i) × (i < 65536) × (base ≤ 1024) × (blocks ≤ 1024) × Roomy (now edges) (now ends) (now exits) ⌝ }
+    ensures { λ r. ⌜ HopsSize (flat (copyHops (routesIn (now (s .entry)) y) (now (nodes .entry)) (now (edges .entry)) (now (ends .entry)) (now (heads .entry)) (now (landings .entry)) (now (parts .entry)) (now (returns .entry)) i base) blocks) r ⌝ }
+{
+    let mut sizes = Sizes {
+        hops: 0,
+        lists: 0,
+        blocks: 0,
+    };
+    let mut b = base;
+    for o in 0..blocks {
+        let more = count_copy(
+            s,
+            y,
+            nodes,
+            edges,
+            ends,
+            heads,
+            landings,
+            returns,
+            i,
+            o,
+            b,
+            exits,
+        );
+        sizes = sizes_both(sizes, more);
+        b = next_copy(parts, i, o, b);
+    }
+    sizes
+}
+
+// The number of the next copy, where b is that of block o, if it is one of the part.
+fn next_copy(parts: &[u64], i: usize, o: usize, b: usize) -> usize
+    requires { ⌜ (i < 65536) × (b < 65536) ⌝ }
+    ensures { λ r. ⌜ r ≡ b + cond (inSet (now (parts .entry)) i o) 1 0 ⌝ }
+{
+    if in_set(parts, i, o) {
+        return b + 1;
+    }
+    b
+}
+
+// Those out of b, if it is the copy of a block o from which the node returns.
+fn count_copy(
+    s: &[u8],
+    y: RouteLayout,
+    nodes: &[u16],
+    edges: &[u16],
+    ends: &[u16],
+    heads: &[u16],
+    landings: &[u16],
+    returns: &[u64],
+    i: usize,
+    o: usize,
+    b: usize,
+    exits: &mut [u16],
+) -> Sizes
+    requires { ⌜ NodeFits (now edges) (now ends) (recordIn (now nodes) i) × (i < 65536) × (b < 65536) × Roomy (now edges) (now ends) (now exits) ⌝ }
+    ensures { λ r. ⌜ FewHops (hopsIf (routesIn (now (s .entry)) y) (now (nodes .entry)) (now (edges .entry)) (now (ends .entry)) (now (heads .entry)) (now (landings .entry)) (now (returns .entry)) i o b) (now (exits .entry)) (now (exits .exit)) r ⌝ }
+{
+    if in_set(returns, i, o) {
+        return sizes_from(s, y, nodes, edges, ends, heads, landings, i, b, exits);
+    }
+    Sizes {
+        hops: 0,
+        lists: 0,
+        blocks: 0,
+    }
+}
+
+// Those of node i out of b.
+fn sizes_from(
+    s: &[u8],
+    y: RouteLayout,
+    nodes: &[u16],
+    edges: &[u16],
+    ends: &[u16],
+    heads: &[u16],
+    landings: &[u16],
+    i: usize,
+    b: usize,
+    exits: &mut [u16],
+) -> Sizes
+    requires { ⌜ NodeFits (now edges) (now ends) (recordIn (now nodes) i) × (b < 65536) × Roomy (now edges) (now ends) (now exits) ⌝ }
+    ensures { λ r. ⌜ FewHops (hopsFrom (routesIn (now (s .entry)) y) (now (nodes .entry)) (now (edges .entry)) (now (ends .entry)) (now (heads .entry)) (now (landings .entry)) i b) (now (exits .entry)) (now (exits .exit)) r ⌝ }
+{
+    let n = gather_node(s, y, nodes, edges, ends, heads, landings, i, b, exits, 0);
+    sizes_of(exits, n)
+}
