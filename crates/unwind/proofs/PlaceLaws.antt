@@ -26,7 +26,7 @@ use Rattle.image.specs.Image.{RouteImage}
 use Rattle.image.specs.Deal.{routesOf}
 use Rattle.graph.specs.Graph.{Graph, block}
 use Rattle.graph.specs.Fold.{some as any, flat, count, among}
-use Rattle.graph.specs.BlockSet.{member, sizeOf} 
+use Rattle.graph.specs.BlockSet.{member, sizeOf}
 use Rattle.graph.specs.BlockSet as set
 use Rattle.graph.specs.WellFormed.{isBuilt}
 use Rattle.graph.proofs.FoldLaws.{length-table, some-same, some-at, count-le}
