@@ -10,21 +10,15 @@ use Rattle.unwind.specs.declared.emit.count.Sizes.{Sizes}
 use Rattle.unwind.specs.Ways.{Hop}
 use Rattle.unwind.specs.Lent.{blockHops}
 use Rattle.unwind.specs.Sizes.{HopsSize}
-use Rattle.unwind.proofs.SizeLaws.{sizes-none, sizes-more}
+use Rattle.unwind.proofs.SizeLaws.{Summed, summed-none, summed-more}
 use Rattle.unwind.proofs.LentLaws.{block-size}
 use borrow.Author.Needs.{needs}
 use Rattle.unwind.proofs.emit.count.count_blocks.Statement.{statement}
 use Rattle.unwind.proofs.emit.count.count_blocks.Tie as tie
 
-pub record Summed (f : ℕ → List Hop) (b : ℕ) (z : Sizes) : Type 0 where
-  pub hops : z .hops ≤ b * 65536
-  pub lists : z .lists ≤ b * 65536
-  pub blocks : z .blocks ≤ b * 65536
-  pub of : HopsSize (flat f b) z
-
 abbrev Inv-loop : tie.InvT-loop
 Inv-loop s y nodes edges ends heads landings roots guards bases returns stored blocks exits₀ sizes₀ b₀ exits sizes b =
-    (b ≤ blocks) × (length exits ≡ length exits₀) × Summed (blockHops (routesIn s y) nodes edges ends heads landings roots guards bases returns stored) b sizes
+    (b ≤ blocks) × (length exits ≡ length exits₀) × Summed (blockHops (routesIn s y) nodes edges ends heads landings roots guards bases returns stored) b 65536 sizes
 
 abbrev μ-loop : tie.MeasureT-loop
 μ-loop s y nodes edges ends heads landings roots guards bases returns stored blocks exits₀ sizes₀ b₀ exits sizes b = blocks - b
@@ -32,7 +26,7 @@ abbrev μ-loop : tie.MeasureT-loop
 loop-holds : tie.Need-loop-holds Inv-loop μ-loop
 loop-holds c =
     let a = c .before .before .before .before .before .before .before .before .before .before .before .args in
-    (omega arith, refl, record { hops = omega arith; lists = omega arith; blocks = omega arith; of = sizes-none (blockHops (routesIn (a .s .now) (a .y)) (a .nodes .now) (a .edges .now) (a .ends .now) (a .heads .now) (a .landings .now) (a .roots .now) (a .guards .now) (a .bases .now) (a .returns .now) (a .stored)) })
+    (omega arith, refl, summed-none (blockHops (routesIn (a .s .now) (a .y)) (a .nodes .now) (a .edges .now) (a .ends .now) (a .heads .now) (a .landings .now) (a .roots .now) (a .guards .now) (a .bases .now) (a .returns .now) (a .stored)) 65536)
 
 gather-block-requires : tie.Need-gather-block-requires Inv-loop μ-loop
 gather-block-requires c κs =
@@ -75,15 +69,9 @@ loop-again c =
     let was = top .inv .2 in (
       omega (arith, c .before .before .before .before .before .before .before .loop-test .taken),
       held .long ∙ top .inv .1,
-      record {
-        hops = rw next (omega (arith, was .hops, more .hops-most, few));
-        lists = rw next (omega (arith, was .lists, more .lists-most, few));
-        blocks = rw next (omega (arith, was .blocks, more .blocks-most, few));
-        of =
-            rw next
-            (sizes-more (blockHops (routesIn (a .s .now) (a .y)) (a .nodes .now) (a .edges .now) (a .ends .now) (a .heads .now) (a .landings .now) (a .roots .now) (a .guards .now) (a .bases .now) (a .returns .now) (a .stored)) (top .b) (top .sizes) (c .before .sizes-of .result) (was .of)
-            (block-size (routesIn (a .s .now) (a .y)) (top .b) (a .nodes .now) (a .edges .now) (a .ends .now) (a .heads .now) (a .landings .now) (a .roots .now) (a .guards .now) (a .bases .now) (a .returns .now) (a .stored) (held .holds) more));
-      },
+      rw next
+          (summed-more (blockHops (routesIn (a .s .now) (a .y)) (a .nodes .now) (a .edges .now) (a .ends .now) (a .heads .now) (a .landings .now) (a .roots .now) (a .guards .now) (a .bases .now) (a .returns .now) (a .stored)) (top .b) 65536 (top .sizes) (c .before .sizes-of .result) was
+          (block-size (routesIn (a .s .now) (a .y)) (top .b) (a .nodes .now) (a .edges .now) (a .ends .now) (a .heads .now) (a .landings .now) (a .roots .now) (a .guards .now) (a .bases .now) (a .returns .now) (a .stored) (held .holds) more) (omega (arith, more .hops-most, few)) (omega (arith, more .lists-most, few)) (omega (arith, more .blocks-most, few))),
     )
 
 same-length : tie.Need-same-length Inv-loop μ-loop
