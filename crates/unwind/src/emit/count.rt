@@ -73,7 +73,7 @@ pub fn count_blocks(
 }
 
 pub fn sizes_both(p: Sizes, q: Sizes) -> Sizes
-    requires { ⌜ (p .hops < 4294967296) × (p .lists < 4294967296) × (p .blocks < 4294967296) × (q .hops < 65536) × (q .lists < 65536) × (q .blocks < 65536) ⌝ }
+    requires { ⌜ (p .hops < 1099511627776) × (p .lists < 1099511627776) × (p .blocks < 1099511627776) × (q .hops < 1099511627776) × (q .lists < 1099511627776) × (q .blocks < 1099511627776) ⌝ }
     ensures { λ r. ⌜ r ≡ sizesBoth p q ⌝ }
 {
     Sizes {

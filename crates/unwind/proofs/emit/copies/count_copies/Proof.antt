@@ -42,7 +42,7 @@ sizes-both-requires c κs =
     let more = c .before .before .count-copy .ensures in
     let test = c .before .before .before .before .loop-test .taken in
     let all = start .pre .3 in
-    (omega (arith, was .hops), omega (arith, was .lists), omega (arith, was .blocks), more .hops, more .lists, more .blocks)
+    (omega (arith, was .hops), omega (arith, was .lists), omega (arith, was .blocks), omega (arith, more .hops), omega (arith, more .lists), omega (arith, more .blocks))
 
 next-copy-requires : tie.Need-next-copy-requires Inv-loop μ-loop
 next-copy-requires c κs =
@@ -74,8 +74,11 @@ same-length c = c .before .loop .inv .1
 
 returns : tie.Need-returns Inv-loop μ-loop
 returns c =
-    let all : c .before .loop .o ≡ c .before .before .before .before .before .before .before .before .before .before .before .args .blocks = omega (arith, c .before .loop .inv .0) in
-    rw all at (c .before .loop .inv .4 .of)
+    let start = c .before .before .before .before .before .before .before .before .before .before .before in
+    let all : c .before .loop .o ≡ start .args .blocks = omega (arith, c .before .loop .inv .0) in
+    let end = c .before .loop .inv .4 in
+    let most = start .pre .3 in
+    record { long = c .before .loop .inv .1; of = rw all at (end .of); hops = omega (arith, end .hops); lists = omega (arith, end .lists); blocks = omega (arith, end .blocks) }
 
 pub count-copies-spec : {M : Type 1} → statement M
 count-copies-spec =
