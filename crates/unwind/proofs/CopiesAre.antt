@@ -1,7 +1,7 @@
 -- The hops that are counted of a node's copies are those that leave them.
 --     copy-is                      those of one copy
 --     copies-are                   those of all copies of a node
---     total-hops                   all that is counted are the hops of all ways
+--     total-hops, counted-all      all that is counted are the hops of all ways
 use mathlib.Core.Path.{_≡_, refl, sym, _∙_, ap}
 use mathlib.Core.Logic.{_⊎_, inl, inr}
 use mathlib.Core.Bool.{Bool, true, false, cond, false≢true}
@@ -16,6 +16,7 @@ use Rattle.image.specs.Deal.{routesOf}
 use Rattle.graph.specs.Graph.{Graph}
 use Rattle.graph.specs.Fold.{flat, among}
 use Rattle.graph.proofs.FoldLaws.{flat-same, decided}
+use Rattle.unwind.specs.declared.emit.count.Sizes.{Sizes}
 use Rattle.unwind.specs.declared.tries.store.Counts.{Counts}
 use Rattle.unwind.specs.Lists.{keep, upto}
 use Rattle.unwind.specs.Order.{sorted}
@@ -28,11 +29,13 @@ use Rattle.unwind.specs.Ways.{Hop, ways, hopsOf}
 use Rattle.unwind.specs.Sources.{Exit, exit, compareExits, exitsAt, hopsOn}
 use Rattle.unwind.specs.Gather.{recordExits, inSet}
 use Rattle.unwind.specs.Lent.{Leads, Sides, PartsIn, blockHops}
+use Rattle.unwind.specs.Sizes.{HopsSize, sizesBoth}
 use Rattle.unwind.specs.Copies.{copyNumber, hopsFrom, hopsIf, copyHops, nodeHops}
 use Rattle.unwind.specs.Walk.{_∈_}
 use Rattle.unwind.proofs.Lists.{mem-keep, keep-mem, mem-among, among-mem}
 use Rattle.unwind.proofs.Instance.{copied-later, from-above}
 use Rattle.unwind.proofs.Leaving.{place-below}
+use Rattle.unwind.proofs.SizeLaws.{sizes-both}
 use Rattle.unwind.proofs.LentLaws.{count-is, copy-records, standing-hops}
 use Rattle.unwind.proofs.AllHops.{hops-parts, copy-number, flat-chosen, part-is, place-is}
 
@@ -127,3 +130,9 @@ module _ (g : Graph) (m : RouteImage) (nodes edges ends roots heads landings gua
         let others = flat-same (nodeHops m nodes edges ends heads landings bases parts returns (length (g .blocks))) (λ i. flat (λ n. out (base g fs z i + n)) (length (copied g fs z i))) (c .nodes) node-is
         ∙ ap (flat (λ i. flat (λ n. out (base g fs z i + n)) (length (copied g fs z i)))) (sym (count-is g m nodes edges ends roots heads landings guards bases returns c t s)) in
         (λ i. stood i ++ others i) ∙ sym (hops-parts g (routesOf m))
+
+    pub counted-all : (n : ℕ) {p d : Sizes} → n ≡ length (g .blocks) → HopsSize (flat (blockHops m nodes edges ends heads landings roots guards bases returns c) n) p → HopsSize (flat (nodeHops m nodes edges ends heads landings bases parts returns n) (c .nodes)) d → HopsSize (hopsOf (ways g (routesOf m))) (sizesBoth p d)
+    counted-all n {p} {d} e x y =
+        let at : HopsSize (flat (blockHops m nodes edges ends heads landings roots guards bases returns c) (length (g .blocks))) p = rw e at x in
+        let beyond : HopsSize (flat (nodeHops m nodes edges ends heads landings bases parts returns (length (g .blocks))) (c .nodes)) d = rw e at y in
+        rw (sym total-hops) (sizes-both (flat (blockHops m nodes edges ends heads landings roots guards bases returns c) (length (g .blocks))) (flat (nodeHops m nodes edges ends heads landings bases parts returns (length (g .blocks))) (c .nodes)) p d at beyond)

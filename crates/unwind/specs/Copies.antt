@@ -6,10 +6,15 @@ use Prim.Native.Nat.{ℕ, zero, suc, _+_, _≤_, _<_}
 use lib.Dec.{eqb}
 use lib.ListN.{length, getD}
 use Rattle.image.specs.Image.{RouteImage}
+use Rattle.image.specs.Deal.{UnwindRoute}
+use Rattle.graph.specs.Graph.{Graph}
 use Rattle.graph.specs.Fold.{flat}
 use Rattle.unwind.specs.declared.emit.count.Sizes.{Sizes}
 use Rattle.unwind.specs.Order.{sorted}
+use Rattle.unwind.specs.Part.{funclets}
+use Rattle.unwind.specs.Trie.{tries}
 use Rattle.unwind.specs.Nodes.{recordIn}
+use Rattle.unwind.specs.Instance.{copied}
 use Rattle.unwind.specs.Ways.{Hop}
 use Rattle.unwind.specs.Sources.{compareExits, hopsOn}
 use Rattle.unwind.specs.Gather.{recordExits, inSet}
@@ -61,3 +66,8 @@ pub record ManyHops (hs : List Hop) (r : Sizes) : Type 0 where
   pub hops : r .hops < 1099511627776
   pub lists : r .lists < 1099511627776
   pub blocks : r .blocks < 1099511627776
+
+-- there are blocks, and not too many with the copies: 18
+pub record Bounded (g : Graph) (rs : List UnwindRoute) : Type 0 where
+  pub some : 0 < length (g .blocks)
+  pub few : length (g .blocks) + length (flat (copied g (funclets rs) (tries rs .nodes)) (length (tries rs .nodes))) ≤ 1024

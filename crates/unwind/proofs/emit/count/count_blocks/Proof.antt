@@ -79,8 +79,11 @@ same-length c = c .before .loop .inv .1
 
 returns : tie.Need-returns Inv-loop μ-loop
 returns c =
-    let all : c .before .loop .b ≡ c .before .before .before .before .before .before .before .before .before .before .before .before .before .args .blocks = omega (arith, c .before .loop .inv .0) in
-    rw all at (c .before .loop .inv .2 .of)
+    let start = c .before .before .before .before .before .before .before .before .before .before .before .before .before in
+    let all : c .before .loop .b ≡ start .args .blocks = omega (arith, c .before .loop .inv .0) in
+    let end = c .before .loop .inv .2 in
+    let most = start .pre .2 in
+    record { long = c .before .loop .inv .1; of = rw all at (end .of); hops = omega (arith, end .hops); lists = omega (arith, end .lists); blocks = omega (arith, end .blocks) }
 
 pub count-blocks-spec : {M : Type 1} → statement M
 count-blocks-spec =
