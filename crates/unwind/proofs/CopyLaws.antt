@@ -5,12 +5,11 @@
 --     copy-first, copy-next        the number of a copy
 use mathlib.Core.Path.{_≡_, refl, sym, _∙_, ap, subst}
 use mathlib.Core.Bool.{Bool, true, false, cond}
-use mathlib.Core.List.{List, [], _++_}
+use mathlib.Core.List.{List, []}
 use Prim.Native.Nat.{ℕ, _+_, _≤_, _<_}
 use native.Mathlib.Numerals.{add-one}
 use native.Mathlib.Omega.{arith}
 use borrow.Author.Tests.{eq-eqb, ne-eqb}
-use lib.Dec.{eqb}
 use lib.ListN.{length, getD, length-append}
 use Rattle.image.specs.Image.{RouteImage}
 use Rattle.graph.specs.Fold.{flat}
@@ -19,9 +18,8 @@ use Rattle.unwind.specs.declared.emit.count.Sizes.{Sizes}
 use Rattle.unwind.specs.declared.tries.store.NodeRecord.{NodeRecord}
 use Rattle.unwind.specs.Lists.{keep, joined}
 use Rattle.unwind.specs.Nodes.{recordIn}
-use Rattle.unwind.specs.Ways.{Hop}
 use Rattle.unwind.specs.Gather.{edgeExits, endExits, recordExits, Gathers, inSet}
-use Rattle.unwind.specs.Sizes.{HopsSize, SizesOf}
+use Rattle.unwind.specs.Sizes.{SizesOf}
 use Rattle.unwind.specs.Copies.{copyNumber, hopsFrom, hopsIf, copyHops, FewHops, SumSize, nodeHops}
 use Rattle.unwind.proofs.LentLaws.{held-from}
 

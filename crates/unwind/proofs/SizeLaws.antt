@@ -23,7 +23,7 @@ use Rattle.unwind.specs.Nodes.{branchIn}
 use Rattle.unwind.specs.Ways.{block, leave, Hop, Leap, compareLeaps}
 use Rattle.unwind.specs.Sources.{Exit, hopsThen, hopsOn, toBlock}
 use Rattle.unwind.specs.Entries.{endIn, exitIn, exitsIn}
-use Rattle.unwind.specs.Sizes.{HopsSize, SizesOf, sizesThen, sizesBoth}
+use Rattle.unwind.specs.Sizes.{HopsSize, sizesThen, sizesBoth}
 use Rattle.unwind.proofs.TrieKeys.{joined-append}
 use Rattle.unwind.proofs.TrieOrder.{number-eq}
 use Rattle.unwind.proofs.Sources.{hops-then, lists-then, number-one, number-then}

@@ -1,13 +1,9 @@
 -- `count_copies` meets its contract. The invariant: the hops of the copies passed are counted. Assumes nothing.
-use mathlib.Core.Path.{_≡_, refl, sym, _∙_, subst}
-use mathlib.Core.List.{List}
-use Prim.Native.Nat.{ℕ, _+_, _*_, _-_, _≤_}
+use mathlib.Core.Path.{_≡_, refl, _∙_, subst}
+use Prim.Native.Nat.{ℕ, _+_, _-_, _≤_}
 use native.Mathlib.Omega.{arith}
 use lib.ListN.{length}
 use Rattle.image.specs.Image.{routesIn}
-use Rattle.graph.specs.Fold.{flat}
-use Rattle.unwind.specs.declared.emit.count.Sizes.{Sizes}
-use Rattle.unwind.specs.Ways.{Hop}
 use Rattle.unwind.specs.Sizes.{HopsSize}
 use Rattle.unwind.specs.Copies.{copyNumber, hopsIf, copyHops}
 use Rattle.unwind.proofs.SizeLaws.{Summed, summed-none, summed-more}

@@ -1,9 +1,7 @@
 -- `count_hops` meets its contract: the blocks that stood, then the copies. Assumes nothing.
-use mathlib.Core.Path.{sym, _∙_}
 use native.Mathlib.Omega.{arith}
 use Rattle.image.specs.Image.{routesIn}
 use Rattle.graph.specs.Words.{heldIn}
-use Rattle.unwind.specs.declared.emit.count.Sizes.{Sizes}
 use Rattle.unwind.proofs.LentLaws.{node-fits}
 use Rattle.unwind.proofs.CopiesAre.{counted-all}
 use borrow.Author.Needs.{needs}
