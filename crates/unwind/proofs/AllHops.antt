@@ -6,34 +6,32 @@
 --     rank-chosen                  the place of a chosen number
 --     part-is, place-is            the blocks of a node by its set, and where it has their copies
 use mathlib.Core.Path.{_≡_, refl, sym, _∙_, ap}
-use mathlib.Core.Logic.{_⊎_, inl, inr}
-use mathlib.Core.Bool.{Bool, true, false, cond, false≢true}
+use mathlib.Core.Bool.{Bool, true, false, cond}
 use mathlib.Core.List.{List, [], _∷_, _++_, map, append-nil, append-assoc, List·Memᴰ·head, List·Memᴰ·tail}
-use Prim.Native.Nat.{ℕ, zero, suc, _+_, _≤_, _<_, compare}
+use Prim.Native.Nat.{ℕ, zero, suc, _+_, _<_, compare}
 use native.Mathlib.Nat.{not-suc-le-zero}
 use native.Mathlib.Decide.{decLt}
 use native.Mathlib.Omega.{arith}
 use borrow.Author.Tests.{eq-eqb, ne-eqb}
 use lib.Dec.{eqb}
-use lib.ListN.{length, getD, length-append}
+use lib.ListN.{length, length-append}
 use Rattle.image.specs.Image.{RouteImage}
 use Rattle.image.specs.Deal.{UnwindRoute, routesOf}
 use Rattle.graph.specs.Graph.{Graph}
-use Rattle.graph.specs.Fold.{flat, among}
+use Rattle.graph.specs.Fold.{flat}
 use Rattle.graph.proofs.FoldLaws.{flat-same}
 use Rattle.unwind.specs.declared.tries.store.Counts.{Counts}
 use Rattle.unwind.specs.Lists.{keep, upto, rank}
-use Rattle.unwind.specs.Order.{sorted}
-use Rattle.unwind.specs.Part.{funclets, returning}
+use Rattle.unwind.specs.Part.{funclets}
 use Rattle.unwind.specs.Trie.{Node, tries}
 use Rattle.unwind.specs.Instance.{blocksOf, later, copied, base, place}
-use Rattle.unwind.specs.Ways.{Hop, Way, ways, hopsOf}
-use Rattle.unwind.specs.Sources.{Exit, exit, compareExits, exitsAt, hopsOn}
+use Rattle.unwind.specs.Ways.{Hop, ways, hopsOf}
+use Rattle.unwind.specs.Sources.{exit, exitsAt, hopsOn}
 use Rattle.unwind.specs.Gather.{inSet}
 use Rattle.unwind.specs.Lent.{PartsIn}
 use Rattle.unwind.specs.Copies.{copyNumber}
 use Rattle.unwind.specs.Walk.{_∈_}
-use Rattle.unwind.proofs.Lists.{mem-map, map-mem, mem-keep, keep-mem, mem-upto, upto-mem, mem-among, among-mem, flat-suc}
+use Rattle.unwind.proofs.Lists.{mem-keep, keep-mem, mem-upto, upto-mem, mem-among, among-mem}
 use Rattle.unwind.proofs.Wants.{keep-append}
 use Rattle.unwind.proofs.Sources.{hops-sorted, exits-flat, hops-flat}
 use Rattle.unwind.proofs.Instance.{blocks-lt, place-later}

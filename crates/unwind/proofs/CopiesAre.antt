@@ -1,18 +1,22 @@
 -- The hops that are counted of a node's copies are those that leave them.
 --     copy-is                      those of one copy
 --     copies-are                   those of all copies of a node
+--     total-hops, counted-all      all that is counted are the hops of all ways
 use mathlib.Core.Path.{_≡_, refl, sym, _∙_, ap}
 use mathlib.Core.Logic.{_⊎_, inl, inr}
 use mathlib.Core.Bool.{Bool, true, false, cond, false≢true}
-use mathlib.Core.List.{List, [], map}
+use mathlib.Core.List.{List, [], _++_, map}
 use Prim.Native.Nat.{ℕ, _+_, _≤_, _<_}
 use native.Mathlib.Omega.{arith}
-use lib.ListN.{length}
+use borrow.Author.Tests.{ne-eqb}
+use lib.Dec.{eqb}
+use lib.ListN.{length, getD}
 use Rattle.image.specs.Image.{RouteImage}
 use Rattle.image.specs.Deal.{routesOf}
 use Rattle.graph.specs.Graph.{Graph}
 use Rattle.graph.specs.Fold.{flat, among}
 use Rattle.graph.proofs.FoldLaws.{flat-same, decided}
+use Rattle.unwind.specs.declared.emit.count.Sizes.{Sizes}
 use Rattle.unwind.specs.declared.tries.store.Counts.{Counts}
 use Rattle.unwind.specs.Lists.{keep, upto}
 use Rattle.unwind.specs.Order.{sorted}
@@ -21,17 +25,19 @@ use Rattle.unwind.specs.Trie.{Node, tries}
 use Rattle.unwind.specs.Nodes.{recordIn}
 use Rattle.unwind.specs.Routed.{TriesIn}
 use Rattle.unwind.specs.Instance.{blocksOf, later, copied, base, place}
-use Rattle.unwind.specs.Ways.{Hop, ways}
+use Rattle.unwind.specs.Ways.{Hop, ways, hopsOf}
 use Rattle.unwind.specs.Sources.{Exit, exit, compareExits, exitsAt, hopsOn}
 use Rattle.unwind.specs.Gather.{recordExits, inSet}
-use Rattle.unwind.specs.Lent.{Leads, Sides, PartsIn}
-use Rattle.unwind.specs.Copies.{copyNumber, hopsFrom, hopsIf, copyHops}
+use Rattle.unwind.specs.Lent.{Leads, Sides, PartsIn, blockHops}
+use Rattle.unwind.specs.Sizes.{HopsSize, sizesBoth}
+use Rattle.unwind.specs.Copies.{copyNumber, hopsFrom, hopsIf, copyHops, nodeHops}
 use Rattle.unwind.specs.Walk.{_∈_}
 use Rattle.unwind.proofs.Lists.{mem-keep, keep-mem, mem-among, among-mem}
-use Rattle.unwind.proofs.Instance.{copied-later}
+use Rattle.unwind.proofs.Instance.{copied-later, from-above}
 use Rattle.unwind.proofs.Leaving.{place-below}
-use Rattle.unwind.proofs.LentLaws.{count-is, copy-records}
-use Rattle.unwind.proofs.AllHops.{copy-number, flat-chosen, part-is, place-is}
+use Rattle.unwind.proofs.SizeLaws.{sizes-both}
+use Rattle.unwind.proofs.LentLaws.{count-is, copy-records, standing-hops}
+use Rattle.unwind.proofs.AllHops.{hops-parts, copy-number, flat-chosen, part-is, place-is}
 
 among-keep : (f : ℕ → Bool) (l : List ℕ) (o : ℕ) → o ∈ l → among (keep f l) o ≡ f o
 among-keep f l o h = go (f o) refl (among (keep f l) o) refl
@@ -101,3 +107,32 @@ module _ (g : Graph) (m : RouteImage) (nodes edges ends roots heads landings gua
         flat-same here (λ o. cond (inSet parts i o) (out (first + length (keep (inSet parts i) (upto o)))) []) (length (g .blocks)) (λ o h. copy-is o)
         ∙ flat-chosen (inSet parts i) (λ n. out (first + n)) (length (g .blocks))
         ∙ ap (λ (l : List ℕ). flat (λ n. out (first + n)) (length l)) (sym (copied-later g (routesOf m) z i copies ∙ part-is g m parts c q i inside))
+
+  -- ---- all that is counted
+
+  module _ (few : length (g .blocks) + length (flat (copied g fs z) (length z)) ≤ 65535) (some : 0 < length (g .blocks)) where
+    node-is : (i : ℕ) → i < c .nodes → nodeHops m nodes edges ends heads landings bases parts returns (length (g .blocks)) i ≡ flat (λ n. out (base g fs z i + n)) (length (copied g fs z i))
+    unfolding nodeHops copied flat
+    node-is i h = go (later g fs z i) refl
+      where
+        go : (x : Bool) → later g fs z i ≡ x → cond (eqb (getD bases i 0) 0) [] (flat (copyHops m nodes edges ends heads landings parts returns i (getD bases i 0)) (length (g .blocks))) ≡ flat (λ n. out (base g fs z i + n)) (length (cond (later g fs z i) (blocksOf g fs z i) []))
+        go true l =
+            let e : getD bases i 0 ≡ base g fs z i = k .bases-are i h ∙ ap (λ (x : Bool). cond x (base g fs z i) 0) l in
+            let n : eqb (base g fs z i) 0 ≡ false = ne-eqb (base g fs z i) 0 (λ p. omega (arith, from-above g (routesOf m) z i)) in
+            rw (e, n) (copies-are few i h l)
+        go false l =
+            let e : getD bases i 0 ≡ 0 = k .bases-are i h ∙ ap (λ (x : Bool). cond x (base g fs z i) 0) l in
+            rw (e, l) refl
+
+    pub total-hops : flat (blockHops m nodes edges ends heads landings roots guards bases returns c) (length (g .blocks)) ++ flat (nodeHops m nodes edges ends heads landings bases parts returns (length (g .blocks))) (c .nodes) ≡ hopsOf (ways g (routesOf m))
+    total-hops =
+        let stood = flat-same (blockHops m nodes edges ends heads landings roots guards bases returns c) out (length (g .blocks)) (λ b h. standing-hops g m nodes edges ends roots heads landings guards bases returns c t s b (omega arith) k h) in
+        let others = flat-same (nodeHops m nodes edges ends heads landings bases parts returns (length (g .blocks))) (λ i. flat (λ n. out (base g fs z i + n)) (length (copied g fs z i))) (c .nodes) node-is
+        ∙ ap (flat (λ i. flat (λ n. out (base g fs z i + n)) (length (copied g fs z i)))) (sym (count-is g m nodes edges ends roots heads landings guards bases returns c t s)) in
+        (λ i. stood i ++ others i) ∙ sym (hops-parts g (routesOf m))
+
+    pub counted-all : (n : ℕ) {p d : Sizes} → n ≡ length (g .blocks) → HopsSize (flat (blockHops m nodes edges ends heads landings roots guards bases returns c) n) p → HopsSize (flat (nodeHops m nodes edges ends heads landings bases parts returns n) (c .nodes)) d → HopsSize (hopsOf (ways g (routesOf m))) (sizesBoth p d)
+    counted-all n {p} {d} e x y =
+        let at : HopsSize (flat (blockHops m nodes edges ends heads landings roots guards bases returns c) (length (g .blocks))) p = rw e at x in
+        let beyond : HopsSize (flat (nodeHops m nodes edges ends heads landings bases parts returns (length (g .blocks))) (c .nodes)) d = rw e at y in
+        rw (sym total-hops) (sizes-both (flat (blockHops m nodes edges ends heads landings roots guards bases returns c) (length (g .blocks))) (flat (nodeHops m nodes edges ends heads landings bases parts returns (length (g .blocks))) (c .nodes)) p d at beyond)

@@ -1,24 +1,26 @@
 -- The hops out of copies.
 --     record-length                how many exits a node has
 --     few-from, few-in, few-out    those of a node, if it returns there
+--     node-none, node-some         those of a node's copies, if it has any
 --     copy-first, copy-next        the number of a copy
 use mathlib.Core.Path.{_≡_, refl, sym, _∙_, ap, subst}
 use mathlib.Core.Bool.{Bool, true, false, cond}
-use mathlib.Core.List.{List, [], _++_}
+use mathlib.Core.List.{List, []}
 use Prim.Native.Nat.{ℕ, _+_, _≤_, _<_}
 use native.Mathlib.Numerals.{add-one}
 use native.Mathlib.Omega.{arith}
-use lib.ListN.{length, length-append}
+use borrow.Author.Tests.{eq-eqb, ne-eqb}
+use lib.ListN.{length, getD, length-append}
 use Rattle.image.specs.Image.{RouteImage}
+use Rattle.graph.specs.Fold.{flat}
 use Rattle.graph.proofs.FoldLaws.{length-table}
 use Rattle.unwind.specs.declared.emit.count.Sizes.{Sizes}
 use Rattle.unwind.specs.declared.tries.store.NodeRecord.{NodeRecord}
 use Rattle.unwind.specs.Lists.{keep, joined}
 use Rattle.unwind.specs.Nodes.{recordIn}
-use Rattle.unwind.specs.Ways.{Hop}
 use Rattle.unwind.specs.Gather.{edgeExits, endExits, recordExits, Gathers, inSet}
-use Rattle.unwind.specs.Sizes.{HopsSize, SizesOf}
-use Rattle.unwind.specs.Copies.{copyNumber, hopsFrom, hopsIf, FewHops}
+use Rattle.unwind.specs.Sizes.{SizesOf}
+use Rattle.unwind.specs.Copies.{copyNumber, hopsFrom, hopsIf, copyHops, FewHops, SumSize, nodeHops}
 use Rattle.unwind.proofs.LentLaws.{held-from}
 
 module _ (m : RouteImage) (b : ℕ) (nodes edges ends heads landings : List ℕ) where
@@ -47,6 +49,15 @@ module _ (m : RouteImage) (b : ℕ) (nodes edges ends heads landings : List ℕ)
     few-out l e =
         subst (λ (t : Bool). FewHops (cond t (hopsFrom m nodes edges ends heads landings i b) []) l l (record { hops = 0; lists = 0; blocks = 0 })) e
         (record { long = refl; of = record { hops = refl; lists = refl; blocks = refl }; hops = omega arith; lists = omega arith; blocks = omega arith })
+
+module _ (m : RouteImage) (nodes edges ends heads landings bases parts returns : List ℕ) (blocks i : ℕ) where
+  pub node-none : (l : List ℕ) → getD bases i 0 ≡ 0 → SumSize (nodeHops m nodes edges ends heads landings bases parts returns blocks i) l l (record { hops = 0; lists = 0; blocks = 0 })
+  unfolding nodeHops keep joined
+  node-none l e = rw (eq-eqb (getD bases i 0) 0 e) (record { long = refl; of = record { hops = refl; lists = refl; blocks = refl }; hops = omega arith; lists = omega arith; blocks = omega arith })
+
+  pub node-some : {l l′ : List ℕ} {r : Sizes} (first : ℕ) → first ≡ getD bases i 0 → (first ≡ 0 → ⊥) → SumSize (flat (copyHops m nodes edges ends heads landings parts returns i first) blocks) l l′ r → SumSize (nodeHops m nodes edges ends heads landings bases parts returns blocks i) l l′ r
+  unfolding nodeHops
+  node-some first e n s = rw (sym e, ne-eqb first 0 n) s
 
 pub copy-first : (parts : List ℕ) (i base : ℕ) → base ≡ copyNumber parts i base 0
 unfolding copyNumber

@@ -7,13 +7,13 @@
 --     entry-kept, entry-laid       what is put
 use mathlib.Core.Path.{_≡_, refl, sym, _∙_, ap}
 use mathlib.Core.Logic.{_⊎_, inl, inr}
-use mathlib.Core.Bool.{Bool, true, false, cond}
+use mathlib.Core.Bool.{cond}
 use mathlib.Core.List.{List, [], _∷_, _++_, append-nil, append-assoc, List·Memᴰ·head, List·Memᴰ·tail, List·Memᴰ·append-cases, Memᴰ·append-left, Memᴰ·append-right}
 use Prim.Native.Nat.{ℕ, zero, suc, _+_, _*_, _-_, _≤_, _<_, compare, Ordering, Ordering·lt, Ordering·eq, Ordering·gt}
 use native.Mathlib.Nat.{not-suc-le-zero}
 use native.Mathlib.Decide.{decLt, ℕ-discrete}
 use native.Mathlib.Omega.{arith}
-use borrow.Author.Tests.{eq-eqb, eqb-true, ne-eqb}
+use borrow.Author.Tests.{eq-eqb, ne-eqb}
 use lib.Dec.{eqb}
 use lib.ListN.{length}
 use Rattle.image.specs.Image.{RouteImage, table}
@@ -21,12 +21,12 @@ use Rattle.graph.proofs.FoldLaws.{table-same}
 use Rattle.unwind.specs.declared.tries.store.Branch.{Branch}
 use Rattle.unwind.specs.Order.{put, placed, sorted, _and-then_, compareTags}
 use Rattle.unwind.specs.Nodes.{branchIn, tagsIn, BranchSmall, BranchPut}
-use Rattle.unwind.specs.Ways.{HopEnd, block, leave, compareHopEnds, compareLeaps}
+use Rattle.unwind.specs.Ways.{block, leave, compareHopEnds, compareLeaps}
 use Rattle.unwind.specs.Sources.{Exit, compareExits}
 use Rattle.unwind.specs.Entries.{endIn, exitIn, exitsIn, Ordered, Parts, EntryPut, Shifted}
 use Rattle.unwind.specs.Walk.{_∈_}
 use Rattle.unwind.proofs.Lists.{none-in}
-use Rattle.unwind.proofs.TrieOrder.{Total, turned, number-lt, number-gt, number-eq, eq-same, put-member}
+use Rattle.unwind.proofs.TrieOrder.{Total, turned, number-lt, number-gt, number-eq, put-member}
 use Rattle.unwind.proofs.Rising.{Rising, rising-join, rising-front, rising-less, rising-put, sorted-rising, total-exits}
 
 -- ---- comparing

@@ -5,13 +5,11 @@
 --     entry-some, entry-none       an entry with calls, and with none
 --     number-handler, number-propagate, number-resume      the number of an end
 use mathlib.Core.Path.{_≡_, refl, sym, _∙_, ap, subst}
-use mathlib.Core.Bool.{Bool, true, false, cond}
 use mathlib.Core.List.{List, [], _∷_, _++_, append-nil}
-use Prim.Native.Nat.{ℕ, zero, suc, _+_, _≤_, _<_, Ordering}
+use Prim.Native.Nat.{ℕ, _+_, _≤_, Ordering}
 use native.Mathlib.Numerals.{add-one}
 use native.Mathlib.Omega.{arith}
-use borrow.Author.Tests.{eq-eqb, ne-eqb}
-use lib.Dec.{eqb}
+use borrow.Author.Tests.{ne-eqb}
 use lib.ListN.{length, getD, length-append}
 use lib.Seq.{append-snoc}
 use Rattle.image.specs.Image.{RouteImage, table}
@@ -20,7 +18,7 @@ use Rattle.unwind.specs.declared.tries.store.Branch.{Branch}
 use Rattle.unwind.specs.Order.{put, sorted}
 use Rattle.unwind.specs.Nodes.{pathRecord, tagsIn}
 use Rattle.unwind.specs.Sources.{Exit, compareExits}
-use Rattle.unwind.specs.Entries.{endIn, exitIn, exitsIn, Ordered, EntryPut}
+use Rattle.unwind.specs.Entries.{exitIn, exitsIn, Ordered, EntryPut}
 use Rattle.unwind.specs.Gather.{putAll, exitTo, edgeExits, endNumber, endExits, recordExits, Gathers}
 use Rattle.unwind.proofs.TrieOrder.{Total, sorted-behind}
 

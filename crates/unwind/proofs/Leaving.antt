@@ -9,19 +9,18 @@
 use mathlib.Core.Path.{_≡_, refl, sym, _∙_, ap}
 use mathlib.Core.Logic.{_⊎_, inl, inr}
 use mathlib.Core.Bool.{Bool, true, false, cond, not, _&&_, false≢true}
-use mathlib.Core.List.{List, [], _∷_, _++_, map, map-map, map-append, append-nil, List·Memᴰ·head, List·Memᴰ·tail, List·Memᴰ·append-cases, Memᴰ·append-left, Memᴰ·append-right, Memᴰ·cast}
+use mathlib.Core.List.{List, [], _∷_, _++_, map, map-map, map-append, List·Memᴰ·head, List·Memᴰ·tail, List·Memᴰ·append-cases, Memᴰ·append-left, Memᴰ·append-right}
 use mathlib.Core.Option.{Option, none, some}
-use Prim.Native.Nat.{ℕ, zero, suc, _+_, _≤_, _<_, compare, Ordering·lt}
+use Prim.Native.Nat.{ℕ, zero, suc, _+_, _<_, compare, Ordering·lt}
 use native.Mathlib.Nat.{not-suc-le-zero, le-of-suc-le-suc}
 use native.Mathlib.Omega.{arith}
 use borrow.Author.Tests.{eq-eqb, eqb-true, ne-eqb}
-use lib.Dec.{eqb}
 use lib.ListN.{length, getD}
 use Rattle.image.specs.Deal.{UnwindEnd, UnwindRoute}
 use Rattle.graph.specs.Graph.{Graph}
 use Rattle.graph.specs.Fold.{flat, among}
 use Rattle.graph.specs.Route.{routeAt}
-use Rattle.graph.proofs.FoldLaws.{flat-front, flat-same}
+use Rattle.graph.proofs.FoldLaws.{flat-front}
 use Rattle.unwind.specs.Lists.{keep, joined, upto, rank}
 use Rattle.unwind.specs.Order.{Tagged, sorted}
 use Rattle.unwind.specs.Blocks.{builtBlocks, guarded}
@@ -31,8 +30,8 @@ use Rattle.unwind.specs.Instance.{partOf, blocksOf, later, copied, base,
 use Rattle.unwind.specs.Ways.{Way, block, endAt, waysFrom, routeWays, nodeWays, ways}
 use Rattle.unwind.specs.Sources.{Exit, exit, compareExits, isFrom, exitsAt, exitsFrom, routeExits, nodeExits, copyExits}
 use Rattle.unwind.specs.Walk.{_∈_}
-use Rattle.unwind.proofs.Lists.{none-in, and-both, and-true, at, at-rank, at-getD, at-lt, mem-keep, keep-mem, mem-joined, joined-mem, mem-map, map-mem, mem-flat, flat-mem, flat-suc, flat-le, upto-mem, mem-among, among-mem}
-use Rattle.unwind.proofs.Instance.{first-or-later, blocks-lt, place-first, place-later, copied-later, from-above, place-apart, clone-owner, later-above}
+use Rattle.unwind.proofs.Lists.{none-in, and-both, and-true, at, at-rank, at-lt, mem-keep, keep-mem, mem-joined, joined-mem, mem-map, map-mem, mem-flat, flat-mem, flat-suc, flat-le, upto-mem, mem-among, among-mem}
+use Rattle.unwind.proofs.Instance.{first-or-later, blocks-lt, place-first, place-later, copied-later, place-apart, clone-owner, later-above}
 use Rattle.unwind.proofs.TrieOrder.{number-lt, lt-number}
 use Rattle.unwind.proofs.Rising.{Rising, rising-keep, rising-join, sorted-same, total-exits}
 

@@ -7,7 +7,6 @@
 --     standing-hops                the hops of a block that stood
 --     held-from, block-held, block-size, pooled-none, node-fits    what is gathered from nothing, and room for it
 use mathlib.Core.Path.{_≡_, refl, sym, _∙_, ap}
-use mathlib.Core.Logic.{_⊎_, inl, inr}
 use mathlib.Core.Bool.{Bool, true, false, cond, not, _&&_}
 use mathlib.Core.List.{List, [], _∷_, _++_, map, map-append}
 use mathlib.Core.Option.{some}
@@ -17,28 +16,24 @@ use native.Mathlib.Decide.{ℕ-discrete}
 use native.Mathlib.Omega.{arith}
 use borrow.Author.Tests.{eq-eqb, ne-eqb}
 use lib.Dec.{eqb}
-use lib.ListN.{length, getD, take}
+use lib.ListN.{length, getD}
 use lib.Seq.{getD-take}
 use Rattle.image.specs.Image.{RouteImage, table}
-use Rattle.image.specs.Deal.{UnwindEnd, handler, propagate, resume, endOf, routesOf}
+use Rattle.image.specs.Deal.{UnwindEnd, handler, endOf, routesOf}
 use Rattle.graph.specs.Graph.{Graph}
 use Rattle.graph.specs.Fold.{flat, among}
-use Rattle.graph.specs.Route.{routeAt}
 use Rattle.graph.proofs.FoldLaws.{length-table, table-same, getD-table, flat-same}
 use Rattle.graph.proofs.RouteLaws.{length-routes}
 use Rattle.unwind.specs.declared.emit.count.Sizes.{Sizes}
-use Rattle.unwind.specs.declared.tries.store.Branch.{Branch}
-use Rattle.unwind.specs.declared.tries.store.NodeRecord.{NodeRecord}
 use Rattle.unwind.specs.declared.tries.store.Counts.{Counts}
 use Rattle.unwind.specs.Lists.{keep}
 use Rattle.unwind.specs.Order.{Tagged, sorted}
-use Rattle.unwind.specs.Blocks.{blockOf, guarded}
 use Rattle.unwind.specs.Part.{funclets, returning}
 use Rattle.unwind.specs.Trie.{Node, nodeAt, tries}
 use Rattle.unwind.specs.Nodes.{branchIn, recordIn, branches, pathRecord, edgeOf, endAt, nodeIn, nodesIn}
 use Rattle.unwind.specs.Routed.{TriesIn}
 use Rattle.unwind.specs.Instance.{blocksOf, later, base, place, entryOf}
-use Rattle.unwind.specs.Ways.{HopEnd, block, leave, endAt as hopEnd, ways}
+use Rattle.unwind.specs.Ways.{block, endAt as hopEnd, ways}
 use Rattle.unwind.specs.Sources.{Exit, exit, compareExits, exitsAt, exitsFrom, routeExits, nodeExits, copyExits, hopsOn}
 use Rattle.unwind.specs.Entries.{endIn, exitsIn}
 use Rattle.unwind.specs.Gather.{exitTo, edgeExits, endNumber, endExits, recordExits, Gathers, inSet, NodeFits, routeRecords, nodeRecords, Pooled, Adds}

@@ -5,18 +5,18 @@
 --     adds-none, adds-some, adds-record, adds-next, adds-both     nothing, a node's, one more, and more behind others
 --     set-in, set-past, set-outside    a set among many
 --     route-in, route-out, node-in, node-copy, node-out    whose are gathered
-use mathlib.Core.Path.{_≡_, refl, sym, _∙_, ap, subst}
+use mathlib.Core.Path.{_≡_, sym, _∙_, ap, subst}
 use mathlib.Core.Logic.{_⊎_, inl, inr}
-use mathlib.Core.Bool.{Bool, true, false, cond, _&&_}
+use mathlib.Core.Bool.{true, false}
 use mathlib.Core.List.{List, [], _∷_, _++_, List·Memᴰ·head, List·Memᴰ·tail, List·Memᴰ·append-cases, Memᴰ·append-left, Memᴰ·append-right, Memᴰ·cast}
-use Prim.Native.Nat.{ℕ, zero, suc, _+_, _*_, _/_, _%_, _^_, _≤_, _<_, Ordering}
+use Prim.Native.Nat.{ℕ, _+_, _*_, _/_, _%_, _^_, _≤_, _<_, Ordering}
 use native.Mathlib.Nat.{zero-div}
 use native.Mathlib.Omega.{arith}
 use borrow.Author.Tests.{eq-eqb, ne-eqb}
 use lib.Dec.{eqb}
 use lib.ListN.{length, getD, take, drop, length-append, length-take, List·getD-eq-default}
 use lib.Seq.{getD-take, getD-drop}
-use Rattle.image.specs.Image.{RouteImage, table}
+use Rattle.image.specs.Image.{RouteImage}
 use Rattle.graph.specs.BlockSet.{member}
 use Rattle.graph.specs.Fold.{flat}
 use Rattle.graph.proofs.FoldLaws.{length-table, flat-more}
@@ -27,7 +27,6 @@ use Rattle.unwind.specs.Sources.{Exit, compareExits}
 use Rattle.unwind.specs.Entries.{exitIn, exitsIn}
 use Rattle.unwind.specs.Gather.{putAll, exitTo, edgeExits, endNumber, endExits, recordExits, Gathers, inSet, NodeFits, routeRecords, nodeRecords, pool, Pooled, Adds}
 use Rattle.unwind.specs.Walk.{_∈_}
-use Rattle.unwind.proofs.Lists.{none-in}
 use Rattle.unwind.proofs.Order.{put-mem}
 use Rattle.unwind.proofs.Rising.{rising-length, total-exits}
 use Rattle.unwind.proofs.EntryLaws.{table-mem, mem-table, table-rising}

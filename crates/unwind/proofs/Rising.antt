@@ -15,9 +15,8 @@ use mathlib.Core.Path.{_≡_, refl, sym, _∙_, ap}
 use mathlib.Core.Logic.{_⊎_, inl, inr}
 use mathlib.Core.Bool.{Bool, true, false, cond}
 use mathlib.Core.List.{List, [], _∷_, _++_, append-nil, List·Memᴰ·head, List·Memᴰ·tail, List·Memᴰ·append-cases, Memᴰ·append-left, Memᴰ·append-right}
-use Prim.Native.Nat.{ℕ, suc, _+_, _≤_, compare, Ordering, Ordering·lt, Ordering·eq, Ordering·gt}
+use Prim.Native.Nat.{suc, _≤_, compare, Ordering, Ordering·lt, Ordering·eq, Ordering·gt}
 use native.Mathlib.Omega.{arith}
-use lib.Dec.{isEq}
 use lib.ListN.{length}
 use Rattle.unwind.specs.Lists.{keep}
 use Rattle.unwind.specs.Order.{placed, put, sorted, _and-then_, compareTags}
@@ -26,7 +25,7 @@ use Rattle.unwind.specs.Sources.{Exit, compareExits}
 use Rattle.unwind.specs.Walk.{_∈_}
 use Rattle.unwind.proofs.Lists.{none-in, keep-mem}
 use Rattle.unwind.proofs.Order.{both, join, exact-hop-ends, put-mem}
-use Rattle.unwind.proofs.TrieOrder.{turned, Total, turn-then, then-trans, eq-same, self-eq, total-number, total-tags, put-comm, put-member, not-gt-lt}
+use Rattle.unwind.proofs.TrieOrder.{turned, Total, turn-then, then-trans, total-number, total-tags, put-comm, put-member, not-gt-lt}
 
 module _ {A : Type 0} (c : A → A → Ordering) where
   unfoldable pub Rising : List A → Type 0

@@ -9,7 +9,7 @@
 use mathlib.Core.Path.{_≡_, refl, sym, _∙_, ap}
 use mathlib.Core.Logic.{_⊎_, inl, inr}
 use mathlib.Core.Bool.{Bool, true, false, cond, false≢true}
-use mathlib.Core.List.{List, [], _∷_, _++_, map, map-map, map-append, append-nil, append-assoc, List·Memᴰ·head, List·Memᴰ·tail, List·Memᴰ·append-cases, List·Memᴰ·eq-of-singleton, Memᴰ·append-left, Memᴰ·append-right, Memᴰ·cast}
+use mathlib.Core.List.{List, [], _∷_, _++_, map, map-map, map-append, append-nil, List·Memᴰ·head, List·Memᴰ·tail, List·Memᴰ·eq-of-singleton, Memᴰ·cast}
 use Prim.Native.Nat.{ℕ, zero, suc, _+_, _<_, compare, Ordering, Ordering·lt, Ordering·eq, Ordering·gt}
 use native.Mathlib.Omega.{arith}
 use borrow.Author.Tests.{eq-eqb, eqb-true}
@@ -19,13 +19,13 @@ use lib.Seq.{append-snoc}
 use Rattle.graph.specs.Fold.{flat}
 use Rattle.unwind.specs.Lists.{keep, joined}
 use Rattle.unwind.specs.Order.{compareTags, put, placed, sorted}
-use Rattle.unwind.specs.Ways.{HopEnd, block, leave, Hop, Way, Leap, leap, compareHopEnds, compareLeaps, listsOf, hopsOf}
-use Rattle.unwind.specs.Sources.{Exit, exit, compareExits, isFrom, exitsAt, leapOf, firstHop, withList, hopsThen, hopsOn, toBlock}
+use Rattle.unwind.specs.Ways.{Hop, Way, Leap, leap, compareHopEnds, compareLeaps, listsOf, hopsOf}
+use Rattle.unwind.specs.Sources.{Exit, exit, compareExits, isFrom, exitsAt, leapOf, firstHop, withList, hopsThen, hopsOn}
 use Rattle.unwind.specs.Walk.{_∈_}
 use Rattle.unwind.proofs.Lists.{none-in, mem-keep, keep-mem, mem-joined, joined-mem, mem-map, map-mem, mem-flat, flat-mem}
 use Rattle.unwind.proofs.Order.{exact-leaps, mem-sorted, sorted-mem}
 use Rattle.unwind.proofs.TrieKeys.{joined-append}
-use Rattle.unwind.proofs.TrieOrder.{Total, turned, then-lt, lt-then, is-eq, number-lt, eq-same, not-gt-lt, sorted-behind, total-tags}
+use Rattle.unwind.proofs.TrieOrder.{turned, then-lt, lt-then, number-lt, eq-same, sorted-behind, total-tags}
 use Rattle.unwind.proofs.Rising.{Rising, rising-join, rising-less, rising-sorted, sorted-same, rising-is, total-leaps, total-exits}
 
 -- ---- hopsOn

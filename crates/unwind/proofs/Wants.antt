@@ -7,7 +7,7 @@ use mathlib.Core.Path.{_≡_, refl, sym, _∙_, ap}
 use mathlib.Core.Logic.{_⊎_, inl, inr}
 use mathlib.Core.Bool.{Bool, true, false, cond, false≢true}
 use mathlib.Core.List.{List, [], _∷_, _++_, map, append-nil, List·Memᴰ·head, List·Memᴰ·tail, Memᴰ·cast}
-use Prim.Native.Nat.{ℕ, zero, suc, _+_, Ordering, Ordering·lt, Ordering·eq, Ordering·gt}
+use Prim.Native.Nat.{ℕ, suc, _+_, Ordering, Ordering·lt, Ordering·eq, Ordering·gt}
 use native.Mathlib.Omega.{arith}
 use lib.Dec.{isEq}
 use lib.ListN.{length, length-append, length-map}
@@ -15,10 +15,10 @@ use Rattle.graph.specs.Graph.{Graph}
 use Rattle.unwind.specs.Lists.{keep}
 use Rattle.unwind.specs.Order.{put, placed, sorted}
 use Rattle.unwind.specs.Ways.{HopEnd, block, leave, Hop, Way, Leap, leap, compareLeaps, listsOf, hopsOf, wanted, routeEdge, edgeTo, routeEdges}
-use Rattle.unwind.specs.Sources.{toBlock, leapOf}
+use Rattle.unwind.specs.Sources.{toBlock}
 use Rattle.unwind.specs.Walk.{_∈_}
 use Rattle.unwind.proofs.Lists.{or-either, or-left, or-right, mem-keep, keep-mem}
-use Rattle.unwind.proofs.Order.{Exact, exact-leaps, mem-sorted, sorted-mem}
+use Rattle.unwind.proofs.Order.{exact-leaps, mem-sorted, sorted-mem}
 use Rattle.unwind.proofs.TrieOrder.{Total, put-member}
 use Rattle.unwind.proofs.Rising.{rising-keep, rising-sorted, rising-is, sorted-middle, total-leaps}
 

@@ -16,7 +16,6 @@ use Rattle.unwind.specs.Blocks.{blockOf, guarded}
 use Rattle.unwind.specs.Part.{funclets, returning}
 use Rattle.unwind.specs.Trie.{tries}
 use Rattle.unwind.specs.Nodes.{branchIn, pathRecord}
-use Rattle.unwind.specs.Routed.{TriesIn}
 use Rattle.unwind.specs.Instance.{blocksOf, later, base, entryOf}
 use Rattle.unwind.specs.Ways.{Hop}
 use Rattle.unwind.specs.Sources.{Exit, compareExits, hopsOn}

@@ -4,3 +4,4 @@ mod copies;
 pub mod count;
 pub mod entries;
 pub mod gather;
+pub mod total;

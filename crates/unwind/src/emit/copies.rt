@@ -4,20 +4,110 @@ use crate::emit::count::Sizes;
 use crate::emit::count::sizes_both;
 use crate::emit::count::sizes_of;
 use crate::emit::gather::gather_node;
+use crate::tries::store::number_at;
 use image::section::RouteLayout;
 ghost use mathlib.Core.Path.{_≡_};
 ghost use mathlib.Core.Bool.{cond};
 ghost use Prim.Native.Nat.{_+_, _≤_, _<_};
+ghost use lib.ListN.{getD};
 ghost use Rattle.image.specs.Image.{routesIn};
 ghost use Rattle.graph.specs.Fold.{flat};
 ghost use Rattle.unwind.specs.Nodes.{recordIn};
-ghost use Rattle.unwind.specs.Gather.{NodeFits, inSet};
+ghost use Rattle.unwind.specs.Gather.{NodeFits, AllFit, inSet};
 ghost use Rattle.unwind.specs.Lent.{Roomy};
-ghost use Rattle.unwind.specs.Sizes.{HopsSize};
-ghost use Rattle.unwind.specs.Copies.{hopsFrom, hopsIf, copyHops, FewHops};
+ghost use Rattle.unwind.specs.Copies.{hopsFrom, hopsIf, copyHops, FewHops, SumSize, ManyHops, BasesFew, nodeHops};
+
+// Those of all nodes.
+pub fn count_nodes(
+    s: &[u8],
+    y: RouteLayout,
+    nodes: &[u16],
+    edges: &[u16],
+    ends: &[u16],
+    heads: &[u16],
+    landings: &[u16],
+    bases: &[u16],
+    parts: &[u64],
+    returns: &[u64],
+    count: usize,
+    blocks: usize,
+    exits: &mut [u16],
+) -> Sizes
+    requires { ⌜ AllFit (now nodes) (now edges) (now ends) (λ i. i) count × (count ≤ 1024) × BasesFew (now bases) × (blocks ≤ 1024) × Roomy (now edges) (now ends) (now exits) ⌝ }
+    ensures { λ r. ⌜ ManyHops (flat (nodeHops (routesIn (now (s .entry)) y) (now (nodes .entry)) (now (edges .entry)) (now (ends .entry)) (now (heads .entry)) (now (landings .entry)) (now (bases .entry)) (now (parts .entry)) (now (returns .entry)) blocks) count) r ⌝ }
+{
+    let mut sizes = Sizes {
+        hops: 0,
+        lists: 0,
+        blocks: 0,
+    };
+    for i in 0..count {
+        let more = count_node(
+            s,
+            y,
+            nodes,
+            edges,
+            ends,
+            heads,
+            landings,
+            bases,
+            parts,
+            returns,
+            i,
+            blocks,
+            exits,
+        );
+        sizes = sizes_both(sizes, more);
+    }
+    sizes
+}
+
+// Those of node i, if it has copies.
+fn count_node(
+    s: &[u8],
+    y: RouteLayout,
+    nodes: &[u16],
+    edges: &[u16],
+    ends: &[u16],
+    heads: &[u16],
+    landings: &[u16],
+    bases: &[u16],
+    parts: &[u64],
+    returns: &[u64],
+    i: usize,
+    blocks: usize,
+    exits: &mut [u16],
+) -> Sizes
+    requires { ⌜ NodeFits (now edges) (now ends) (recordIn (now nodes) i) × (i < 65536) × (getD (now bases) i 0 ≤ 1024) × (blocks ≤ 1024) × Roomy (now edges) (now ends) (now exits) ⌝ }
+    ensures { λ r. ⌜ SumSize (nodeHops (routesIn (now (s .entry)) y) (now (nodes .entry)) (now (edges .entry)) (now (ends .entry)) (now (heads .entry)) (now (landings .entry)) (now (bases .entry)) (now (parts .entry)) (now (returns .entry)) blocks i) (now (exits .entry)) (now (exits .exit)) r ⌝ }
+{
+    let base = number_at(bases, i);
+    if base == 0 {
+        return Sizes {
+            hops: 0,
+            lists: 0,
+            blocks: 0,
+        };
+    }
+    count_copies(
+        s,
+        y,
+        nodes,
+        edges,
+        ends,
+        heads,
+        landings,
+        parts,
+        returns,
+        i,
+        base,
+        blocks,
+        exits,
+    )
+}
 
 // Those of node i, whose first copy is block `base`: of each of the first `blocks` blocks that is one of its part.
-pub fn count_copies(
+fn count_copies(
     s: &[u8],
     y: RouteLayout,
     nodes: &[u16],
@@ -33,7 +123,7 @@ pub fn count_copies(
     exits: &mut [u16],
 ) -> Sizes
     requires { ⌜ NodeFits (now edges) (now ends) (recordIn (now nodes) i) × (i < 65536) × (base ≤ 1024) × (blocks ≤ 1024) × Roomy (now edges) (now ends) (now exits) ⌝ }
-    ensures { λ r. ⌜ HopsSize (flat (copyHops (routesIn (now (s .entry)) y) (now (nodes .entry)) (now (edges .entry)) (now (ends .entry)) (now (heads .entry)) (now (landings .entry)) (now (parts .entry)) (now (returns .entry)) i base) blocks) r ⌝ }
+    ensures { λ r. ⌜ SumSize (flat (copyHops (routesIn (now (s .entry)) y) (now (nodes .entry)) (now (edges .entry)) (now (ends .entry)) (now (heads .entry)) (now (landings .entry)) (now (parts .entry)) (now (returns .entry)) i base) blocks) (now (exits .entry)) (now (exits .exit)) r ⌝ }
 {
     let mut sizes = Sizes {
         hops: 0,

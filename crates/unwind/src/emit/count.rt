@@ -12,7 +12,8 @@ ghost use Rattle.image.specs.Accepted.{AcceptedRoutes};
 ghost use Rattle.graph.specs.Fold.{flat};
 ghost use Rattle.unwind.specs.Routed.{TriesIn};
 ghost use Rattle.unwind.specs.Lent.{Roomy, blockHops};
-ghost use Rattle.unwind.specs.Sizes.{HopsSize, SizesOf, sizesThen, sizesBoth};
+ghost use Rattle.unwind.specs.Sizes.{SizesOf, sizesThen, sizesBoth};
+ghost use Rattle.unwind.specs.Copies.{SumSize};
 
 // Hops, the lists that they have, and the hops that end at a block: one route edge each.
 pub struct Sizes {
@@ -42,7 +43,7 @@ pub fn count_blocks(
     exits: &mut [u16],
 ) -> Sizes
     requires { ⌜ AcceptedRoutes (routesIn (now s) y) × TriesIn (routesIn (now s) y) (now nodes) (now edges) (now ends) (now roots) stored × (blocks ≤ 1024) × Roomy (now edges) (now ends) (now exits) ⌝ }
-    ensures { λ r. ⌜ HopsSize (flat (blockHops (routesIn (now (s .entry)) y) (now (nodes .entry)) (now (edges .entry)) (now (ends .entry)) (now (heads .entry)) (now (landings .entry)) (now (roots .entry)) (now (guards .entry)) (now (bases .entry)) (now (returns .entry)) stored) blocks) r ⌝ }
+    ensures { λ r. ⌜ SumSize (flat (blockHops (routesIn (now (s .entry)) y) (now (nodes .entry)) (now (edges .entry)) (now (ends .entry)) (now (heads .entry)) (now (landings .entry)) (now (roots .entry)) (now (guards .entry)) (now (bases .entry)) (now (returns .entry)) stored) blocks) (now (exits .entry)) (now (exits .exit)) r ⌝ }
 {
     let mut sizes = Sizes {
         hops: 0,
@@ -73,7 +74,7 @@ pub fn count_blocks(
 }
 
 pub fn sizes_both(p: Sizes, q: Sizes) -> Sizes
-    requires { ⌜ (p .hops < 4294967296) × (p .lists < 4294967296) × (p .blocks < 4294967296) × (q .hops < 65536) × (q .lists < 65536) × (q .blocks < 65536) ⌝ }
+    requires { ⌜ (p .hops < 1099511627776) × (p .lists < 1099511627776) × (p .blocks < 1099511627776) × (q .hops < 1099511627776) × (q .lists < 1099511627776) × (q .blocks < 1099511627776) ⌝ }
     ensures { λ r. ⌜ r ≡ sizesBoth p q ⌝ }
 {
     Sizes {

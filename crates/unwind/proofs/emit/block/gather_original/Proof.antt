@@ -1,11 +1,7 @@
 -- `gather_original` meets its contract: it has copies, or does not return from b, or it does. Assumes nothing.
-use mathlib.Core.Path.{_≡_, refl, sym, ap, _∙_, subst}
-use mathlib.Core.List.{List, []}
-use native.Mathlib.Omega.{arith}
-use lib.ListN.{getD}
+use mathlib.Core.Path.{sym, _∙_}
 use Rattle.image.specs.Image.{routesIn}
 use Rattle.unwind.specs.Nodes.{recordIn}
-use Rattle.unwind.specs.Gather.{recordExits}
 use Rattle.unwind.proofs.PoolLaws.{node-room, adds-none, adds-some, adds-record, node-in, node-copy, node-out}
 use borrow.Author.Needs.{needs}
 use Rattle.unwind.proofs.emit.block.gather_original.Statement.{statement}

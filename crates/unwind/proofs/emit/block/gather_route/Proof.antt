@@ -1,8 +1,5 @@
 -- `gather_route` meets its contract: it guards b, or it does not. Assumes nothing.
-use mathlib.Core.Path.{_≡_, refl, sym, ap, _∙_, subst}
-use mathlib.Core.List.{List, []}
-use native.Mathlib.Omega.{arith}
-use lib.ListN.{getD}
+use mathlib.Core.Path.{sym, ap, _∙_, subst}
 use Rattle.image.specs.Image.{routesIn}
 use Rattle.unwind.specs.declared.tries.store.NodeRecord.{NodeRecord}
 use Rattle.unwind.specs.Nodes.{recordIn}

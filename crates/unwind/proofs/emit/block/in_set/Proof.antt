@@ -1,5 +1,4 @@
 -- `in_set` meets its contract: the word and its digit are the set's. Assumes nothing.
-use native.Mathlib.Omega.{arith}
 use Rattle.unwind.proofs.PoolLaws.{set-in, set-past, set-outside}
 use borrow.Author.Needs.{needs}
 use Rattle.unwind.proofs.emit.block.in_set.Statement.{statement}

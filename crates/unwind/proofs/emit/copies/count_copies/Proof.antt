@@ -1,30 +1,20 @@
 -- `count_copies` meets its contract. The invariant: the hops of the copies passed are counted. Assumes nothing.
-use mathlib.Core.Path.{_≡_, refl, sym, _∙_, subst}
-use mathlib.Core.List.{List}
-use Prim.Native.Nat.{ℕ, _+_, _*_, _-_, _≤_}
+use mathlib.Core.Path.{_≡_, refl, _∙_, subst}
+use Prim.Native.Nat.{ℕ, _+_, _-_, _≤_}
 use native.Mathlib.Omega.{arith}
 use lib.ListN.{length}
 use Rattle.image.specs.Image.{routesIn}
-use Rattle.graph.specs.Fold.{flat}
-use Rattle.unwind.specs.declared.emit.count.Sizes.{Sizes}
-use Rattle.unwind.specs.Ways.{Hop}
 use Rattle.unwind.specs.Sizes.{HopsSize}
 use Rattle.unwind.specs.Copies.{copyNumber, hopsIf, copyHops}
-use Rattle.unwind.proofs.SizeLaws.{sizes-none, sizes-more}
+use Rattle.unwind.proofs.SizeLaws.{Summed, summed-none, summed-more}
 use Rattle.unwind.proofs.CopyLaws.{copy-first, copy-next, copy-most}
 use borrow.Author.Needs.{needs}
 use Rattle.unwind.proofs.emit.copies.count_copies.Statement.{statement}
 use Rattle.unwind.proofs.emit.copies.count_copies.Tie as tie
 
-pub record Summed (f : ℕ → List Hop) (o : ℕ) (z : Sizes) : Type 0 where
-  pub hops : z .hops ≤ o * 65536
-  pub lists : z .lists ≤ o * 65536
-  pub blocks : z .blocks ≤ o * 65536
-  pub of : HopsSize (flat f o) z
-
 abbrev Inv-loop : tie.InvT-loop
 Inv-loop s y nodes edges ends heads landings parts returns i base blocks exits₀ sizes₀ b₀ o₀ exits sizes b o =
-    (o ≤ blocks) × (length exits ≡ length exits₀) × (b ≡ copyNumber parts i base o) × (b ≤ base + o) × Summed (copyHops (routesIn s y) nodes edges ends heads landings parts returns i base) o sizes
+    (o ≤ blocks) × (length exits ≡ length exits₀) × (b ≡ copyNumber parts i base o) × (b ≤ base + o) × Summed (copyHops (routesIn s y) nodes edges ends heads landings parts returns i base) o 65536 sizes
 
 abbrev μ-loop : tie.MeasureT-loop
 μ-loop s y nodes edges ends heads landings parts returns i base blocks exits₀ sizes₀ b₀ o₀ exits sizes b o = blocks - o
@@ -32,7 +22,7 @@ abbrev μ-loop : tie.MeasureT-loop
 loop-holds : tie.Need-loop-holds Inv-loop μ-loop
 loop-holds c =
     let a = c .before .before .before .before .before .before .before .before .before .args in
-    (omega arith, refl, copy-first (a .parts .now) (a .i) (a .base), omega arith, record { hops = omega arith; lists = omega arith; blocks = omega arith; of = sizes-none (copyHops (routesIn (a .s .now) (a .y)) (a .nodes .now) (a .edges .now) (a .ends .now) (a .heads .now) (a .landings .now) (a .parts .now) (a .returns .now) (a .i) (a .base)) })
+    (omega arith, refl, copy-first (a .parts .now) (a .i) (a .base), omega arith, summed-none (copyHops (routesIn (a .s .now) (a .y)) (a .nodes .now) (a .edges .now) (a .ends .now) (a .heads .now) (a .landings .now) (a .parts .now) (a .returns .now) (a .i) (a .base)) 65536)
 
 count-copy-requires : tie.Need-count-copy-requires Inv-loop μ-loop
 count-copy-requires c κs =
@@ -48,7 +38,7 @@ sizes-both-requires c κs =
     let more = c .before .before .count-copy .ensures in
     let test = c .before .before .before .before .loop-test .taken in
     let all = start .pre .3 in
-    (omega (arith, was .hops), omega (arith, was .lists), omega (arith, was .blocks), more .hops, more .lists, more .blocks)
+    (omega (arith, was .hops), omega (arith, was .lists), omega (arith, was .blocks), omega (arith, more .hops), omega (arith, more .lists), omega (arith, more .blocks))
 
 next-copy-requires : tie.Need-next-copy-requires Inv-loop μ-loop
 next-copy-requires c κs =
@@ -71,14 +61,8 @@ loop-again c =
       more .long ∙ top .inv .1,
       step ∙ copy-next (a .parts .now) (a .i) (a .base) (top .o) (top .b) (top .inv .2),
       omega (arith, step, copy-most (a .parts .now) (a .i) (top .o) (top .b), top .inv .3),
-      record {
-        hops = rw next (omega (arith, was .hops, more .hops));
-        lists = rw next (omega (arith, was .lists, more .lists));
-        blocks = rw next (omega (arith, was .blocks, more .blocks));
-        of =
-            rw next
-            (sizes-more (copyHops (routesIn (a .s .now) (a .y)) (a .nodes .now) (a .edges .now) (a .ends .now) (a .heads .now) (a .landings .now) (a .parts .now) (a .returns .now) (a .i) (a .base)) (top .o) (top .sizes) (c .before .before .before .before .count-copy .result) (was .of) here);
-      },
+      rw next
+          (summed-more (copyHops (routesIn (a .s .now) (a .y)) (a .nodes .now) (a .edges .now) (a .ends .now) (a .heads .now) (a .landings .now) (a .parts .now) (a .returns .now) (a .i) (a .base)) (top .o) 65536 (top .sizes) (c .before .before .before .before .count-copy .result) was here (omega (arith, more .hops)) (omega (arith, more .lists)) (omega (arith, more .blocks))),
     )
 
 same-length : tie.Need-same-length Inv-loop μ-loop
@@ -86,8 +70,11 @@ same-length c = c .before .loop .inv .1
 
 returns : tie.Need-returns Inv-loop μ-loop
 returns c =
-    let all : c .before .loop .o ≡ c .before .before .before .before .before .before .before .before .before .before .before .args .blocks = omega (arith, c .before .loop .inv .0) in
-    rw all at (c .before .loop .inv .4 .of)
+    let start = c .before .before .before .before .before .before .before .before .before .before .before in
+    let all : c .before .loop .o ≡ start .args .blocks = omega (arith, c .before .loop .inv .0) in
+    let end = c .before .loop .inv .4 in
+    let most = start .pre .3 in
+    record { long = c .before .loop .inv .1; of = rw all at (end .of); hops = omega (arith, end .hops); lists = omega (arith, end .lists); blocks = omega (arith, end .blocks) }
 
 pub count-copies-spec : {M : Type 1} → statement M
 count-copies-spec =

@@ -4,7 +4,6 @@ use Rattle.image.specs.Image.{routesIn}
 use Rattle.unwind.specs.Nodes.{recordIn}
 use Rattle.unwind.proofs.LentLaws.{pooled-none}
 use Rattle.unwind.proofs.CopyLaws.{record-length, few-from}
-use borrow.Author.Needs.{needs}
 use Rattle.unwind.proofs.emit.copies.sizes_from.Statement.{statement}
 use Rattle.unwind.proofs.emit.copies.sizes_from.Tie as tie
 

@@ -1,30 +1,19 @@
 -- `count_blocks` meets its contract. The invariant: the hops of the blocks passed are counted. Assumes nothing.
-use mathlib.Core.Path.{_≡_, refl, sym, _∙_, subst}
-use mathlib.Core.List.{List}
-use Prim.Native.Nat.{ℕ, _+_, _*_, _-_, _≤_, _<_}
+use mathlib.Core.Path.{_≡_, refl, _∙_}
+use Prim.Native.Nat.{_-_, _≤_, _<_}
 use native.Mathlib.Omega.{arith}
 use lib.ListN.{length}
 use Rattle.image.specs.Image.{routesIn}
-use Rattle.graph.specs.Fold.{flat}
-use Rattle.unwind.specs.declared.emit.count.Sizes.{Sizes}
-use Rattle.unwind.specs.Ways.{Hop}
 use Rattle.unwind.specs.Lent.{blockHops}
-use Rattle.unwind.specs.Sizes.{HopsSize}
-use Rattle.unwind.proofs.SizeLaws.{sizes-none, sizes-more}
+use Rattle.unwind.proofs.SizeLaws.{Summed, summed-none, summed-more}
 use Rattle.unwind.proofs.LentLaws.{block-size}
 use borrow.Author.Needs.{needs}
 use Rattle.unwind.proofs.emit.count.count_blocks.Statement.{statement}
 use Rattle.unwind.proofs.emit.count.count_blocks.Tie as tie
 
-pub record Summed (f : ℕ → List Hop) (b : ℕ) (z : Sizes) : Type 0 where
-  pub hops : z .hops ≤ b * 65536
-  pub lists : z .lists ≤ b * 65536
-  pub blocks : z .blocks ≤ b * 65536
-  pub of : HopsSize (flat f b) z
-
 abbrev Inv-loop : tie.InvT-loop
 Inv-loop s y nodes edges ends heads landings roots guards bases returns stored blocks exits₀ sizes₀ b₀ exits sizes b =
-    (b ≤ blocks) × (length exits ≡ length exits₀) × Summed (blockHops (routesIn s y) nodes edges ends heads landings roots guards bases returns stored) b sizes
+    (b ≤ blocks) × (length exits ≡ length exits₀) × Summed (blockHops (routesIn s y) nodes edges ends heads landings roots guards bases returns stored) b 65536 sizes
 
 abbrev μ-loop : tie.MeasureT-loop
 μ-loop s y nodes edges ends heads landings roots guards bases returns stored blocks exits₀ sizes₀ b₀ exits sizes b = blocks - b
@@ -32,7 +21,7 @@ abbrev μ-loop : tie.MeasureT-loop
 loop-holds : tie.Need-loop-holds Inv-loop μ-loop
 loop-holds c =
     let a = c .before .before .before .before .before .before .before .before .before .before .before .args in
-    (omega arith, refl, record { hops = omega arith; lists = omega arith; blocks = omega arith; of = sizes-none (blockHops (routesIn (a .s .now) (a .y)) (a .nodes .now) (a .edges .now) (a .ends .now) (a .heads .now) (a .landings .now) (a .roots .now) (a .guards .now) (a .bases .now) (a .returns .now) (a .stored)) })
+    (omega arith, refl, summed-none (blockHops (routesIn (a .s .now) (a .y)) (a .nodes .now) (a .edges .now) (a .ends .now) (a .heads .now) (a .landings .now) (a .roots .now) (a .guards .now) (a .bases .now) (a .returns .now) (a .stored)) 65536)
 
 gather-block-requires : tie.Need-gather-block-requires Inv-loop μ-loop
 gather-block-requires c κs =
@@ -75,15 +64,9 @@ loop-again c =
     let was = top .inv .2 in (
       omega (arith, c .before .before .before .before .before .before .before .loop-test .taken),
       held .long ∙ top .inv .1,
-      record {
-        hops = rw next (omega (arith, was .hops, more .hops-most, few));
-        lists = rw next (omega (arith, was .lists, more .lists-most, few));
-        blocks = rw next (omega (arith, was .blocks, more .blocks-most, few));
-        of =
-            rw next
-            (sizes-more (blockHops (routesIn (a .s .now) (a .y)) (a .nodes .now) (a .edges .now) (a .ends .now) (a .heads .now) (a .landings .now) (a .roots .now) (a .guards .now) (a .bases .now) (a .returns .now) (a .stored)) (top .b) (top .sizes) (c .before .sizes-of .result) (was .of)
-            (block-size (routesIn (a .s .now) (a .y)) (top .b) (a .nodes .now) (a .edges .now) (a .ends .now) (a .heads .now) (a .landings .now) (a .roots .now) (a .guards .now) (a .bases .now) (a .returns .now) (a .stored) (held .holds) more));
-      },
+      rw next
+          (summed-more (blockHops (routesIn (a .s .now) (a .y)) (a .nodes .now) (a .edges .now) (a .ends .now) (a .heads .now) (a .landings .now) (a .roots .now) (a .guards .now) (a .bases .now) (a .returns .now) (a .stored)) (top .b) 65536 (top .sizes) (c .before .sizes-of .result) was
+          (block-size (routesIn (a .s .now) (a .y)) (top .b) (a .nodes .now) (a .edges .now) (a .ends .now) (a .heads .now) (a .landings .now) (a .roots .now) (a .guards .now) (a .bases .now) (a .returns .now) (a .stored) (held .holds) more) (omega (arith, more .hops-most, few)) (omega (arith, more .lists-most, few)) (omega (arith, more .blocks-most, few))),
     )
 
 same-length : tie.Need-same-length Inv-loop μ-loop
@@ -91,8 +74,11 @@ same-length c = c .before .loop .inv .1
 
 returns : tie.Need-returns Inv-loop μ-loop
 returns c =
-    let all : c .before .loop .b ≡ c .before .before .before .before .before .before .before .before .before .before .before .before .before .args .blocks = omega (arith, c .before .loop .inv .0) in
-    rw all at (c .before .loop .inv .2 .of)
+    let start = c .before .before .before .before .before .before .before .before .before .before .before .before .before in
+    let all : c .before .loop .b ≡ start .args .blocks = omega (arith, c .before .loop .inv .0) in
+    let end = c .before .loop .inv .2 in
+    let most = start .pre .2 in
+    record { long = c .before .loop .inv .1; of = rw all at (end .of); hops = omega (arith, end .hops); lists = omega (arith, end .lists); blocks = omega (arith, end .blocks) }
 
 pub count-blocks-spec : {M : Type 1} → statement M
 count-blocks-spec =

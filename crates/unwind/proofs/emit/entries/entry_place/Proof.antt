@@ -1,9 +1,8 @@
 -- `entry_place` meets its contract. The invariant: the entries before lo come before x, and those from hi on behind it.
 -- Assumes nothing.
 use mathlib.Core.Path.{_≡_, sym, ap, _∙_}
-use Prim.Native.Nat.{ℕ, _+_, _-_, _/_, _≤_, Ordering, Ordering·eq}
+use Prim.Native.Nat.{ℕ, _+_, _-_, _/_, Ordering, Ordering·eq}
 use native.Mathlib.Omega.{arith}
-use lib.ListN.{length}
 use Rattle.image.specs.Image.{routesIn}
 use Rattle.unwind.specs.declared.tries.store.Branch.{Branch}
 use Rattle.unwind.specs.Nodes.{branchIn}

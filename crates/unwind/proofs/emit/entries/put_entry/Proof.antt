@@ -1,11 +1,6 @@
 -- `put_entry` meets its contract: what stands is kept, or what comes behind moves one further. Assumes nothing.
-use mathlib.Core.Path.{_≡_, sym, ap, _∙_}
-use Prim.Native.Nat.{ℕ, _+_, _*_, _≤_, _<_}
 use native.Mathlib.Omega.{arith}
-use lib.ListN.{length}
 use Rattle.image.specs.Image.{routesIn}
-use Rattle.unwind.specs.Nodes.{branchIn}
-use Rattle.unwind.specs.Entries.{exitIn, Parts}
 use Rattle.unwind.proofs.EntryLaws.{entry-kept, entry-changed, entry-laid}
 use borrow.Author.Needs.{needs}
 use Rattle.unwind.proofs.emit.entries.put_entry.Statement.{statement}

@@ -1,6 +1,5 @@
 -- `entry_to` meets its contract. Assumes nothing.
 use native.Mathlib.Omega.{arith}
-use borrow.Author.Needs.{needs}
 use Rattle.unwind.proofs.GatherLaws.{entry-some, entry-none}
 use Rattle.unwind.proofs.emit.gather.entry_to.Statement.{statement}
 use Rattle.unwind.proofs.emit.gather.entry_to.Tie as tie

@@ -1,10 +1,9 @@
 -- `gather_edges` meets its contract. The invariant: the edges passed are gathered. Assumes nothing.
-use mathlib.Core.Path.{_≡_, sym, ap, _∙_}
-use Prim.Native.Nat.{ℕ, _+_, _*_, _-_, _≤_}
+use mathlib.Core.Path.{_≡_, ap, _∙_}
+use Prim.Native.Nat.{ℕ, _+_, _-_, _≤_}
 use native.Mathlib.Omega.{arith}
-use lib.ListN.{length, getD}
+use lib.ListN.{getD}
 use Rattle.image.specs.Image.{routesIn, table}
-use Rattle.graph.proofs.FoldLaws.{length-table}
 use Rattle.unwind.specs.declared.tries.store.Branch.{Branch}
 use Rattle.unwind.specs.Nodes.{branchIn}
 use Rattle.unwind.specs.Sources.{Exit}

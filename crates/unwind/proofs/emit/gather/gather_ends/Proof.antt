@@ -1,8 +1,7 @@
 -- `gather_ends` meets its contract. The invariant: the ends passed are gathered. Assumes nothing.
-use mathlib.Core.Path.{_≡_, sym, ap, _∙_}
-use Prim.Native.Nat.{ℕ, _+_, _*_, _-_, _≤_}
+use mathlib.Core.Path.{_≡_, ap, _∙_}
+use Prim.Native.Nat.{ℕ, _+_, _-_, _≤_}
 use native.Mathlib.Omega.{arith}
-use lib.ListN.{length}
 use Rattle.image.specs.Image.{routesIn, table}
 use Rattle.unwind.specs.declared.tries.store.Branch.{Branch}
 use Rattle.unwind.specs.Nodes.{branchIn}

@@ -1,0 +1,34 @@
+-- `count_hops` meets its contract: the blocks that stood, then the copies. Assumes nothing.
+use native.Mathlib.Omega.{arith}
+use Rattle.image.specs.Image.{routesIn}
+use Rattle.graph.specs.Words.{heldIn}
+use Rattle.unwind.proofs.LentLaws.{node-fits}
+use Rattle.unwind.proofs.CopiesAre.{counted-all}
+use borrow.Author.Needs.{needs}
+use Rattle.unwind.proofs.emit.total.count_hops.Statement.{statement}
+use Rattle.unwind.proofs.emit.total.count_hops.Tie as tie
+
+count-nodes-requires : tie.Need-count-nodes-requires
+count-nodes-requires c κs =
+    let start = c .before .before .before .before .before .before .before .before .before .before .before .before .before .before .before .before .before .before in
+    let a = start .args in
+    let t = start .pre .1 in
+    let room = start .pre .7 in
+    let blocks = c .before .before .before .before .before .block-count .ensures in (
+      record { fits = λ i h. node-fits (routesIn (a .s .now) (a .y)) (a .nodes .now) (a .edges .now) (a .ends .now) (a .roots .now) (a .stored) t i h },
+      omega (arith, t .nodes-most),
+      start .pre .5,
+      omega (arith, blocks, start .pre .6 .few),
+      record { edges-few = room .edges-few; ends-few = room .ends-few; room = omega (arith, room .room, c .before .before .before .count-blocks .ensures .long) },
+    )
+
+returns : tie.Need-returns
+returns c =
+    let start = c .before .before .before .before .before .before .before .before .before .before .before .before .before .before .before .before .before .before .before .before .before .before in
+    let a = start .args in
+    rw (c .sizes-both .ensures)
+    (counted-all (heldIn (a .g .now) .graph) (routesIn (a .s .now) (a .y)) (a .nodes .now) (a .edges .now) (a .ends .now) (a .roots .now) (a .heads .now) (a .landings .now) (a .guards .now) (a .bases .now) (a .parts .now) (a .returns .now) (a .stored) (start .pre .1) (start .pre .2) (start .pre .3) (start .pre .4) (omega (arith, start .pre .6 .few)) (start .pre .6 .some) (c .before .before .before .before .before .before .before .before .before .block-count .result) (c .before .before .before .before .before .before .before .before .before .block-count .ensures)
+    (c .before .before .before .before .before .before .before .count-blocks .ensures .of) (c .before .before .before .count-nodes .ensures .of))
+
+pub count-hops-spec : {M : Type 1} → statement M
+count-hops-spec = tie.close (tie.spec (λ c κs. search needs) (λ c κs. search needs) count-nodes-requires (λ c κs. search needs) (λ c. search needs) returns)

@@ -1,0 +1,74 @@
+// The sizes of all hops that an addition gives, before any of it is stored.
+use crate::emit::copies::count_nodes;
+use crate::emit::count::Sizes;
+use crate::emit::count::count_blocks;
+use crate::emit::count::sizes_both;
+use crate::tries::store::Counts;
+use graph::store::Words;
+use graph::store::blocks::block_count;
+use image::section::RouteLayout;
+ghost use Rattle.image.specs.Image.{routesIn};
+ghost use Rattle.image.specs.Deal.{routesOf};
+ghost use Rattle.image.specs.Accepted.{AcceptedRoutes};
+ghost use Rattle.graph.specs.Words.{heldIn};
+ghost use Rattle.unwind.specs.Ways.{ways, hopsOf};
+ghost use Rattle.unwind.specs.Routed.{TriesIn};
+ghost use Rattle.unwind.specs.Lent.{Leads, Sides, PartsIn, Roomy};
+ghost use Rattle.unwind.specs.Sizes.{HopsSize};
+ghost use Rattle.unwind.specs.Copies.{BasesFew, Bounded};
+
+// Of the graph before, and routes whose nodes are placed.
+pub fn count_hops(
+    g: &Words,
+    s: &[u8],
+    y: RouteLayout,
+    nodes: &[u16],
+    edges: &[u16],
+    ends: &[u16],
+    heads: &[u16],
+    landings: &[u16],
+    roots: &[u16],
+    guards: &[u64],
+    bases: &[u16],
+    parts: &[u64],
+    returns: &[u64],
+    stored: Counts,
+    exits: &mut [u16],
+) -> Sizes
+    requires { ⌜ AcceptedRoutes (routesIn (now s) y) × TriesIn (routesIn (now s) y) (now nodes) (now edges) (now ends) (now roots) stored × Leads (heldIn (now g) .graph) (routesIn (now s) y) (now ends) (now heads) (now landings) stored × Sides (heldIn (now g) .graph) (routesIn (now s) y) (now guards) (now bases) (now returns) stored × PartsIn (heldIn (now g) .graph) (routesIn (now s) y) (now parts) stored × BasesFew (now bases) × Bounded (heldIn (now g) .graph) (routesOf (routesIn (now s) y)) × Roomy (now edges) (now ends) (now exits) ⌝ }
+    ensures { λ r. ⌜ HopsSize (hopsOf (ways (heldIn (now (g .entry)) .graph) (routesOf (routesIn (now (s .entry)) y)))) r ⌝ }
+{
+    let blocks = block_count(g);
+    let first = count_blocks(
+        s,
+        y,
+        nodes,
+        edges,
+        ends,
+        heads,
+        landings,
+        roots,
+        guards,
+        bases,
+        returns,
+        stored,
+        blocks,
+        exits,
+    );
+    let more = count_nodes(
+        s,
+        y,
+        nodes,
+        edges,
+        ends,
+        heads,
+        landings,
+        bases,
+        parts,
+        returns,
+        stored.nodes,
+        blocks,
+        exits,
+    );
+    sizes_both(first, more)
+}
