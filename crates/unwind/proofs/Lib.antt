@@ -36,3 +36,6 @@ pub mod TrieStore
 pub mod NodeChecks
 pub mod SlotLaws
 pub mod PlaceLaws
+pub mod ChainLaws
+pub mod CloneLaws
+pub mod CopyLaws

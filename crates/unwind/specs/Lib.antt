@@ -16,6 +16,7 @@ pub mod Interns
 pub mod Routed
 pub mod Instance
 pub mod Placed
+pub mod Clones
 pub mod Ways
 pub mod Add
 pub mod Walk
