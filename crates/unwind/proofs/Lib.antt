@@ -39,3 +39,4 @@ pub mod PlaceLaws
 pub mod ChainLaws
 pub mod CloneLaws
 pub mod CopyLaws
+pub mod CopiesAre

@@ -2,7 +2,7 @@
 --     entry-root, entry-named      the entry of a node by the step that names its funclet
 --     entry-lt, entry-built        it is a built block
 --     part-none, part-some, part-is     the part of a root, and of a funclet
---     rank-most                    a rank is small
+--     part-rises, rank-most        a part rises, and a rank is small
 --     sizes-none, sizes-then, sizes-kept, slots-same, slots-less     room
 --     first-next, clone-next       the first node of a funclet, and a later one
 --     PlacedTo, placed-none, placed-next, placed-end, placed-over     the nodes before one, all nodes, and too many blocks
@@ -122,7 +122,7 @@ entry-in g fs f e h = go (length (g .blocks)) h
     go zero lt = absurd (not-suc-le-zero lt)
     go (suc k) lt = mem-keep _ (mem-upto (length (g .blocks)) e h) (or-left _ (or-left _ (eq-eqb e e refl)))
 
-part-rises : (g : Graph) (fs : List ℕ) (o : Option ℕ) → Rises (length (g .blocks)) (partOf g fs o)
+pub part-rises : (g : Graph) (fs : List ℕ) (o : Option ℕ) → Rises (length (g .blocks)) (partOf g fs o)
 unfolding partOf
 part-rises g fs none = record { test = λ b. false; is = sym (keep-nothing (upto (length (g .blocks)))) }
 part-rises g fs (some f) = part-kept g fs f (blockOf g f)
