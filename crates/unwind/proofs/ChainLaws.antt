@@ -5,10 +5,10 @@
 --     list-has                     the blocks of a set that has a rising list
 -- Assumes nothing.
 use mathlib.Core.Path.{_≡_, refl, sym, ap, ap₂, _∙_}
-use mathlib.Core.Bool.{Bool, true, false, cond, not, _&&_}
+use mathlib.Core.Bool.{Bool, true, false, cond, _&&_}
 use mathlib.Core.List.{List, [], _∷_, _++_, append-nil}
 use Prim.Native.Nat.{ℕ, zero, suc, _+_, _-_, _≤_, _<_}
-use native.Mathlib.Nat.{not-suc-le-zero, le-of-suc-le-suc, add-suc, add-zero}
+use native.Mathlib.Nat.{not-suc-le-zero, add-suc, add-zero}
 use native.Mathlib.Decide.{ℕ-discrete, decLt}
 use native.Mathlib.Omega.{arith}
 use borrow.Author.Tests.{eq-eqb, ne-eqb, le-ltb, lt-ltb}
@@ -88,8 +88,7 @@ module _ (g : Graph) (b : ℕ) where
               rw eq (on-chain 0 (omega arith), sym (linked-chain (length (g .edges)) 0 (omega arith)))
           | no ge ↦
               let eq : at ≡ 0 = is ∙ List·getD-eq-default head 0 (omega arith) in
-              rw eq
-              (
+              rw eq (
                 record { here = λ e z. absurd (omega arith) },
                 sym (keep-none (λ e. eqb (e .source) b) (g .edges) (edgeOf []) (λ i h. ne-eqb _ b (λ same. omega (arith, source-lt g ends i h, roomy .blocks)))),
               )

@@ -1,41 +1,30 @@
--- Copies of blocks and edges, counted and stored.
---     joined-most, out-most, set-most     how many edges go out of blocks
+-- Copies of blocks and edges, counted.
+--     out-most, set-most           how many edges go out of blocks
 --     copies-none, copies-some     the blocks that a node copies
---     counted-more                 the copies of edges by a node more
---     mores-first, mores-getD, mores-long     what stood is as it was
---     blocks-kept, blocks-grow, edges-kept    in the graph that words hold
---     BlocksGoing, EdgesGoing, SetGoing     blocks and edges stored, one by one
+--     none-next, some-next, count-some     the copies of edges by a node more; no-edges
+--     set-front, joined-none       the edges out of a set: the lowest block apart, and none
+--     rank-few                     a rank is small
+--     copy-in, copy-out            the copy of an edge to a block that is copied, and to another
 -- Assumes nothing.
-use mathlib.Core.Path.{_≡_, refl, sym, ap, ap₂, _∙_, subst}
+use mathlib.Core.Path.{_≡_, refl, sym, ap, ap₂, _∙_}
 use mathlib.Core.Bool.{Bool, true, false, cond}
-use mathlib.Core.List.{List, [], _∷_, _++_, map, append-nil, append-assoc}
+use mathlib.Core.List.{List, [], _∷_, _++_, map, append-nil}
 use Prim.Native.Nat.{ℕ, zero, suc, _+_, _-_, _*_, _≤_, _<_, min}
-use native.Mathlib.Nat.{not-suc-le-zero, mul-suc, le-trans}
-use native.Mathlib.Numerals.{add-one}
+use native.Mathlib.Nat.{mul-suc, le-trans}
 use native.Mathlib.Omega.{arith}
 use borrow.Author.Tests.{eq-eqb, ne-eqb}
-use lib.Dec.{eqb, ltb}
-use lib.ListN.{length, getD, take, length-append, length-map, List·getD-append}
-use lib.Seq.{take-append-le, take-length, getD-take}
-use Rattle.graph.specs.declared.record.Block.{Block}
+use lib.ListN.{length, getD, length-append, length-map}
 use Rattle.graph.specs.declared.record.Edge.{Edge}
-use Rattle.graph.specs.Section.{Section}
-use Rattle.graph.specs.Graph.{Graph, Held, block, edge}
-use Rattle.graph.specs.Words.{Part, blockRows, edgeRows, edgeOf, heldIn}
+use Rattle.graph.specs.Graph.{Graph}
 use Rattle.graph.specs.Fold.{flat, count}
 use Rattle.graph.specs.BlockSet.{member, excluding}
-use Rattle.graph.specs.Stored.{more, edgesIn, blocksIn, withBlock, withEdge, Stored}
-use Rattle.graph.specs.Adding.{mores, adding, withBlocks, Added}
 use Rattle.graph.proofs.FoldLaws.{flat-more, count-le}
-use Rattle.graph.proofs.BlockLaws.{member-excluding, length-excluding, rank-all}
-use Rattle.graph.proofs.AddingLaws.{added-none, added-then, edge-added}
-use Rattle.graph.proofs.LaidLaws.{blocks-none, blocks-then, block-one}
+use Rattle.graph.proofs.BlockLaws.{rank-all}
 use Rattle.unwind.specs.Lists.{keep, joined, upto}
 use Rattle.unwind.specs.Part.{outgoing}
 use Rattle.unwind.specs.Placed.{setAt}
-use Rattle.unwind.specs.Clones.{listOf, copiesIn, copyOf, blockCopies, edgeCopies, firstEdges, LinkedTo}
-use Rattle.unwind.proofs.Lists.{and-both}
-use Rattle.unwind.proofs.ChainLaws.{chain, OnChain, chain-none, chain-next, list-none, list-front}
+use Rattle.unwind.specs.Clones.{listOf, copiesIn, copyOf, edgeCopies}
+use Rattle.unwind.proofs.ChainLaws.{list-none, list-front}
 
 -- ---- how many
 
@@ -100,9 +89,6 @@ module _ (bases parts : List ℕ) (i : ℕ) where
 
     pub count-some : (getD bases i 0 ≡ 0 → ⊥) → length (edgeCopies g bases parts (i + 1)) ≡ length (edgeCopies g bases parts i) + length (joined (outgoing g) (listOf (setAt parts i)))
     count-some ne = ap length (some-next ne) ∙ length-append (edgeCopies g bases parts i) _ ∙ ap (λ (k : ℕ). length (edgeCopies g bases parts i) + k) (joined-mapped _ (outgoing g) (listOf (setAt parts i)))
-
-  abbrev blocksBefore : Graph → List Block
-  blocksBefore g = blockCopies g bases parts i
 
 pub no-edges : (g : Graph) (bases parts : List ℕ) → edgeCopies g bases parts 0 ≡ []
 unfolding edgeCopies flat

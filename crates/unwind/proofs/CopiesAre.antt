@@ -3,43 +3,39 @@
 --     blocks-are, edges-are        the copies of blocks, and of edges
 -- Assumes nothing.
 use mathlib.Core.Path.{_≡_, refl, sym, ap, ap₂, _∙_}
-use mathlib.Core.Bool.{Bool, true, false, cond}
-use mathlib.Core.Logic.{_⊎_, inl, inr, ⊎-elim}
+use mathlib.Core.Bool.{true, false, cond}
+use mathlib.Core.Logic.{_⊎_, ⊎-elim}
 use mathlib.Core.List.{List, [], _∷_, _++_, map, List·Memᴰ·head, List·Memᴰ·tail}
-use Prim.Native.Nat.{ℕ, zero, suc, _+_, _*_, _≤_, _<_}
+use Prim.Native.Nat.{ℕ, _+_, _*_, _≤_, _<_}
 use native.Mathlib.Omega.{arith}
 use borrow.Author.Tests.{eqb-true}
 use lib.Dec.{eqb}
 use lib.ListN.{length, getD}
 use Rattle.image.specs.Deal.{UnwindRoute}
-use Rattle.graph.specs.declared.record.Block.{Block}
 use Rattle.graph.specs.declared.record.Edge.{Edge}
 use Rattle.graph.specs.Graph.{Graph, block}
 use Rattle.graph.specs.Fold.{flat, count, among}
 use Rattle.graph.specs.BlockSet.{member}
 use Rattle.graph.proofs.FoldLaws.{decided, flat-same}
-use Rattle.unwind.specs.Lists.{keep, joined, rank}
+use Rattle.unwind.specs.Lists.{joined}
 use Rattle.unwind.specs.Part.{funclets, outgoing}
 use Rattle.unwind.specs.Trie.{Node, nodeAt}
 use Rattle.unwind.specs.Instance.{blocksOf, later, copied, base, place, moved, cloneBlocks, cloneEdge, cloneEdges}
 use Rattle.unwind.specs.Walk.{_∈_}
-use Rattle.unwind.specs.Placed.{setAt, Slots, Placed}
-use Rattle.unwind.specs.Clones.{listOf, copiesIn, copyOf, blockCopies, edgeCopies, SetsIn}
+use Rattle.unwind.specs.Placed.{setAt, Placed}
+use Rattle.unwind.specs.Clones.{copiesIn, copyOf, blockCopies, edgeCopies, SetsIn}
 use Rattle.unwind.proofs.Lists.{mem-among, keep-mem}
 use Rattle.unwind.proofs.Instance.{place-later, copied-later}
 use Rattle.unwind.proofs.Sets.{Rises, has-lt, rank-has}
 use Rattle.unwind.proofs.ChainLaws.{list-has}
 use Rattle.unwind.proofs.CloneLaws.{copies-none, copies-some}
+use Rattle.unwind.proofs.CopyLaws.{map-same}
 use Rattle.unwind.proofs.PlaceLaws.{part-rises}
 
 joined-same : {A B : Type 0} (f g : A → List B) (l : List A) → ((x : A) → x ∈ l → f x ≡ g x) → joined f l ≡ joined g l
 unfolding joined
 joined-same f g [] same = refl
 joined-same f g (x ∷ l) same = ap₂ (λ (a b : List _). a ++ b) (same x (List·Memᴰ·head refl)) (joined-same f g l (λ y m. same y (List·Memᴰ·tail m)))
-
-map-same : {A B : Type 0} (f g : A → B) (l : List A) → ((x : A) → x ∈ l → f x ≡ g x) → map f l ≡ map g l
-map-same f g [] same = refl
-map-same f g (x ∷ l) same = ap₂ (λ (a : _) (r : List _). a ∷ r) (same x (List·Memᴰ·head refl)) (map-same f g l (λ y m. same y (List·Memᴰ·tail m)))
 
 module _ (g : Graph) (few : length (g .blocks) ≤ 1024) (some′ : 0 < length (g .blocks)) (rs : List UnwindRoute) (z : List Node) (bases entries parts returns : List ℕ) (n : ℕ) (p : Placed g (funclets rs) z bases entries parts returns n) where
   abbrev fs : List ℕ

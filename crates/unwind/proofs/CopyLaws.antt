@@ -1,26 +1,28 @@
 -- Copies of blocks and edges stored one by one, by words that hold the graph.
 --     blocks-kept, blocks-grow, first-kept, edges-grow     what stood is as it was
---     linked-kept, linked-start, edge-stood     the first edges stay linked
+--     first-all, linked-start, linked-kept, edge-stood     the first edges stay linked
 --     BlocksGoing, blocks-start, blocks-next, blocks-end     the blocks of a set
---     node-blocks, node-skips      the blocks of a node more
---     EdgesGoing, edges-start, edges-next, edges-end     the edges out of a block
+--     no-blocks, node-blocks, node-skips     the blocks of a node more
+--     EdgesGoing, edges-start, edges-next, edges-end, chain-less     the edges out of a block
 --     SetGoing, set-start, set-next, set-end     the edges out of the blocks of a set
+--     no-copies, edges-node, edges-skip     those of a node more
+--     map-same                     f and g agree on a list
 -- Assumes nothing.
 use mathlib.Core.Path.{_≡_, refl, sym, ap, ap₂, _∙_, subst}
-use mathlib.Core.Bool.{Bool, true, false, cond, not, _&&_}
+use mathlib.Core.Bool.{Bool, true, false, cond, not}
 use mathlib.Core.List.{List, [], _∷_, _++_, map, append-nil, append-assoc, map-append, List·Memᴰ·head, List·Memᴰ·tail}
-use Prim.Native.Nat.{ℕ, zero, suc, _+_, _-_, _*_, _≤_, _<_}
+use Prim.Native.Nat.{ℕ, suc, _+_, _-_, _≤_, _<_}
 use native.Mathlib.Nat.{le-trans}
 use native.Mathlib.Omega.{arith}
 use lib.Dec.{eqb, ltb}
-use lib.ListN.{length, getD, take, length-append, List·getD-append}
+use lib.ListN.{length, getD, take, length-append}
 use lib.Seq.{take-append-le, take-length, getD-take, length-take-le}
 use Rattle.graph.specs.declared.record.Block.{Block}
 use Rattle.graph.specs.declared.record.Edge.{Edge}
 use Rattle.graph.specs.Section.{Section}
 use Rattle.graph.specs.Graph.{Graph, Held, block, edge}
-use Rattle.graph.specs.Words.{Part, blockRows, edgeRows, edgeOf, heldIn}
-use Rattle.graph.specs.Fold.{flat, among}
+use Rattle.graph.specs.Words.{Part, blockRows, edgeRows, heldIn}
+use Rattle.graph.specs.Fold.{flat}
 use Rattle.graph.specs.BlockSet.{member, excluding}
 use Rattle.graph.specs.Search.{Ends, Linked, Roomy}
 use Rattle.graph.specs.Stored.{more, edgesIn, blocksIn, withBlock, withEdge, Stored}
@@ -29,11 +31,11 @@ use Rattle.graph.proofs.FoldLaws.{flat-more}
 use Rattle.graph.proofs.BlockLaws.{member-excluding, length-excluding}
 use Rattle.graph.proofs.AddingLaws.{added-none, added-then, edge-added}
 use Rattle.graph.proofs.LaidLaws.{blocks-none, blocks-then, block-one}
-use Rattle.unwind.specs.Lists.{keep, joined, upto}
+use Rattle.unwind.specs.Lists.{joined, upto}
 use Rattle.unwind.specs.Part.{outgoing}
 use Rattle.unwind.specs.Placed.{setAt}
 use Rattle.unwind.specs.Walk.{_∈_}
-use Rattle.unwind.specs.Clones.{listOf, copiesIn, copyOf, blockCopies, edgeCopies, firstEdges, LinkedTo, SetsIn}
+use Rattle.unwind.specs.Clones.{listOf, copiesIn, copyOf, blockCopies, edgeCopies, firstEdges, LinkedTo}
 use Rattle.unwind.proofs.Lists.{and-both, keep-mem}
 use Rattle.unwind.proofs.ChainLaws.{chain, OnChain, chain-start, chain-next, chain-none, list-none, list-front}
 use Rattle.unwind.proofs.CloneLaws.{copies-none, copies-some, none-next, some-next}
@@ -138,11 +140,15 @@ module _ (l₀ l w left : List ℕ) (p : BlocksGoing l₀ l w left) where
         rest = append-assoc (p .done) (block g b ∷ []) _ ∙ ap (λ (k : List ℕ). p .done ++ map (block g) k) (sym (list-front left b (p .long) h is low)) ∙ p .rest;
       }
 
-map-same : {A : Type 0} (f g : ℕ → A) (l : List ℕ) → ((x : ℕ) → x ∈ l → f x ≡ g x) → map f l ≡ map g l
+pub map-same : {A B : Type 0} (f g : A → B) (l : List A) → ((x : A) → x ∈ l → f x ≡ g x) → map f l ≡ map g l
 map-same f g [] same = refl
 map-same f g (x ∷ l) same = ap₂ (λ (a : _) (r : List _). a ∷ r) (same x (List·Memᴰ·head refl)) (map-same f g l (λ y m. same y (List·Memᴰ·tail m)))
 
 -- of one node more
+pub no-blocks : (l bases parts : List ℕ) → Stored l l (withBlocks (heldIn l) (blockCopies (heldIn l .graph) bases parts 0))
+unfolding blockCopies flat
+no-blocks l bases parts = blocks-none l
+
 module _ (l₀ l bases parts : List ℕ) (i : ℕ) (st : Stored l₀ l (withBlocks (heldIn l₀) (blockCopies (heldIn l₀ .graph) bases parts i))) where
   more-blocks : (c : List ℕ) → copiesIn bases parts i ≡ c → blockCopies (heldIn l₀ .graph) bases parts (i + 1) ≡ blockCopies (heldIn l₀ .graph) bases parts i ++ map (block (heldIn l₀ .graph)) c
   unfolding blockCopies
@@ -249,6 +255,10 @@ module _ (m base : ℕ) (w : List ℕ) where
 
 -- ---- those of one node more
 
+pub no-copies : (l bases parts : List ℕ) → Added l l (edgeCopies (heldIn l .graph) bases parts 0) [] []
+unfolding edgeCopies flat
+no-copies l bases parts = added-none l
+
 module _ (l₀ l bases parts : List ℕ) (i : ℕ) (a : Added l₀ l (edgeCopies (heldIn l₀ .graph) bases parts i) [] []) where
   pub edges-skip : getD bases i 0 ≡ 0 → Added l₀ l (edgeCopies (heldIn l₀ .graph) bases parts (i + 1)) [] []
   edges-skip e = rw (none-next bases parts i (heldIn l₀ .graph) e) a
@@ -258,11 +268,3 @@ module _ (l₀ l bases parts : List ℕ) (i : ℕ) (a : Added l₀ l (edgeCopies
   edges-node ne m all l′ b =
       let same : firstEdges (heldIn l .graph) m ≡ heldIn l₀ .graph = first-kept a m (omega arith) ∙ ap (firstEdges (heldIn l₀ .graph)) all ∙ first-all (heldIn l₀ .graph) in
       rw (some-next bases parts i (heldIn l₀ .graph) ne) (added-then a (subst (λ (g : Graph). Added l l′ (joined (λ b. map (copyOf (getD bases i 0) (setAt parts i)) (outgoing g b)) (listOf (setAt parts i))) [] []) same b))
-
-pub no-blocks : (l bases parts : List ℕ) → Stored l l (withBlocks (heldIn l) (blockCopies (heldIn l .graph) bases parts 0))
-unfolding blockCopies flat
-no-blocks l bases parts = blocks-none l
-
-pub no-copies : (l bases parts : List ℕ) → Added l l (edgeCopies (heldIn l .graph) bases parts 0) [] []
-unfolding edgeCopies flat
-no-copies l bases parts = added-none l

@@ -105,14 +105,7 @@ pub fn add_clone_edges(
 }
 
 // Adds those of the edges out of the blocks of a set, of which the first is copied as block `base`. The first m edges are linked.
-fn copy_edges(
-    g: &mut Words,
-    m: usize,
-    head: &[u16],
-    next: &[u16],
-    base: usize,
-    set: &[u64; 16],
-)
+fn copy_edges(g: &mut Words, m: usize, head: &[u16], next: &[u16], base: usize, set: &[u64; 16])
     requires { ⌜ LinkedTo (heldIn (now g) .graph) m (now head) (now next) × (base < 65536) ⌝ }
     ensures { λ _. ⌜ Added (now (g .entry)) (now (g .exit)) (joined (λ b. map (copyOf base (now (set .entry))) (outgoing (firstEdges (heldIn (now (g .entry)) .graph) m) b)) (listOf (now (set .entry)))) [] [] ⌝ }
 {

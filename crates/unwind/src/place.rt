@@ -61,7 +61,20 @@ pub fn place_nodes(
     let mut base = block_count(g);
     for i in 0..n {
         base += place_node(
-            g, built, s, y, nodes, head, next, barriers, sources, i, base, bases, entries, parts,
+            g,
+            built,
+            s,
+            y,
+            nodes,
+            head,
+            next,
+            barriers,
+            sources,
+            i,
+            base,
+            bases,
+            entries,
+            parts,
             returns,
         );
         if MOST < base {
@@ -97,7 +110,20 @@ fn place_node(
         return place_clone(first, i, base, bases, entries, parts, returns);
     }
     place_first(
-        g, built, s, y, nodes, head, next, barriers, sources, i, bases, entries, parts, returns,
+        g,
+        built,
+        s,
+        y,
+        nodes,
+        head,
+        next,
+        barriers,
+        sources,
+        i,
+        bases,
+        entries,
+        parts,
+        returns,
     );
     0
 }

@@ -1,6 +1,4 @@
 -- `copy_blocks` meets its contract. The loop's invariant: the blocks taken out are added. Assumes nothing.
-use mathlib.Core.Path.{_≡_, refl, sym, ap, _∙_}
-use Prim.Native.Nat.{ℕ, _≤_, _<_}
 use native.Mathlib.Omega.{arith}
 use borrow.Author.Needs.{needs}
 use Rattle.graph.specs.BlockSet.{sizeOf}

@@ -1,6 +1,4 @@
 -- `copy_edges` meets its contract. The loop's invariant: the copies of the edges out of the blocks taken out are added. Assumes nothing.
-use mathlib.Core.Path.{_≡_, refl, sym, ap, _∙_}
-use Prim.Native.Nat.{ℕ, _≤_, _<_}
 use native.Mathlib.Omega.{arith}
 use borrow.Author.Needs.{needs}
 use Rattle.graph.specs.BlockSet.{sizeOf}

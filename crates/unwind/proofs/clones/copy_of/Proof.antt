@@ -1,9 +1,7 @@
 -- `copy_of` meets its contract. Assumes nothing.
-use mathlib.Core.Path.{_≡_, refl, sym, ap, _∙_}
-use Prim.Native.Nat.{ℕ, _≤_, _<_}
+use mathlib.Core.Path.{sym, _∙_}
 use native.Mathlib.Omega.{arith}
 use borrow.Author.Needs.{needs}
-use Rattle.unwind.specs.Clones.{copyOf}
 use Rattle.unwind.proofs.CloneLaws.{rank-few, copy-in, copy-out}
 use Rattle.unwind.proofs.clones.copy_of.Statement.{statement}
 use Rattle.unwind.proofs.clones.copy_of.Tie as tie

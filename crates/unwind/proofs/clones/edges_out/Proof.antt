@@ -1,6 +1,6 @@
 -- `edges_out` meets its contract. The loop's invariant: what is counted and the edges out of the blocks left are all. Assumes nothing.
-use mathlib.Core.Path.{_≡_, refl, sym, ap, _∙_}
-use Prim.Native.Nat.{ℕ, _+_, _-_, _≤_, _<_}
+use mathlib.Core.Path.{_≡_, ap, _∙_}
+use Prim.Native.Nat.{_+_, _-_}
 use native.Mathlib.Omega.{arith}
 use borrow.Author.Needs.{needs}
 use lib.ListN.{length}
@@ -11,7 +11,6 @@ use Rattle.graph.proofs.BlockLaws.{length-excluding, size-excluding}
 use Rattle.unwind.specs.Lists.{joined}
 use Rattle.unwind.specs.Part.{outgoing}
 use Rattle.unwind.specs.Clones.{listOf}
-use Rattle.unwind.proofs.ChainLaws.{list-none}
 use Rattle.unwind.proofs.CloneLaws.{set-front, set-most, joined-none}
 use Rattle.unwind.proofs.clones.edges_out.Statement.{statement}
 use Rattle.unwind.proofs.clones.edges_out.Tie as tie

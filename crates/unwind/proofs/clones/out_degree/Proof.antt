@@ -1,11 +1,9 @@
 -- `out_degree` meets its contract. The loop's invariant: what is counted and what is left on the chain are all edges out of b. Assumes nothing.
-use mathlib.Core.Path.{_≡_, refl, sym, ap, _∙_}
-use Prim.Native.Nat.{ℕ, _+_, _-_, _≤_, _<_}
+use mathlib.Core.Path.{_≡_, ap, _∙_}
+use Prim.Native.Nat.{_+_, _-_}
 use native.Mathlib.Omega.{arith}
 use borrow.Author.Needs.{needs}
 use lib.ListN.{length}
-use Rattle.graph.specs.declared.record.Edge.{Edge}
-use mathlib.Core.List.{List}
 use Rattle.graph.specs.Words.{heldIn}
 use Rattle.graph.proofs.RecordLaws.{edge-most}
 use Rattle.unwind.specs.Part.{outgoing}
