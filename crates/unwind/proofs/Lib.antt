@@ -40,3 +40,4 @@ pub mod ChainLaws
 pub mod CloneLaws
 pub mod CopyLaws
 pub mod CopiesAre
+pub mod SideLaws

@@ -17,6 +17,7 @@ pub mod Routed
 pub mod Instance
 pub mod Placed
 pub mod Clones
+pub mod Sides
 pub mod Ways
 pub mod Add
 pub mod Walk

@@ -5,5 +5,6 @@ pub mod clones;
 pub mod node_checks;
 pub mod part;
 pub mod place;
+pub mod sides;
 pub mod slots;
 pub mod tries;
