@@ -38,6 +38,6 @@ pub mod SlotLaws
 pub mod PlaceLaws
 pub mod ChainLaws
 pub mod CloneLaws
-pub mod CopyLaws
-pub mod CopiesAre
+pub mod StoodLaws
+pub mod ClonesAre
 pub mod SideLaws

@@ -9,7 +9,7 @@ use Rattle.graph.specs.Words.{heldIn}
 use Rattle.graph.specs.Stored.{Stored}
 use Rattle.graph.specs.Adding.{withBlocks}
 use Rattle.unwind.specs.Clones.{blockCopies}
-use Rattle.unwind.proofs.CopyLaws.{blocks-grow, no-blocks, node-skips, node-blocks}
+use Rattle.unwind.proofs.StoodLaws.{blocks-grow, no-blocks, node-skips, node-blocks}
 use Rattle.unwind.proofs.clones.add_clone_blocks.Statement.{statement}
 use Rattle.unwind.proofs.clones.add_clone_blocks.Tie as tie
 

@@ -8,7 +8,7 @@ use borrow.Author.Needs.{needs}
 use Rattle.graph.specs.Words.{heldIn}
 use Rattle.graph.specs.Adding.{Added}
 use Rattle.unwind.specs.Clones.{edgeCopies}
-use Rattle.unwind.proofs.CopyLaws.{linked-start, linked-kept, no-copies, edges-skip, edges-node}
+use Rattle.unwind.proofs.StoodLaws.{linked-start, linked-kept, no-copies, edges-skip, edges-node}
 use Rattle.unwind.proofs.clones.add_clone_edges.Statement.{statement}
 use Rattle.unwind.proofs.clones.add_clone_edges.Tie as tie
 

@@ -3,7 +3,7 @@ use native.Mathlib.Omega.{arith}
 use borrow.Author.Needs.{needs}
 use Rattle.graph.specs.BlockSet.{sizeOf}
 use Rattle.graph.proofs.BlockLaws.{size-excluding}
-use Rattle.unwind.proofs.CopyLaws.{BlocksGoing, blocks-start, blocks-next, blocks-end}
+use Rattle.unwind.proofs.StoodLaws.{BlocksGoing, blocks-start, blocks-next, blocks-end}
 use Rattle.unwind.proofs.clones.copy_blocks.Statement.{statement}
 use Rattle.unwind.proofs.clones.copy_blocks.Tie as tie
 

@@ -3,7 +3,7 @@ use native.Mathlib.Omega.{arith}
 use borrow.Author.Needs.{needs}
 use Rattle.graph.specs.BlockSet.{sizeOf}
 use Rattle.graph.proofs.BlockLaws.{size-excluding}
-use Rattle.unwind.proofs.CopyLaws.{linked-kept, SetGoing, set-start, set-next, set-end}
+use Rattle.unwind.proofs.StoodLaws.{linked-kept, SetGoing, set-start, set-next, set-end}
 use Rattle.unwind.proofs.clones.copy_edges.Statement.{statement}
 use Rattle.unwind.proofs.clones.copy_edges.Tie as tie
 

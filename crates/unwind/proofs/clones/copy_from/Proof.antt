@@ -6,7 +6,7 @@ use lib.ListN.{length}
 use Rattle.graph.specs.Words.{heldIn}
 use Rattle.unwind.specs.Clones.{firstEdges}
 use Rattle.unwind.proofs.ChainLaws.{chain}
-use Rattle.unwind.proofs.CopyLaws.{EdgesGoing, edges-start, edges-next, edges-end, chain-less}
+use Rattle.unwind.proofs.StoodLaws.{EdgesGoing, edges-start, edges-next, edges-end, chain-less}
 use Rattle.unwind.proofs.clones.copy_from.Statement.{statement}
 use Rattle.unwind.proofs.clones.copy_from.Tie as tie
 

@@ -29,7 +29,7 @@ use Rattle.unwind.proofs.Instance.{place-later, copied-later}
 use Rattle.unwind.proofs.Sets.{Rises, has-lt, rank-has}
 use Rattle.unwind.proofs.ChainLaws.{list-has}
 use Rattle.unwind.proofs.CloneLaws.{copies-none, copies-some}
-use Rattle.unwind.proofs.CopyLaws.{map-same}
+use Rattle.unwind.proofs.StoodLaws.{map-same}
 use Rattle.unwind.proofs.PlaceLaws.{part-rises}
 
 joined-same : {A B : Type 0} (f g : A → List B) (l : List A) → ((x : A) → x ∈ l → f x ≡ g x) → joined f l ≡ joined g l
