@@ -49,3 +49,8 @@ pub mod PlaceLaws
 pub mod CopyLaws
 pub mod AllHops
 pub mod CopiesAre
+pub mod ChainLaws
+pub mod CloneLaws
+pub mod StoodLaws
+pub mod ClonesAre
+pub mod SideLaws

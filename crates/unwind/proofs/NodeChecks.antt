@@ -3,8 +3,9 @@
 --     funclet-root, funclet-named  of a root, and of a node that entered a funclet
 --     endsCheck, node-checks       of a node: its funclet, then its ends
 --     node-check                   of a node in scratch
+--     funclets-lead                where all nodes are clear, each funclet leads a block
 -- Assumes nothing.
-use mathlib.Core.Path.{_≡_, refl, sym, ap, ap₂, _∙_}
+use mathlib.Core.Path.{_≡_, refl, sym, ap, _∙_}
 use mathlib.Core.Bool.{Bool, true, false, cond}
 use mathlib.Core.List.{List, [], _∷_, map}
 use Prim.Native.Nat.{ℕ, zero, suc, _+_, _-_, _<_}
@@ -17,6 +18,7 @@ use Rattle.image.specs.Refusal.{Check, clear, _then_}
 use Rattle.image.specs.Image.{RouteImage}
 use Rattle.image.specs.Deal.{UnwindEnd, handler, propagate, resume, endOf}
 use Rattle.image.specs.declared.record.Path.{Path}
+use Rattle.image.proofs.Checks.{then-left, checks-each}
 use Rattle.graph.specs.Graph.{Graph}
 use Rattle.graph.specs.Fold.{checks}
 use Rattle.graph.proofs.FoldLaws.{length-table, getD-table}
@@ -26,6 +28,7 @@ use Rattle.unwind.specs.declared.tries.store.Branch.{Branch}
 use Rattle.unwind.specs.Order.{Tagged, tagged}
 use Rattle.unwind.specs.Nodes.{branchIn, branches, stepIn, pathRecord, funcletIn, endAt, recordIn, nodeIn, nodesIn}
 use Rattle.unwind.specs.Trie.{nodeAt}
+use Rattle.unwind.specs.Placed.{funcletAt}
 use Rattle.unwind.specs.Add.{leadCheck, funcletCheck, endCheck, nodeCheck}
 use Rattle.unwind.proofs.TrieNodes.{node-of}
 
@@ -77,3 +80,7 @@ module _ (g : Graph) where
       pub node-check : (nodes : List ℕ) (n i : ℕ) → i < n → nodeCheck g (nodeAt (nodesIn m nodes edges ends n) i) ≡ nodeCheck g (nodeIn m edges ends (recordIn nodes i))
       unfolding nodeAt
       node-check nodes n i h = ap (nodeCheck g) (node-of m nodes edges ends n i _ h)
+
+      pub funclets-lead : (nodes : List ℕ) (n : ℕ) → checks (λ i. nodeCheck g (nodeAt (nodesIn m nodes edges ends n) i)) n ≡ clear → (i : ℕ) → i < n → funcletCheck g (funcletAt m nodes i) ≡ clear
+      funclets-lead nodes n passed i h =
+          then-left _ _ (sym (node-check nodes n i h ∙ node-checks (recordIn nodes i)) ∙ checks-each (λ i. nodeCheck g (nodeAt (nodesIn m nodes edges ends n) i)) n i passed h)

@@ -2,50 +2,49 @@
 --     entry-root, entry-named      the entry of a node by the step that names its funclet
 --     entry-lt, entry-built        it is a built block
 --     part-none, part-some, part-is     the part of a root, and of a funclet
---     rank-most                    a rank is small
+--     part-rises, rank-most        a part rises, and a rank is small
 --     sizes-none, sizes-then, sizes-kept, slots-same, slots-less     room
 --     first-next, clone-next       the first node of a funclet, and a later one
 --     PlacedTo, placed-none, placed-next, placed-end, placed-over     the nodes before one, all nodes, and too many blocks
 -- Assumes nothing.
 use mathlib.Core.Path.{_≡_, refl, sym, ap, ap₂, _∙_, subst}
 use mathlib.Core.Bool.{Bool, true, false, cond, false≢true}
-use mathlib.Core.Logic.{⊎-elim}
-use mathlib.Core.List.{List, [], _∷_}
+use mathlib.Core.List.{List, []}
 use mathlib.Core.Option.{Option, none, some}
-use Prim.Native.Nat.{ℕ, zero, suc, _+_, _-_, _*_, _≤_, _<_, min}
-use native.Mathlib.Nat.{not-suc-le-zero, le-trans}
+use Prim.Native.Nat.{ℕ, zero, suc, _+_, _-_, _*_, _≤_, _<_}
+use native.Mathlib.Nat.{not-suc-le-zero}
 use native.Mathlib.Numerals.{add-one}
 use native.Mathlib.Decide.{ℕ-discrete}
 use native.Mathlib.Omega.{arith}
 use borrow.Author.Tests.{eq-eqb, eqb-true, le-leb, lt-leb}
-use lib.Dec.{eqb, leb}
 use lib.ListN.{length, getD, set, length-set, length-map}
 use lib.Seq.{getD-set-same, getD-set-other}
-use Rattle.image.specs.Refusal.{Check, clear, refused, refusal, unless}
+use Rattle.image.specs.Refusal.{clear, refused, refusal, unless}
 use Rattle.image.specs.Image.{RouteImage}
 use Rattle.image.specs.Deal.{routesOf}
-use Rattle.graph.specs.Graph.{Graph, block}
+use Rattle.graph.specs.Graph.{Graph}
 use Rattle.graph.specs.Fold.{some as any, flat, count, among}
 use Rattle.graph.specs.BlockSet.{member, sizeOf}
 use Rattle.graph.specs.BlockSet as set
 use Rattle.graph.specs.WellFormed.{isBuilt}
 use Rattle.graph.proofs.FoldLaws.{length-table, some-same, some-at, count-le}
-use Rattle.graph.proofs.BlockLaws.{member-none, rank-all}
+use Rattle.graph.proofs.BlockLaws.{member-none}
 use Rattle.unwind.specs.Lists.{keep, upto, rank}
 use Rattle.unwind.specs.Blocks.{blockIn, blockOf, leading}
 use Rattle.unwind.specs.Stands.{Has}
 use Rattle.unwind.specs.Part.{funclets, round, rounds, part, returning}
 use Rattle.unwind.specs.PartSearch.{Barriers, PartFrom}
 use Rattle.unwind.specs.Trie.{Node, nodeAt, sameFunclet}
-use Rattle.unwind.specs.Nodes.{stepIn, funcletIn, recordIn, nodeIn, nodesIn}
-use Rattle.unwind.specs.Instance.{entryBlock, partOf, blocksOf, later, copied, base, place, entryOf, cloneBlocks}
-use Rattle.unwind.specs.Add.{leadCheck, funcletCheck}
+use Rattle.unwind.specs.Nodes.{stepIn, funcletIn, nodeIn, nodesIn}
+use Rattle.unwind.specs.Instance.{entryBlock, partOf, blocksOf, later, copied, base, entryOf, cloneBlocks}
+use Rattle.unwind.specs.Add.{funcletCheck}
 use Rattle.unwind.specs.Walk.{_∈_}
-use Rattle.unwind.specs.Placed.{setAt, SetPut, Slots, SameSizes, Placed, funcletAt, like, FirstLike, NodePlaced, FirstPlaced, Placing, PlacedAll}
+use Rattle.unwind.specs.Placed.{setAt, Slots, SameSizes, Placed, funcletAt, like, FirstLike, NodePlaced, FirstPlaced, Placing, PlacedAll}
 use Rattle.unwind.proofs.Lists.{or-left, mem-keep, mem-upto, mem-among, flat-suc, flat-le}
 use Rattle.unwind.proofs.Accepted.{lead-begins}
 use Rattle.unwind.proofs.Instance.{place-first, place-later, copied-later}
-use Rattle.unwind.proofs.Sets.{Rises, part-kept, size-has, rank-has}
+use Rattle.unwind.proofs.Sets.{none-kept, Rises, part-kept, size-has, rank-has}
+use Rattle.unwind.proofs.CloneLaws.{rank-few}
 use Rattle.unwind.proofs.TrieNodes.{length-nodes, node-of}
 
 -- ---- the funclet of a node
@@ -109,11 +108,6 @@ module _ (g : Graph) (m : RouteImage) where
 
 -- ---- a part
 
-keep-nothing : (l : List ℕ) → keep (λ (b : ℕ). false) l ≡ []
-unfolding keep
-keep-nothing [] = refl
-keep-nothing (x ∷ l) = keep-nothing l
-
 entry-in : (g : Graph) (fs : List ℕ) (f e : ℕ) → e < length (g .blocks) → e ∈ part g fs f e
 unfolding part rounds round
 entry-in g fs f e h = go (length (g .blocks)) h
@@ -122,9 +116,9 @@ entry-in g fs f e h = go (length (g .blocks)) h
     go zero lt = absurd (not-suc-le-zero lt)
     go (suc k) lt = mem-keep _ (mem-upto (length (g .blocks)) e h) (or-left _ (or-left _ (eq-eqb e e refl)))
 
-part-rises : (g : Graph) (fs : List ℕ) (o : Option ℕ) → Rises (length (g .blocks)) (partOf g fs o)
+pub part-rises : (g : Graph) (fs : List ℕ) (o : Option ℕ) → Rises (length (g .blocks)) (partOf g fs o)
 unfolding partOf
-part-rises g fs none = record { test = λ b. false; is = sym (keep-nothing (upto (length (g .blocks)))) }
+part-rises g fs none = record { test = λ b. false; is = sym (none-kept (upto (length (g .blocks)))) }
 part-rises g fs (some f) = part-kept g fs f (blockOf g f)
 
 -- the place of the entry among the blocks
@@ -146,9 +140,7 @@ same-eq (some x) (some y) e = ap some (eqb-true x y e)
 -- a rank is no more than there are blocks
 pub rank-most : (parts : List ℕ) (i b : ℕ) → count (member (setAt parts i)) b ≤ 1024
 unfolding setAt
-rank-most parts i b =
-    let w : List ℕ = setAt parts i in
-    rw (sym (rank-all w (length-table (λ k. getD parts (16 * i + k) 0) 16) b)) (le-trans (count-le (member w) (min b 1024)) (omega arith))
+rank-most parts i b = rank-few (setAt parts i) (length-table (λ k. getD parts (16 * i + k) 0) 16) b
 
 -- ---- one node more
 

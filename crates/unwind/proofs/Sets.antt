@@ -1,5 +1,5 @@
 -- Sets of blocks, and the rising lists that they have: the numbers below n of which a test holds.
---     keep-append, kept-more       a list more, and a number more
+--     keep-append, kept-more, none-kept     a list more, a number more, and none
 --     among-kept, length-kept, rank-kept       which numbers, how many, and how many stand before one
 --     keep-kept                    the kept ones of a rising list
 --     Rises, part-kept, keep-rises, guarded-kept     parts, what is kept of them, and guarded blocks are such lists
@@ -50,7 +50,7 @@ module _ {A : Type 0} where
       go true false e rest = rw e rest
       go false b e rest = rest
 
-  none-kept : (l : List A) → keep (λ (x : A). false) l ≡ []
+  pub none-kept : (l : List A) → keep (λ (x : A). false) l ≡ []
   unfolding keep
   none-kept [] = refl
   none-kept (x ∷ l) = none-kept l

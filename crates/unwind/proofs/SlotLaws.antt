@@ -1,4 +1,5 @@
 -- Sets of blocks in a slice, sixteen words each.
+--     set-run                      a set is a run of the slice
 --     Filled, filled-none, filled-more, filled-all     a set read, word by word
 --     Copied, copied-none, copied-more, copied-all     a set stored, word by word
 -- Assumes nothing.
@@ -9,8 +10,8 @@ use Prim.Native.Nat.{ℕ, zero, suc, _+_, _*_, _≤_, _<_}
 use native.Mathlib.Nat.{not-suc-le-zero}
 use native.Mathlib.Decide.{ℕ-discrete, decLt}
 use native.Mathlib.Omega.{arith}
-use lib.ListN.{length, getD, set, take, replicate, length-set}
-use lib.Seq.{take-suc, take-length, getD-set-same, getD-set-other}
+use lib.ListN.{length, getD, set, take, length-set, drop, length-drop}
+use lib.Seq.{take-suc, take-length, getD-set-same, getD-set-other, length-take-le, getD-take, getD-drop}
 use Rattle.image.specs.Image.{table}
 use Rattle.graph.specs.BlockSet.{none}
 use Rattle.graph.proofs.FoldLaws.{table-same}
@@ -24,6 +25,13 @@ listed w f n long each = sym (take-length w) ∙ ap (λ (k : ℕ). take k w) lon
     first : (k : ℕ) → k ≤ n → take k w ≡ table f k
     first zero h = refl
     first (suc k) h = take-suc w k 0 (omega arith) ∙ ap (λ (l : List ℕ). l ++ (getD w k 0 ∷ [])) (first k (omega arith)) ∙ ap (λ (x : ℕ). table f k ++ (x ∷ [])) (each k (omega arith))
+
+-- a set is a run of the slice
+pub set-run : (l : List ℕ) (i : ℕ) → 16 * i + 16 ≤ length l → setAt l i ≡ take 16 (drop (16 * i) l)
+unfolding setAt
+set-run l i fit =
+    let left : 16 ≤ length (drop (16 * i) l) = omega (arith, length-drop (16 * i) l) in
+    sym (listed (take 16 (drop (16 * i) l)) (λ k. getD l (16 * i + k) 0) 16 (length-take-le 16 (drop (16 * i) l) left) (λ j h. getD-take 16 (drop (16 * i) l) j 0 h ∙ getD-drop (16 * i) l j 0))
 
 -- the first k words are those of l from `at` on
 pub record Filled (l : List ℕ) (at : ℕ) (w : List ℕ) (k : ℕ) : Type 0 where

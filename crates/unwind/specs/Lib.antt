@@ -15,6 +15,8 @@ pub mod Interns
 pub mod Routed
 pub mod Instance
 pub mod Placed
+pub mod Clones
+pub mod Sides
 pub mod Ways
 pub mod Sources
 pub mod Entries

@@ -1,9 +1,11 @@
 // The unwinding: what an addition of routes gives (specs), and why its hops spell the listed paths (proofs).
 mod blocks;
 mod checks;
+mod clones;
 mod emit;
 mod node_checks;
 mod part;
 mod place;
+mod sides;
 mod slots;
 mod tries;

@@ -1,5 +1,5 @@
 -- `check_end` meets its contract. Assumes nothing.
-use mathlib.Core.Path.{_≡_, sym, ap, _∙_}
+use mathlib.Core.Path.{sym, ap, _∙_}
 use borrow.Author.Needs.{needs}
 use Rattle.image.specs.declared.record.Path.{Path}
 use Rattle.image.specs.Image.{routesIn}

@@ -1,6 +1,5 @@
 -- `part_at` meets its contract. Assumes nothing.
-use mathlib.Core.Path.{_≡_, refl}
-use borrow.Author.Needs.{needs}
+use mathlib.Core.Path.{refl}
 use Rattle.unwind.proofs.place.part_at.Statement.{statement}
 use Rattle.unwind.proofs.place.part_at.Tie as tie
 

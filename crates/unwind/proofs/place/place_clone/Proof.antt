@@ -1,9 +1,7 @@
 -- `place_clone` meets its contract. Assumes nothing.
-use mathlib.Core.Path.{_≡_, refl, sym, ap, _∙_}
-use Prim.Native.Nat.{ℕ, _+_, _≤_, _<_}
+use Prim.Native.Nat.{_≤_}
 use native.Mathlib.Omega.{arith}
 use borrow.Author.Needs.{needs}
-use Rattle.unwind.specs.Placed.{setAt}
 use Rattle.unwind.proofs.PlaceLaws.{sizes-kept, rank-most}
 use Rattle.unwind.proofs.place.place_clone.Statement.{statement}
 use Rattle.unwind.proofs.place.place_clone.Tie as tie

@@ -1,0 +1,69 @@
+// What routes and ends say of blocks: the blocks that each route guards, and the block of each handler.
+use crate::blocks::Lead;
+use crate::blocks::guarded_by;
+use crate::blocks::leading_block;
+use crate::slots::put_set;
+use crate::tries::store::branch_at;
+use graph::resume::HANDLER;
+use graph::store::Words;
+use image::access::path_at;
+use image::access::route_at;
+use image::section::RouteLayout;
+ghost use mathlib.Core.Path.{_≡_};
+ghost use Prim.Native.Nat.{_*_, _≤_, _<_};
+ghost use lib.ListN.{length};
+ghost use Rattle.image.specs.Image.{routesIn};
+ghost use Rattle.image.specs.Deal.{endOf};
+ghost use Rattle.graph.specs.Words.{heldIn};
+ghost use Rattle.graph.specs.WellFormed.{Built};
+ghost use Rattle.unwind.specs.Stands.{Stands};
+ghost use Rattle.unwind.specs.Nodes.{pathRecord};
+ghost use Rattle.unwind.specs.Sides.{landing, Lands, GuardsIn};
+
+// The blocks that each route guards, a set for each.
+pub fn guard_routes(g: &Words, built: usize, s: &[u8], y: RouteLayout, guards: &mut [u64])
+    requires { ⌜ Stands (heldIn (now g) .graph) × Built (heldIn (now g) .graph) built × (16 * length (routesIn (now s) y .routes) ≤ length (now guards)) ⌝ }
+    ensures { λ _. ⌜ GuardsIn (heldIn (now (g .entry)) .graph) (routesIn (now (s .entry)) y) (now (guards .exit)) (length (routesIn (now (s .entry)) y .routes)) ⌝ }
+{
+    let n = y.routes.count as usize;
+    for r in 0..n {
+        let route = route_at(s, y.routes, r);
+        let set = guarded_by(g, built, route.start, route.end);
+        put_set(guards, r, &set);
+    }
+}
+
+// The blocks of the handlers at the first n ends.
+pub fn land_ends(
+    g: &Words,
+    built: usize,
+    s: &[u8],
+    y: RouteLayout,
+    ends: &[u16],
+    n: usize,
+    landings: &mut [u16],
+)
+    requires { ⌜ Stands (heldIn (now g) .graph) × Built (heldIn (now g) .graph) built × (n ≤ length (now landings)) ⌝ }
+    ensures { λ _. ⌜ Lands (heldIn (now (g .entry)) .graph) (routesIn (now (s .entry)) y) (now (ends .entry)) (now (landings .exit)) n ⌝ }
+{
+    for k in 0..n {
+        let b = land(g, built, s, y, branch_at(ends, k).what);
+        landings[k] = b as u16;
+    }
+}
+
+// The block of the handler at the end of path p; 0 for another end.
+fn land(g: &Words, built: usize, s: &[u8], y: RouteLayout, p: usize) -> usize
+    requires { ⌜ Stands (heldIn (now g) .graph) × Built (heldIn (now g) .graph) built ⌝ }
+    ensures { λ r. ⌜ (r ≡ landing (heldIn (now (g .entry)) .graph) (endOf (pathRecord (routesIn (now (s .entry)) y) p))) × (r < 1024) ⌝ }
+{
+    let path = path_at(s, y.paths, p);
+    if path.end != HANDLER {
+        return 0;
+    }
+    match leading_block(g, built, path.handler) {
+        Lead::Leads(b) => b,
+        Lead::Inside => 0,
+        Lead::Absent => 0,
+    }
+}
