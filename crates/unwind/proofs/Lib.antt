@@ -54,3 +54,4 @@ pub mod CloneLaws
 pub mod StoodLaws
 pub mod ClonesAre
 pub mod SideLaws
+pub mod HopLaws

@@ -1,5 +1,6 @@
 // The hops of an addition: the ways out of one block after the other, gathered in scratch, counted, and stored.
 mod block;
+pub mod buffer;
 mod copies;
 pub mod count;
 pub mod entries;
