@@ -55,3 +55,4 @@ pub mod StoodLaws
 pub mod ClonesAre
 pub mod SideLaws
 pub mod HopLaws
+pub mod RowLaws

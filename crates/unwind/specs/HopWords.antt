@@ -2,9 +2,9 @@
 -- then a section for the hops and one for the lists. Any words hold something: each section is cut at its limit. A list is
 -- a run of consecutive steps of the route image.
 use mathlib.Core.Path.{_≡_}
-use mathlib.Core.Bool.{Bool, true, false, cond, not, _&&_}
+use mathlib.Core.Bool.{Bool, false, cond, not, _&&_}
 use mathlib.Core.List.{List, [], _∷_, _++_, map}
-use Prim.Native.Nat.{ℕ, zero, suc, _+_, _≤_, _<_}
+use Prim.Native.Nat.{ℕ, zero, suc, _+_, _≤_}
 use lib.Dec.{eqb}
 use lib.ListN.{length, getD, take, drop}
 use Rattle.image.specs.Image.{RouteImage}
@@ -36,6 +36,9 @@ pub record Rows : Type 0 where
 unfoldable pub rowsIn : List ℕ → Rows
 rowsIn l = record { hops = records hopRows hopRow l; lists = records listRows listRow l }
 
+abbrev pub hopAt : Rows → ℕ → HopRow
+hopAt r i = getD (r .hops) i (hopRow [])
+
 -- ---- what they stand for, over the routes that were read
 
 unfoldable pub endFrom : HopRow → HopEnd
@@ -46,15 +49,15 @@ module _ (m : RouteImage) where
   tagsFrom t = tagsIn m (t .step) (t .calls)
 
   -- of a hop: as many lists as it has, from its first on
-  unfoldable pub hopFrom : List ListRow → HopRow → Hop
-  hopFrom ts x = record { source = x .source; end = endFrom x; calls = map tagsFrom (take (x .lists) (drop (x .first) ts)) }
+  unfoldable pub rowHop : List ListRow → HopRow → Hop
+  rowHop ts x = record { source = x .source; end = endFrom x; calls = map tagsFrom (take (x .lists) (drop (x .first) ts)) }
 
-  unfoldable pub hopsFrom : Rows → List Hop
-  hopsFrom r = map (hopFrom (r .lists)) (r .hops)
+  unfoldable pub rowHops : Rows → List Hop
+  rowHops r = map (rowHop (r .lists)) (r .hops)
 
   -- THE HOPS IN WORDS
   abbrev pub hopsIn : List ℕ → List Hop
-  hopsIn l = hopsFrom (rowsIn l)
+  hopsIn l = rowHops (rowsIn l)
 
 -- ---- one way more
 

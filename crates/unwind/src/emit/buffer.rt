@@ -1,9 +1,9 @@
 // The hops of an addition as words that a caller lends. No contract above this module says where a word stands.
 ghost use mathlib.Core.Path.{_≡_};
-ghost use Prim.Native.Nat.{_+_, _≤_, _<_, min};
+ghost use Prim.Native.Nat.{_+_, _-_, _≤_, _<_, min};
 ghost use lib.ListN.{length, getD};
 ghost use lib.Seq.{sets};
-ghost use Rattle.unwind.specs.HopWords.{rowsIn, withHop, withRun, HopsStored, HopsEmptied};
+ghost use Rattle.unwind.specs.HopWords.{hopAt, rowsIn, withHop, withRun, withWider, HopsStored, HopsEmptied};
 
 pub type Hops = [u64; 18440];
 
@@ -45,14 +45,14 @@ pub fn empty_hops(h: &mut Hops)
 
 // How many hops there are.
 pub fn hop_count(h: &Hops) -> usize
-    ensures { λ r. ⌜ r ≡ length (rowsIn (now (h .entry)) .hops) ⌝ }
+    ensures { λ r. ⌜ (r ≡ length (rowsIn (now (h .entry)) .hops)) × (r ≤ 2048) ⌝ }
 {
     rows_in(h, HOPS, HOP_MOST)
 }
 
 // How many lists there are.
 pub fn list_count(h: &Hops) -> usize
-    ensures { λ r. ⌜ r ≡ length (rowsIn (now (h .entry)) .lists) ⌝ }
+    ensures { λ r. ⌜ (r ≡ length (rowsIn (now (h .entry)) .lists)) × (r ≤ 4096) ⌝ }
 {
     rows_in(h, LISTS, LIST_MOST)
 }
@@ -77,6 +77,33 @@ pub fn add_list(h: &mut Hops, t: ListRow)
     let row = [t.step, t.calls];
     put_row(h, LIST_BASE + 2 * n, &row);
     h[LISTS] = (n + 1) as u64;
+}
+
+// Hop i, one of those that there are.
+pub fn hop_at(h: &Hops, i: usize) -> HopRow
+    requires { ⌜ i < length (rowsIn (now h) .hops) ⌝ }
+    ensures { λ r. ⌜ r ≡ hopAt (rowsIn (now (h .entry))) i ⌝ }
+{
+    hop_count(h);
+    let at = HOP_BASE + 5 * i;
+    HopRow {
+        source: h[at],
+        has_end: h[at + 1],
+        end: h[at + 2],
+        first: h[at + 3],
+        lists: h[at + 4],
+    }
+}
+
+// The last hop has a list more.
+pub fn widen_last(h: &mut Hops)
+    requires { ⌜ (0 < length (rowsIn (now h) .hops)) × (hopAt (rowsIn (now h)) (length (rowsIn (now h) .hops) - 1) .lists < 65536) ⌝ }
+    ensures { λ _. ⌜ HopsStored (now (h .entry)) (now (h .exit)) (withWider (rowsIn (now (h .entry)))) ⌝ }
+{
+    whole(h);
+    let n = hop_count(h);
+    let lists = hop_at(h, n - 1).lists;
+    h[HOP_BASE + 5 * (n - 1) + 4] = lists + 1;
 }
 
 // What the type says and a list does not: how many words there are. A caller learns it by the call.

@@ -12,7 +12,7 @@ returns c =
     let a = start .args in
     let n = c .before .before .before .hop-count in
     let put = c .put-row in
-    hop-added (a .h .now) (put .ensures .0) (a .x) (n .result) (n .ensures ∙ hops-number (a .h .now)) (omega (arith, n .ensures, start .pre)) (put .last .0) (put .ensures .1)
+    hop-added (a .h .now) (put .ensures .0) (a .x) (n .result) (n .ensures .0 ∙ hops-number (a .h .now)) (omega (arith, n .ensures .0, start .pre)) (put .last .0) (put .ensures .1)
 
 pub add-hop-spec : {M : Type 1} → statement M
 add-hop-spec =

@@ -12,7 +12,7 @@ returns c =
     let a = start .args in
     let n = c .before .before .before .list-count in
     let put = c .put-row in
-    list-added (a .h .now) (put .ensures .0) (a .t) (n .result) (n .ensures ∙ lists-long (a .h .now)) (omega (arith, n .ensures, start .pre)) (put .last .0) (put .ensures .1)
+    list-added (a .h .now) (put .ensures .0) (a .t) (n .result) (n .ensures .0 ∙ lists-long (a .h .now)) (omega (arith, n .ensures .0, start .pre)) (put .last .0) (put .ensures .1)
 
 pub add-list-spec : {M : Type 1} → statement M
 add-list-spec =
