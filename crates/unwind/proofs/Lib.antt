@@ -56,3 +56,4 @@ pub mod ClonesAre
 pub mod SideLaws
 pub mod HopLaws
 pub mod RowLaws
+pub mod HeldLaws

@@ -4,7 +4,7 @@
 use mathlib.Core.Path.{_≡_}
 use mathlib.Core.Bool.{Bool, false, cond, not, _&&_}
 use mathlib.Core.List.{List, [], _∷_, _++_, map}
-use Prim.Native.Nat.{ℕ, zero, suc, _+_, _≤_}
+use Prim.Native.Nat.{ℕ, zero, suc, _+_, _≤_, _<_}
 use lib.Dec.{eqb}
 use lib.ListN.{length, getD, take, drop}
 use Rattle.image.specs.Image.{RouteImage}
@@ -12,6 +12,8 @@ use Rattle.graph.specs.Section.{Section, records, Beside}
 use Rattle.unwind.specs.declared.tries.store.Branch.{Branch}
 use Rattle.unwind.specs.declared.emit.buffer.HopRow.{HopRow}
 use Rattle.unwind.specs.declared.emit.buffer.ListRow.{ListRow}
+use Rattle.unwind.specs.Lists.{joined}
+use Rattle.unwind.specs.Walk.{_∈_}
 use Rattle.unwind.specs.Nodes.{branchIn, tagsIn}
 use Rattle.unwind.specs.Ways.{HopEnd, block, leave, Hop}
 
@@ -137,3 +139,16 @@ pub record HopsStored (l l′ : List ℕ) (r : Rows) : Type 0 where
 pub record HopsEmptied (l l′ : List ℕ) : Type 0 where
   pub holds : rowsIn l′ ≡ noRows
   pub kept : (k : ℕ) → HopsUnused l′ k → getD l′ k 0 ≡ getD l k 0
+
+-- Stores took l to l′, which holds the hops hs, all out of blocks below b.
+pub record HopsHeld (m : RouteImage) (b : ℕ) (l l′ : List ℕ) (hs : List Hop) : Type 0 where
+  pub holds : hopsIn m l′ ≡ hs
+  pub order : InOrder (rowsIn l′)
+  pub below : (h : Hop) → h ∈ hs → h .source < b
+  pub uses : (k : ℕ) → HopsUnused l′ k → HopsUnused l k
+  pub kept : (k : ℕ) → HopsUnused l′ k → getD l′ k 0 ≡ getD l k 0
+
+-- there is room for hops
+pub record HopsFit (hs : List Hop) : Type 0 where
+  pub hops : length hs ≤ 2048
+  pub lists : length (joined (λ h. h .calls) hs) ≤ 4096

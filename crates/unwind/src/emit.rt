@@ -6,4 +6,5 @@ mod copies;
 pub mod count;
 pub mod entries;
 pub mod gather;
+pub mod standing;
 pub mod total;
