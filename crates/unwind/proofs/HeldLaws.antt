@@ -5,10 +5,15 @@
 --     fit-front, fit-flat          room for all is room for the first
 --     block-own                    the entries gathered of a block that stood
 --     fit-next, held-next          one source more
+--     copy-own                     the entries gathered of a copy
+--     fit-own, held-own            what they are
+--     held-below, held-then        stores behind others
+--     fit-in, held-in, held-out    those of a copy, if the node returns there
 -- Assumes nothing.
 use mathlib.Core.Path.{_≡_, refl, sym, ap, _∙_, subst}
 use mathlib.Core.Logic.{_⊎_, inl, inr}
-use mathlib.Core.List.{List, [], _∷_, _++_, List·Memᴰ·append-cases, List·Memᴰ·eq-of-singleton}
+use mathlib.Core.Bool.{Bool, true, false, cond}
+use mathlib.Core.List.{List, [], _∷_, _++_, append-nil, List·Memᴰ·append-cases, List·Memᴰ·eq-of-singleton}
 use Prim.Native.Nat.{ℕ, zero, suc, _+_, _-_, _≤_, _<_}
 use native.Mathlib.Omega.{arith}
 use lib.ListN.{length, length-append}
@@ -17,17 +22,20 @@ use Rattle.graph.specs.Fold.{flat}
 use Rattle.graph.proofs.FoldLaws.{flat-more}
 use Rattle.unwind.specs.declared.tries.store.Counts.{Counts}
 use Rattle.unwind.specs.Lists.{joined}
-use Rattle.unwind.specs.Nodes.{branchIn}
+use Rattle.unwind.specs.Nodes.{branchIn, recordIn}
 use Rattle.unwind.specs.Ways.{Hop}
 use Rattle.unwind.specs.Sources.{Exit, hopsOn}
 use Rattle.unwind.specs.Entries.{exitIn, exitsIn}
 use Rattle.unwind.specs.Lent.{blockRecords, Holds, blockHops}
+use Rattle.unwind.specs.Gather.{recordExits, Gathers, inSet}
+use Rattle.unwind.specs.Copies.{hopsFrom, hopsIf}
 use Rattle.unwind.specs.Walk.{_∈_}
-use Rattle.unwind.specs.HopWords.{Rows, rowsIn, rowHops, noRows, rowsOn, Consecutive, InOrder, HopsStored, HopsHeld, HopsFit}
+use Rattle.unwind.specs.HopWords.{Rows, rowsIn, hopsIn, rowHops, noRows, rowsOn, Consecutive, InOrder, HopsStored, HopsHeld, HopsFit, HopsBelow}
 use Rattle.unwind.proofs.Lists.{none-in}
 use Rattle.unwind.proofs.TrieKeys.{joined-append}
 use Rattle.unwind.proofs.Sources.{on-apart, on-source}
 use Rattle.unwind.proofs.AllHops.{flat-split}
+use Rattle.unwind.proofs.LentLaws.{held-from}
 use Rattle.unwind.proofs.RowLaws.{on-order, on-lists, on-hops, rows-long, lists-all}
 
 entries-from : (m : RouteImage) (b : ℕ) (l : List ℕ) (n : ℕ) (x : Exit) → x ∈ exitsIn m b l n → x .leap .source ≡ b
@@ -110,3 +118,42 @@ module _ (f : ℕ → List Hop) (b : ℕ) {own : List Hop} (is : own ≡ f b) wh
 
   pub held-next : {m : RouteImage} {d : ℕ} {l l′ : List ℕ} → HopsHeld m d l l′ (flat f b ++ own) → HopsHeld m d l l′ (flat f (b + 1))
   held-next {m} {d} {l} {l′} p = subst (HopsHeld m d l l′) more-is p
+
+pub copy-own : (m : RouteImage) (b : ℕ) (nodes edges ends heads landings : List ℕ) (i : ℕ) {l l′ : List ℕ} {n : ℕ} → Gathers m b l 0 (recordExits m b edges ends heads landings (recordIn nodes i)) l′ n → hopsOn [] (exitsIn m b l′ n) ≡ hopsFrom m nodes edges ends heads landings i b
+unfolding hopsFrom
+copy-own m b nodes edges ends heads landings i {l} {l′} {n} p = ap (hopsOn []) (held-from m b l l′ n (recordExits m b edges ends heads landings (recordIn nodes i)) p .is)
+
+pub fit-own : (hs : List Hop) {own ks : List Hop} → own ≡ ks → HopsFit (hs ++ ks) → HopsFit (hs ++ own)
+fit-own hs e f = subst (λ (t : List Hop). HopsFit (hs ++ t)) (sym e) f
+
+pub held-own : (hs : List Hop) {m : RouteImage} {d : ℕ} {l l′ : List ℕ} {own ks : List Hop} → own ≡ ks → HopsHeld m d l l′ (hs ++ own) → HopsHeld m d l l′ (hs ++ ks)
+held-own hs {m} {d} {l} {l′} e p = subst (λ (t : List Hop). HopsHeld m d l l′ (hs ++ t)) e p
+
+pub held-below : {m : RouteImage} {b : ℕ} {l l′ : List ℕ} {hs : List Hop} → HopsHeld m b l l′ hs → HopsBelow m b l′
+held-below p = record { holds = refl; order = p .order; below = λ x i. p .below x (rw (p .holds) at i); uses = λ k u. u; kept = λ k u. refl }
+
+pub held-then : (m : RouteImage) (l₁ : List ℕ) (hs ks : List Hop) {b d : ℕ} {l l₂ : List ℕ} → HopsHeld m b l l₁ hs → HopsHeld m d l₁ l₂ (hopsIn m l₁ ++ ks) → HopsHeld m d l l₂ (hs ++ ks)
+held-then m l₁ hs ks {d = d} {l₂ = l₂} p q =
+    let r = subst (λ (t : List Hop). HopsHeld m d l₁ l₂ (t ++ ks)) (p .holds) q in
+    record { holds = r .holds; order = r .order; below = r .below; uses = λ k u. p .uses k (r .uses k u); kept = λ k u. r .kept k u ∙ p .kept k (r .uses k u) }
+
+module _ (m : RouteImage) (nodes edges ends heads landings returns : List ℕ) (i o b : ℕ) (hs : List Hop) where
+  abbrev from : List Hop
+  from = hopsFrom m nodes edges ends heads landings i b
+
+  abbrev if-returns : List Hop
+  if-returns = hopsIf m nodes edges ends heads landings returns i o b
+
+  pub fit-in : true ≡ inSet returns i o → HopsFit (hs ++ if-returns) → HopsFit (hs ++ from)
+  unfolding hopsIf
+  fit-in e f = subst (λ (t : Bool). HopsFit (hs ++ cond t from [])) (sym e) f
+
+  pub held-in : {l l′ : List ℕ} → true ≡ inSet returns i o → HopsHeld m (b + 1) l l′ (hs ++ from) → HopsHeld m (b + cond (inSet returns i o) 1 0) l l′ (hs ++ if-returns)
+  unfolding hopsIf
+  held-in {l} {l′} e p = subst (λ (t : Bool). HopsHeld m (b + cond t 1 0) l l′ (hs ++ cond t from [])) e p
+
+  pub held-out : {l l′ : List ℕ} → false ≡ inSet returns i o → HopsHeld m b l l′ hs → HopsHeld m (b + cond (inSet returns i o) 1 0) l l′ (hs ++ if-returns)
+  unfolding hopsIf
+  held-out {l} {l′} e p =
+      subst (λ (t : Bool). HopsHeld m (b + cond t 1 0) l l′ (hs ++ cond t from [])) e
+      (subst (HopsHeld m (b + 0) l l′) (sym (append-nil hs)) (held-up (b + 0) p (omega arith)))

@@ -152,3 +152,7 @@ pub record HopsHeld (m : RouteImage) (b : ℕ) (l l′ : List ℕ) (hs : List Ho
 pub record HopsFit (hs : List Hop) : Type 0 where
   pub hops : length hs ≤ 2048
   pub lists : length (joined (λ h. h .calls) hs) ≤ 4096
+
+-- the hops in l are out of blocks below b
+abbrev pub HopsBelow : RouteImage → ℕ → List ℕ → Type 0
+HopsBelow m b l = HopsHeld m b l l (hopsIn m l)

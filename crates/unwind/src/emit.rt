@@ -2,6 +2,7 @@
 pub mod append;
 mod block;
 pub mod buffer;
+pub mod cloned;
 mod copies;
 pub mod count;
 pub mod entries;
