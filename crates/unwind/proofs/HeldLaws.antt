@@ -8,12 +8,13 @@
 --     copy-own                     the entries gathered of a copy
 --     fit-own, held-own            what they are
 --     held-below, held-then        stores behind others
+--     step-is, fit-step            one source more behind hops that there were
 --     fit-in, held-in, held-out    those of a copy, if the node returns there
 -- Assumes nothing.
 use mathlib.Core.Path.{_≡_, refl, sym, ap, _∙_, subst}
 use mathlib.Core.Logic.{_⊎_, inl, inr}
 use mathlib.Core.Bool.{Bool, true, false, cond}
-use mathlib.Core.List.{List, [], _∷_, _++_, append-nil, List·Memᴰ·append-cases, List·Memᴰ·eq-of-singleton}
+use mathlib.Core.List.{List, [], _∷_, _++_, append-nil, append-assoc, List·Memᴰ·append-cases, List·Memᴰ·eq-of-singleton}
 use Prim.Native.Nat.{ℕ, zero, suc, _+_, _-_, _≤_, _<_}
 use native.Mathlib.Omega.{arith}
 use lib.ListN.{length, length-append}
@@ -157,3 +158,13 @@ module _ (m : RouteImage) (nodes edges ends heads landings returns : List ℕ) (
   held-out {l} {l′} e p =
       subst (λ (t : Bool). HopsHeld m (b + cond t 1 0) l l′ (hs ++ cond t from [])) e
       (subst (HopsHeld m (b + 0) l l′) (sym (append-nil hs)) (held-up (b + 0) p (omega arith)))
+
+pub step-is : (hs : List Hop) (f : ℕ → List Hop) (o : ℕ) → hs ++ flat f o ++ f o ≡ hs ++ flat f (o + 1)
+step-is hs f o = append-assoc hs (flat f o) (f o) ∙ ap (λ (t : List Hop). hs ++ t) (sym (flat-more f o))
+
+pub fit-step : (hs : List Hop) (f : ℕ → List Hop) (o n : ℕ) → o < n → HopsFit (hs ++ flat f n) → HopsFit (hs ++ flat f o ++ f o)
+fit-step hs f o n h fit =
+    let e : o + 1 + (n - (o + 1)) ≡ n = omega arith in
+    let all = sym (ap (flat f) e) ∙ flat-split f (o + 1) (n - (o + 1)) in
+    let rest = flat (λ j. f (o + 1 + j)) (n - (o + 1)) in
+    subst HopsFit (sym (step-is hs f o)) (fit-front (hs ++ flat f (o + 1)) rest (subst HopsFit (ap (λ (t : List Hop). hs ++ t) all ∙ sym (append-assoc hs (flat f (o + 1)) rest)) fit))

@@ -2,7 +2,7 @@
 -- then a section for the hops and one for the lists. Any words hold something: each section is cut at its limit. A list is
 -- a run of consecutive steps of the route image.
 use mathlib.Core.Path.{_≡_}
-use mathlib.Core.Bool.{Bool, false, cond, not, _&&_}
+use mathlib.Core.Bool.{Bool, true, false, cond, not, _&&_}
 use mathlib.Core.List.{List, [], _∷_, _++_, map}
 use Prim.Native.Nat.{ℕ, zero, suc, _+_, _≤_, _<_}
 use lib.Dec.{eqb}
@@ -15,6 +15,7 @@ use Rattle.unwind.specs.declared.emit.buffer.ListRow.{ListRow}
 use Rattle.unwind.specs.Lists.{joined}
 use Rattle.unwind.specs.Walk.{_∈_}
 use Rattle.unwind.specs.Nodes.{branchIn, tagsIn}
+use Rattle.unwind.specs.Gather.{inSet}
 use Rattle.unwind.specs.Ways.{HopEnd, block, leave, Hop}
 
 -- ---- where the rows stand
@@ -156,3 +157,7 @@ pub record HopsFit (hs : List Hop) : Type 0 where
 -- the hops in l are out of blocks below b
 abbrev pub HopsBelow : RouteImage → ℕ → List ℕ → Type 0
 HopsBelow m b l = HopsHeld m b l l (hopsIn m l)
+
+-- node i returns from blocks of its part alone
+pub record ReturnsWithin (parts returns : List ℕ) (i : ℕ) : Type 0 where
+  pub within : (o : ℕ) → inSet returns i o ≡ true → inSet parts i o ≡ true
