@@ -54,3 +54,6 @@ pub mod CloneLaws
 pub mod StoodLaws
 pub mod ClonesAre
 pub mod SideLaws
+pub mod HopLaws
+pub mod RowLaws
+pub mod HeldLaws

@@ -2,6 +2,7 @@
 --     hops-more, hops-then         hopsOn over two lists, and over one exit more
 --     hops-sorted                  the hops of ways are those of their exits, sorted
 --     exits-flat                   sorted exits, source by source
+--     on-apart, on-source          hops that leap from elsewhere, and where hops come from
 --     hops-flat                    hops, source by source
 --     lists-then, lists-number     one exit more adds a list
 --     Last, last-of, then-last     the last hop is the last exit's
@@ -291,7 +292,7 @@ then-apart (h ∷ []) x n = go (isEq (compareLeaps (leapOf h) (x .leap))) refl
     go false e = refl
 then-apart (h ∷ k ∷ hs) x n = ap (λ (t : List Hop). h ∷ t) (then-apart (k ∷ hs) x (λ j m. n j (List·Memᴰ·tail m)))
 
-on-apart : (hs : List Hop) (l : List Exit) → ((h : Hop) (x : Exit) → h ∈ hs → x ∈ l → h .source ≡ x .leap .source → ⊥) → hopsOn hs l ≡ hs ++ hopsOn [] l
+pub on-apart : (hs : List Hop) (l : List Exit) → ((h : Hop) (x : Exit) → h ∈ hs → x ∈ l → h .source ≡ x .leap .source → ⊥) → hopsOn hs l ≡ hs ++ hopsOn [] l
 unfolding hopsOn hopsThen
 on-apart hs [] n = sym (append-nil hs)
 on-apart hs (x ∷ l) n = ap (λ (t : List Hop). hopsOn t l) (then-apart hs x (λ h m. n h x m (List·Memᴰ·head refl))) ∙ on-front hs (firstHop x) [] l
@@ -310,7 +311,7 @@ then-source b (g ∷ []) x n e h m = go (isEq (compareLeaps (leapOf g) (x .leap)
 then-source b (g ∷ k ∷ hs) x n e h (List·Memᴰ·head p) = ap (λ (k : Hop). k .source) p ∙ n g (List·Memᴰ·head refl)
 then-source b (g ∷ k ∷ hs) x n e h (List·Memᴰ·tail m) = then-source b (k ∷ hs) x (λ j i. n j (List·Memᴰ·tail i)) e h m
 
-on-source : (b : ℕ) (hs : List Hop) (l : List Exit) → ((h : Hop) → h ∈ hs → h .source ≡ b) → ((x : Exit) → x ∈ l → x .leap .source ≡ b) → (h : Hop) → h ∈ hopsOn hs l → h .source ≡ b
+pub on-source : (b : ℕ) (hs : List Hop) (l : List Exit) → ((h : Hop) → h ∈ hs → h .source ≡ b) → ((x : Exit) → x ∈ l → x .leap .source ≡ b) → (h : Hop) → h ∈ hopsOn hs l → h .source ≡ b
 unfolding hopsOn
 on-source b hs [] n e h m = n h m
 on-source b hs (x ∷ l) n e h m = on-source b (hopsThen hs x) l (λ k i. then-source b hs x n (e x (List·Memᴰ·head refl)) k i) (λ y i. e y (List·Memᴰ·tail i)) h m

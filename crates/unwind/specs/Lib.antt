@@ -24,6 +24,7 @@ pub mod Gather
 pub mod Lent
 pub mod Sizes
 pub mod Copies
+pub mod HopWords
 pub mod Add
 pub mod Walk
 pub mod Demand

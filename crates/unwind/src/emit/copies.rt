@@ -153,7 +153,7 @@ fn count_copies(
 }
 
 // The number of the next copy, where b is that of block o, if it is one of the part.
-fn next_copy(parts: &[u64], i: usize, o: usize, b: usize) -> usize
+pub fn next_copy(parts: &[u64], i: usize, o: usize, b: usize) -> usize
     requires { ⌜ (i < 65536) × (b < 65536) ⌝ }
     ensures { λ r. ⌜ r ≡ b + cond (inSet (now (parts .entry)) i o) 1 0 ⌝ }
 {

@@ -1,0 +1,57 @@
+// The hops out of the blocks that stood before, stored.
+use crate::emit::append::add_exits;
+use crate::emit::block::gather_block;
+use crate::emit::buffer::Hops;
+use crate::tries::store::Counts;
+use image::section::RouteLayout;
+ghost use mathlib.Core.Path.{_≡_};
+ghost use Prim.Native.Nat.{_≤_};
+ghost use lib.ListN.{length};
+ghost use Rattle.image.specs.Image.{routesIn};
+ghost use Rattle.image.specs.Accepted.{AcceptedRoutes};
+ghost use Rattle.graph.specs.Fold.{flat};
+ghost use Rattle.unwind.specs.Routed.{TriesIn};
+ghost use Rattle.unwind.specs.Lent.{Roomy, blockHops};
+ghost use Rattle.unwind.specs.HopWords.{rowsIn, noRows, HopsHeld, HopsFit};
+
+// Those of the first `blocks` blocks, into words that hold none.
+pub fn add_blocks(
+    h: &mut Hops,
+    s: &[u8],
+    y: RouteLayout,
+    nodes: &[u16],
+    edges: &[u16],
+    ends: &[u16],
+    heads: &[u16],
+    landings: &[u16],
+    roots: &[u16],
+    guards: &[u64],
+    bases: &[u16],
+    returns: &[u64],
+    stored: Counts,
+    blocks: usize,
+    exits: &mut [u16],
+)
+    requires { ⌜ AcceptedRoutes (routesIn (now s) y) × TriesIn (routesIn (now s) y) (now nodes) (now edges) (now ends) (now roots) stored × (blocks ≤ 1024) × Roomy (now edges) (now ends) (now exits) × (rowsIn (now h) ≡ noRows) × HopsFit (flat (blockHops (routesIn (now s) y) (now nodes) (now edges) (now ends) (now heads) (now landings) (now roots) (now guards) (now bases) (now returns) stored) blocks) ⌝ }
+    ensures { λ _. ⌜ HopsHeld (routesIn (now (s .entry)) y) blocks (now (h .entry)) (now (h .exit)) (flat (blockHops (routesIn (now (s .entry)) y) (now (nodes .entry)) (now (edges .entry)) (now (ends .entry)) (now (heads .entry)) (now (landings .entry)) (now (roots .entry)) (now (guards .entry)) (now (bases .entry)) (now (returns .entry)) stored) blocks) × (length (now (exits .exit)) ≡ length (now (exits .entry))) ⌝ }
+{
+    for b in 0..blocks {
+        let n = gather_block(
+            s,
+            y,
+            nodes,
+            edges,
+            ends,
+            heads,
+            landings,
+            roots,
+            guards,
+            bases,
+            returns,
+            stored,
+            b,
+            exits,
+        );
+        add_exits(h, b, exits, n);
+    }
+}
