@@ -40,7 +40,21 @@ pub fn add_copies(
 {
     let mut b = base;
     for o in 0..blocks {
-        add_return(h, s, y, nodes, edges, ends, heads, landings, returns, i, o, b, exits);
+        add_return(
+            h,
+            s,
+            y,
+            nodes,
+            edges,
+            ends,
+            heads,
+            landings,
+            returns,
+            i,
+            o,
+            b,
+            exits,
+        );
         b = next_copy(parts, i, o, b);
     }
 }
