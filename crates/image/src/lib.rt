@@ -4,5 +4,5 @@ pub mod form;
 pub mod little;
 pub mod read;
 pub mod record;
-pub mod scan;
+mod scan;
 pub mod section;
