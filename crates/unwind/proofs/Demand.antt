@@ -37,7 +37,7 @@ use Rattle.unwind.proofs.Intern.{tries-law}
 use Rattle.unwind.proofs.Parts
 use Rattle.unwind.proofs.Milder.{Milder, mild}
 use Rattle.unwind.proofs.Walks.{Turn, Fires, at-root, at-return, Root, Turned, Laws, exactly, ends}
-use Rattle.unwind.proofs.Hops
+use Rattle.unwind.proofs.HopWays
 use Rattle.unwind.proofs.Owners
 use Rattle.unwind.proofs.Accepted.{then-clear, mem-guarded, guarded-mem}
 

@@ -19,8 +19,8 @@ use Rattle.image.specs.Image.{table}
 use Rattle.graph.specs.Section.{Section, place, size, rowAt, records, Beside}
 use Rattle.graph.proofs.FoldLaws.{table-same, getD-table}
 use Rattle.graph.proofs.SectionLaws.{Apart, Away, count-away, records-away, size-most, push, length-records, size-push, records-push, word-sets, word-push, count-push-other, records-push-other}
-use Rattle.unwind.specs.declared.emit.buffer.HopRow.{HopRow}
-use Rattle.unwind.specs.declared.emit.buffer.ListRow.{ListRow}
+use Rattle.unwind.specs.declared.hops.HopRow.{HopRow}
+use Rattle.unwind.specs.declared.hops.ListRow.{ListRow}
 use Rattle.unwind.specs.HopWords.{hopRows, listRows, hopRow, listRow, Rows, rowsIn, hopAt, withHop, withRun, wider, widened, withWider, HopsStored, HopsEmptied}
 
 abbrev pub hopWords : HopRow → List ℕ

@@ -9,7 +9,7 @@ pub mod Instance
 pub mod After
 pub mod Parts
 pub mod Walks
-pub mod Hops
+pub mod HopWays
 pub mod Accepted
 pub mod Milder
 pub mod Owners

@@ -36,7 +36,7 @@ use Rattle.unwind.proofs.After.{new-unwinds}
 use Rattle.unwind.proofs.Parts
 use Rattle.unwind.proofs.Milder.{Milder, reach-entry}
 use Rattle.unwind.proofs.Walks.{ends}
-use Rattle.unwind.proofs.Hops
+use Rattle.unwind.proofs.HopWays
 use Rattle.unwind.proofs.Accepted.{check-at, funclet-begins, handler-begins}
 
 module _ (g : Graph) (rs : List UnwindRoute) (sound : Sound g) (milder : Milder g rs)

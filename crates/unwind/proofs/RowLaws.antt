@@ -20,8 +20,8 @@ use lib.ListN.{length, getD, take, drop, length-append, length-map, length-drop}
 use lib.Seq.{length-take-le, take-all, take-append-le, drop-append-le, drop-append-seam}
 use Rattle.image.specs.Image.{RouteImage, table}
 use Rattle.unwind.specs.declared.tries.store.Branch.{Branch}
-use Rattle.unwind.specs.declared.emit.buffer.HopRow.{HopRow}
-use Rattle.unwind.specs.declared.emit.buffer.ListRow.{ListRow}
+use Rattle.unwind.specs.declared.hops.HopRow.{HopRow}
+use Rattle.unwind.specs.declared.hops.ListRow.{ListRow}
 use Rattle.unwind.specs.Lists.{joined}
 use Rattle.unwind.specs.Order.{_and-then_}
 use Rattle.unwind.specs.Nodes.{branchIn}

@@ -10,8 +10,8 @@ use lib.ListN.{length, getD, take, drop}
 use Rattle.image.specs.Image.{RouteImage}
 use Rattle.graph.specs.Section.{Section, records, Beside}
 use Rattle.unwind.specs.declared.tries.store.Branch.{Branch}
-use Rattle.unwind.specs.declared.emit.buffer.HopRow.{HopRow}
-use Rattle.unwind.specs.declared.emit.buffer.ListRow.{ListRow}
+use Rattle.unwind.specs.declared.hops.HopRow.{HopRow}
+use Rattle.unwind.specs.declared.hops.ListRow.{ListRow}
 use Rattle.unwind.specs.Lists.{joined}
 use Rattle.unwind.specs.Walk.{_∈_}
 use Rattle.unwind.specs.Nodes.{branchIn, tagsIn}
@@ -147,6 +147,11 @@ pub record HopsHeld (m : RouteImage) (b : ℕ) (l l′ : List ℕ) (hs : List Ho
   pub order : InOrder (rowsIn l′)
   pub below : (h : Hop) → h ∈ hs → h .source < b
   pub uses : (k : ℕ) → HopsUnused l′ k → HopsUnused l k
+  pub kept : (k : ℕ) → HopsUnused l′ k → getD l′ k 0 ≡ getD l k 0
+
+-- the words hold these hops, and each word that they do not use is as it was
+pub record HopsLaid (m : RouteImage) (l l′ : List ℕ) (hs : List Hop) : Type 0 where
+  pub holds : hopsIn m l′ ≡ hs
   pub kept : (k : ℕ) → HopsUnused l′ k → getD l′ k 0 ≡ getD l k 0
 
 -- there is room for hops

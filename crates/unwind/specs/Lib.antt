@@ -25,6 +25,8 @@ pub mod Lent
 pub mod Sizes
 pub mod Copies
 pub mod HopWords
+pub mod Wanted
+pub mod Instances
 pub mod Add
 pub mod Walk
 pub mod Demand

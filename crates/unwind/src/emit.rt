@@ -1,7 +1,6 @@
 // The hops of an addition: the ways out of one block after the other, gathered in scratch, counted, and stored.
 pub mod append;
 mod block;
-pub mod buffer;
 pub mod cloned;
 mod copies;
 pub mod count;

@@ -3,6 +3,7 @@ mod blocks;
 mod checks;
 mod clones;
 mod emit;
+pub mod hops;
 mod node_checks;
 mod part;
 mod place;

@@ -1,13 +1,13 @@
 // The ways out of a block, stored behind the hops that there are.
-use crate::emit::buffer::HopRow;
-use crate::emit::buffer::Hops;
-use crate::emit::buffer::ListRow;
-use crate::emit::buffer::add_hop;
-use crate::emit::buffer::add_list;
-use crate::emit::buffer::hop_at;
-use crate::emit::buffer::hop_count;
-use crate::emit::buffer::list_count;
-use crate::emit::buffer::widen_last;
+use crate::hops::HopRow;
+use crate::hops::Hops;
+use crate::hops::ListRow;
+use crate::hops::add_hop;
+use crate::hops::add_list;
+use crate::hops::hop_at;
+use crate::hops::hop_count;
+use crate::hops::list_count;
+use crate::hops::widen_last;
 use crate::emit::entries::LEAVE;
 use crate::tries::store::Branch;
 use crate::tries::store::branch_at;

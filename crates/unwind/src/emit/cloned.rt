@@ -1,7 +1,7 @@
 // The hops out of copies of blocks, stored.
 use crate::emit::append::add_exits;
 use crate::emit::block::in_set;
-use crate::emit::buffer::Hops;
+use crate::hops::Hops;
 use crate::emit::copies::next_copy;
 use crate::emit::gather::gather_node;
 use image::section::RouteLayout;

@@ -1,7 +1,7 @@
 // The hops out of the blocks that stood before, stored.
 use crate::emit::append::add_exits;
 use crate::emit::block::gather_block;
-use crate::emit::buffer::Hops;
+use crate::hops::Hops;
 use crate::tries::store::Counts;
 use image::section::RouteLayout;
 ghost use mathlib.Core.Path.{_≡_};

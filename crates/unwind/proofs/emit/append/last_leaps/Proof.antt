@@ -6,7 +6,7 @@ use native.Mathlib.Omega.{arith}
 use borrow.Author.Needs.{needs}
 use lib.Dec.{eqb}
 use lib.ListN.{length}
-use Rattle.unwind.specs.declared.emit.buffer.HopRow.{HopRow}
+use Rattle.unwind.specs.declared.hops.HopRow.{HopRow}
 use Rattle.unwind.specs.HopWords.{rowsIn, endsAt}
 use Rattle.unwind.proofs.RowLaws.{last-leaps, none-leaps}
 use Rattle.unwind.proofs.emit.append.last_leaps.Statement.{statement}

@@ -2,8 +2,8 @@
 use mathlib.Core.Path.{sym}
 use borrow.Author.Needs.{needs}
 use Rattle.unwind.proofs.HopLaws.{hop-is}
-use Rattle.unwind.proofs.emit.buffer.hop_at.Statement.{statement}
-use Rattle.unwind.proofs.emit.buffer.hop_at.Tie as tie
+use Rattle.unwind.proofs.hops.hop_at.Statement.{statement}
+use Rattle.unwind.proofs.hops.hop_at.Tie as tie
 
 returns : tie.Need-returns
 returns c =

@@ -4,8 +4,8 @@ use native.Mathlib.Omega.{arith}
 use borrow.Author.Needs.{needs}
 use Rattle.graph.specs.Section.{size}
 use Rattle.unwind.proofs.HopLaws.{lists-long}
-use Rattle.unwind.proofs.emit.buffer.list_count.Statement.{statement}
-use Rattle.unwind.proofs.emit.buffer.list_count.Tie as tie
+use Rattle.unwind.proofs.hops.list_count.Statement.{statement}
+use Rattle.unwind.proofs.hops.list_count.Tie as tie
 
 returns : tie.Need-returns
 unfolding size

@@ -7,8 +7,8 @@ use borrow.Author.Needs.{needs}
 use lib.ListN.{length, getD, take, set}
 use lib.Seq.{sets, take-all}
 use Rattle.graph.proofs.SectionLaws.{sets-more}
-use Rattle.unwind.proofs.emit.buffer.put_row.Statement.{statement}
-use Rattle.unwind.proofs.emit.buffer.put_row.Tie as tie
+use Rattle.unwind.proofs.hops.put_row.Statement.{statement}
+use Rattle.unwind.proofs.hops.put_row.Tie as tie
 
 abbrev Inv-loop : tie.InvT-loop
 Inv-loop h₀ at w k₀ k-end h k = (k ≤ length w) × (h ≡ sets h₀ at (take k w))

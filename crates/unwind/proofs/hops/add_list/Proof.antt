@@ -3,8 +3,8 @@ use mathlib.Core.Path.{_∙_}
 use native.Mathlib.Omega.{arith}
 use borrow.Author.Needs.{needs}
 use Rattle.unwind.proofs.HopLaws.{lists-long, list-added}
-use Rattle.unwind.proofs.emit.buffer.add_list.Statement.{statement}
-use Rattle.unwind.proofs.emit.buffer.add_list.Tie as tie
+use Rattle.unwind.proofs.hops.add_list.Statement.{statement}
+use Rattle.unwind.proofs.hops.add_list.Tie as tie
 
 returns : tie.Need-returns
 returns c =

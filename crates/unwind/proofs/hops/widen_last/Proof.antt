@@ -5,11 +5,11 @@ use native.Mathlib.Omega.{arith}
 use borrow.Author.Needs.{needs}
 use lib.ListN.{length}
 use Rattle.graph.specs.Section.{size}
-use Rattle.unwind.specs.declared.emit.buffer.HopRow.{HopRow}
+use Rattle.unwind.specs.declared.hops.HopRow.{HopRow}
 use Rattle.unwind.specs.HopWords.{hopRows, rowsIn, hopAt}
 use Rattle.unwind.proofs.HopLaws.{hops-number, hop-is, last-widened}
-use Rattle.unwind.proofs.emit.buffer.widen_last.Statement.{statement}
-use Rattle.unwind.proofs.emit.buffer.widen_last.Tie as tie
+use Rattle.unwind.proofs.hops.widen_last.Statement.{statement}
+use Rattle.unwind.proofs.hops.widen_last.Tie as tie
 
 abbrev lists : HopRow → ℕ
 lists x = x .lists
