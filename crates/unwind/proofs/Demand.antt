@@ -103,11 +103,11 @@ module _ (g : Graph) (rs : List UnwindRoute) (sound : Sound g) (milder : Milder 
       subst (λ (x : HopEnd). Turn′ b′ n c′ x) r (subst (λ (x : List ℕ). Turn′ b′ n x e) q (subst (λ (x : ℕ). Turn′ x n c e) p t))
 
   turned : (b : ℕ) (c : List ℕ) (e : HopEnd) → Takes g′ rs hs b c e → Turned′ b c e
-  turned b c e t = go (Hops.hop-way g′ rs (ways g rs) b c e t)
+  turned b c e t = go (HopWays.hop-way g′ rs (ways g rs) b c e t)
     where
-      by-route : (x : Hops.Made (ways g rs) b c e) → Hops.OfRoute g g′ rs hs rs (x .way) → Turned′ b c e
+      by-route : (x : HopWays.Made (ways g rs) b c e) → HopWays.OfRoute g g′ rs hs rs (x .way) → Turned′ b c e
       by-route x o =
-          let k = Hops.way-turn g g′ rs hs (o .number) (o .block) (o .state) (x .way) (o .among) in
+          let k = HopWays.way-turn g g′ rs hs (o .number) (o .block) (o .state) (x .way) (o .among) in
           let same : o .block ≡ b = sym (k .0) ∙ x .from in
           let up = guarded-up (o .route) (o .block) (o .listed) (o .inside) in
           record {
@@ -118,10 +118,10 @@ module _ (g : Graph) (rs : List UnwindRoute) (sound : Sound g) (milder : Milder 
             turn = same-turn same (x .calls) (x .to) (k .1);
           }
 
-      by-node : (x : Hops.Made (ways g rs) b c e) → Hops.OfNode g g′ rs hs (x .way) → Turned′ b c e
+      by-node : (x : HopWays.Made (ways g rs) b c e) → HopWays.OfNode g g′ rs hs (x .way) → Turned′ b c e
       by-node x o =
           let n = lt-at z (o .node) (o .inside) in
-          let k = Hops.way-turn g g′ rs hs (nodeAt z (o .node) .route) (o .block) (nodeAt z (o .node)) (x .way) (o .among) in
+          let k = HopWays.way-turn g g′ rs hs (nodeAt z (o .node) .route) (o .block) (nodeAt z (o .node)) (x .way) (o .among) in
           let same : o .block ≡ b = sym (k .0) ∙ x .from in
           record {
             node = o .node;
@@ -131,27 +131,27 @@ module _ (g : Graph) (rs : List UnwindRoute) (sound : Sound g) (milder : Milder 
             turn = subst (λ (v : Node). Turn′ b v c e) (Owners.node-at g rs sound milder ok (o .node) (n .0) (n .1)) (same-turn same (x .calls) (x .to) (k .1));
           }
 
-      either : (x : Hops.Made (ways g rs) b c e) → (x .way ∈ routeWays g rs 0 rs (tries rs .roots)) ⊎ (x .way ∈ flat (nodeWays g rs) (length z)) → Turned′ b c e
-      either x (inl m) = by-route x (Hops.route-way g g′ rs hs 0 (tries-law rs .roots) (x .way) m)
-      either x (inr m) = by-node x (Hops.node-way g g′ rs hs (x .way) m)
+      either : (x : HopWays.Made (ways g rs) b c e) → (x .way ∈ routeWays g rs 0 rs (tries rs .roots)) ⊎ (x .way ∈ flat (nodeWays g rs) (length z)) → Turned′ b c e
+      either x (inl m) = by-route x (HopWays.route-way g g′ rs hs 0 (tries-law rs .roots) (x .way) m)
+      either x (inr m) = by-node x (HopWays.node-way g g′ rs hs (x .way) m)
 
-      go : Hops.Made (ways g rs) b c e → Turned′ b c e
-      go x = either x (Hops.ways-split g g′ rs hs (x .way) (x .among))
+      go : HopWays.Made (ways g rs) b c e → Turned′ b c e
+      go x = either x (HopWays.ways-split g g′ rs hs (x .way) (x .among))
 
   root : (u : UnwindRoute) (b : ℕ) → u ∈ rs → Covers g′ u b → Guarded g′ rs b → Root g′ rs hs z entry returns (blockOf g) u b
   root u b listed covers x =
-      let r = Hops.way-route g g′ rs hs 0 (tries-law rs .roots) u listed in
+      let r = HopWays.way-route g g′ rs hs 0 (tries-law rs .roots) u listed in
       record {
         node = r .node;
         state = r .state;
         here = r .here;
         says = r .says;
         takes = λ c e t.
-            let m = Hops.turn-way g g′ rs hs (r .number) b (r .state) c e t in
-            Hops.way-hop g′ rs (ways g rs) b c e
+            let m = HopWays.turn-way g g′ rs hs (r .number) b (r .state) c e t in
+            HopWays.way-hop g′ rs (ways g rs) b c e
             (record {
               way = m .way;
-              among = Hops.route-in g g′ rs hs (m .way) (r .all b (in-guarded u b covers x) (m .way) (m .among));
+              among = HopWays.route-in g g′ rs hs (m .way) (r .all b (in-guarded u b covers x) (m .way) (m .among));
               from = m .from;
               calls = m .calls;
               to = m .to;
@@ -160,11 +160,11 @@ module _ (g : Graph) (rs : List UnwindRoute) (sound : Sound g) (milder : Milder 
 
   return : (i : ℕ) (n : Node) (b : ℕ) → at z i ≡ some n → b ∈ returns i → (c : List ℕ) (e : HopEnd) → Turn′ b n c e → Takes g′ rs hs b c e
   return i n b en k c e t =
-      let m = Hops.turn-way g g′ rs hs (n .route) b n c e t in
-      Hops.way-hop g′ rs (ways g rs) b c e
+      let m = HopWays.turn-way g g′ rs hs (n .route) b n c e t in
+      HopWays.way-hop g′ rs (ways g rs) b c e
       (record {
         way = m .way;
-        among = Hops.node-in g g′ rs hs (m .way) (Hops.way-node g g′ rs hs i b n en k (m .way) (m .among));
+        among = HopWays.node-in g g′ rs hs (m .way) (HopWays.way-node g g′ rs hs i b n en k (m .way) (m .among));
         from = m .from;
         calls = m .calls;
         to = m .to;

@@ -1,4 +1,5 @@
 // The ways out of a block, stored behind the hops that there are.
+use crate::emit::entries::LEAVE;
 use crate::hops::HopRow;
 use crate::hops::Hops;
 use crate::hops::ListRow;
@@ -8,7 +9,6 @@ use crate::hops::hop_at;
 use crate::hops::hop_count;
 use crate::hops::list_count;
 use crate::hops::widen_last;
-use crate::emit::entries::LEAVE;
 use crate::tries::store::Branch;
 use crate::tries::store::branch_at;
 ghost use mathlib.Core.Path.{_≡_};

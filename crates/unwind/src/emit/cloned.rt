@@ -1,9 +1,9 @@
 // The hops out of copies of blocks, stored.
 use crate::emit::append::add_exits;
 use crate::emit::block::in_set;
-use crate::hops::Hops;
 use crate::emit::copies::next_copy;
 use crate::emit::gather::gather_node;
+use crate::hops::Hops;
 use image::section::RouteLayout;
 ghost use mathlib.Core.Path.{_≡_};
 ghost use mathlib.Core.Bool.{cond};
