@@ -58,3 +58,4 @@ pub mod HopLaws
 pub mod RowLaws
 pub mod HeldLaws
 pub mod LentInstances
+pub mod SizeChecks
