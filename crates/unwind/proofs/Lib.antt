@@ -59,3 +59,4 @@ pub mod RowLaws
 pub mod HeldLaws
 pub mod LentInstances
 pub mod SizeChecks
+pub mod Finished
