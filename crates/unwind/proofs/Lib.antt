@@ -60,3 +60,4 @@ pub mod HeldLaws
 pub mod LentInstances
 pub mod SizeChecks
 pub mod Finished
+pub mod Outcomes
