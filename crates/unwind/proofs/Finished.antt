@@ -1,5 +1,4 @@
 -- The words behind the stores of an addition: copies of edges, copies of blocks, then route edges.
---     edges-held                   a graph with room, and edges more
 --     copies-held, copies-graph    behind the copies nothing is cut
 --     finished                     behind the route edges the graph of the addition is laid
 -- Assumes nothing.

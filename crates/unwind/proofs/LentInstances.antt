@@ -1,6 +1,6 @@
 -- What is lent where hops are counted and stored, from the instances at hand.
 --     block-most, entry-most       the block of an address, and the entry of a funclet
---     entry-few                    the entry of a node
+--     entry-few, base-few          the entry of a node, and its first copy
 --     leads-in, sides-in, parts-in, few-in     where nodes and ends lead, the sides, the parts, and the first copies
 --     place-in                     where a node has a block
 --     ways-in                      the ways of the addition, as routes want them
