@@ -57,3 +57,4 @@ pub mod SideLaws
 pub mod HopLaws
 pub mod RowLaws
 pub mod HeldLaws
+pub mod AllNodesLaws
