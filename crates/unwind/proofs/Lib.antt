@@ -61,3 +61,4 @@ pub mod LentInstances
 pub mod SizeChecks
 pub mod Finished
 pub mod Outcomes
+pub mod AllNodesLaws

@@ -25,6 +25,7 @@ pub mod Lent
 pub mod Sizes
 pub mod Copies
 pub mod HopWords
+pub mod AllNodes
 pub mod Wanted
 pub mod Instances
 pub mod Add
