@@ -37,7 +37,7 @@ pub mod TrieStore
 pub mod NodeChecks
 pub mod Rising
 pub mod Sources
-pub mod Wants
+pub mod EdgeNumber
 pub mod Leaving
 pub mod EntryLaws
 pub mod GatherLaws
@@ -57,3 +57,5 @@ pub mod SideLaws
 pub mod HopLaws
 pub mod RowLaws
 pub mod HeldLaws
+pub mod FindLaws
+pub mod WantLaws

@@ -26,6 +26,7 @@ pub mod Sizes
 pub mod Copies
 pub mod HopWords
 pub mod Wanted
+pub mod Flags
 pub mod Instances
 pub mod Add
 pub mod Walk
