@@ -37,7 +37,7 @@ pub mod TrieStore
 pub mod NodeChecks
 pub mod Rising
 pub mod Sources
-pub mod Wants
+pub mod EdgeNumber
 pub mod Leaving
 pub mod EntryLaws
 pub mod GatherLaws
@@ -62,3 +62,5 @@ pub mod SizeChecks
 pub mod Finished
 pub mod Outcomes
 pub mod AllNodesLaws
+pub mod FindLaws
+pub mod WantLaws

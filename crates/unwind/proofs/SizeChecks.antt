@@ -36,7 +36,7 @@ use Rattle.unwind.specs.Sizes.{HopsSize}
 use Rattle.unwind.specs.Copies.{Bounded}
 use Rattle.unwind.specs.HopWords.{HopsFit}
 use Rattle.unwind.specs.Add.{extended, addition, sizeCheck}
-use Rattle.unwind.proofs.Wants.{edges-number}
+use Rattle.unwind.proofs.EdgeNumber.{edges-number}
 
 -- ---- route edges
 

@@ -27,6 +27,7 @@ pub mod Copies
 pub mod HopWords
 pub mod AllNodes
 pub mod Wanted
+pub mod Flags
 pub mod Instances
 pub mod Add
 pub mod Walk

@@ -10,3 +10,4 @@ mod place;
 mod sides;
 mod slots;
 mod tries;
+mod wants;

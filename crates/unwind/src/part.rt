@@ -35,7 +35,7 @@ ghost use Rattle.unwind.specs.PartSearch.{Barriers, Sources, Returns, Pa
 // 'without an ExceptionUnwind or Call edge'
 const CALL: u64 = 5;
 
-const EXCEPTION_UNWIND: u64 = 7;
+pub const EXCEPTION_UNWIND: u64 = 7;
 
 // Flows that may end a returning block.
 const RETURN: u64 = 1;
