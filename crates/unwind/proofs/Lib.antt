@@ -64,3 +64,4 @@ pub mod Outcomes
 pub mod AllNodesLaws
 pub mod FindLaws
 pub mod WantLaws
+pub mod StoreLaws

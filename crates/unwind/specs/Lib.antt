@@ -32,3 +32,5 @@ pub mod Instances
 pub mod Add
 pub mod Walk
 pub mod Demand
+pub mod Answers
+pub mod Frames

@@ -1,4 +1,5 @@
 // The unwinding: what an addition of routes gives (specs), and why its hops spell the listed paths (proofs).
+pub mod add;
 mod blocks;
 mod checks;
 mod clones;
