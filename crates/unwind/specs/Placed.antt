@@ -10,7 +10,6 @@ use Rattle.image.specs.Refusal.{Check, clear, refusal, unless}
 use Rattle.image.specs.Image.{RouteImage, table}
 use Rattle.image.specs.Deal.{routesOf}
 use Rattle.graph.specs.Graph.{Graph}
-use Rattle.graph.specs.Fold.{some}
 use Rattle.graph.specs.Search.{Linked, Roomy}
 use Rattle.graph.specs.WellFormed.{Built}
 use Rattle.unwind.specs.Lists.{keep}
@@ -71,10 +70,10 @@ pub record Ready (g : Graph) (m : RouteImage) (n : ℕ) (head next barriers sour
   pub bars : Barriers g (routesOf m) barriers
   pub goes : Sources g sources
 
--- r is the first node with the funclet of node i
-pub record FirstLike (m : RouteImage) (nodes : List ℕ) (i r : ℕ) : Type 0 where
+-- r is the first node with the funclet of node i, of those before it whose stored entry is e; i if there is none
+pub record FirstWith (m : RouteImage) (nodes entries : List ℕ) (e i r : ℕ) : Type 0 where
   pub most : r ≤ i
-  pub none-before : some (like m nodes i) r ≡ false
+  pub none-before : (j : ℕ) → j < r → getD entries j 0 ≡ e → like m nodes i j ≡ false
   pub same : r < i → like m nodes i r ≡ true
 
 -- node i is stored so

@@ -12,37 +12,31 @@ use Rattle.unwind.proofs.Sets.{returns-has}
 use Rattle.unwind.proofs.place.place_first.Statement.{statement}
 use Rattle.unwind.proofs.place.place_first.Tie as tie
 
-entry-of-requires : tie.Need-entry-of-requires
-entry-of-requires c κs = let ready = c .before .before .before .before .before .before .before .before .before .pre .0 in (ready .stands, ready .built)
-
 -- the funclet of node i, by its record
 funclet : (c : tie.After-node-at) → c .node-at .result .funclet ≡ recordIn (c .before .before .before .before .before .before .before .before .before .args .nodes .now) (c .before .before .before .before .before .before .before .before .before .args .i) .funclet
 funclet c = ap (λ (x : NodeRecord). x .funclet) (c .node-at .ensures .is)
 
 part-at-requires : tie.Need-part-at-requires
 part-at-requires c κs =
-    let a = c .before .before .before .before .before .before .before .before .before .before .args in
-    let ready = c .before .before .before .before .before .before .before .before .before .before .pre .0 in
+    let a = c .before .before .before .before .before .before .before .before .before .args in
+    let pre = c .before .before .before .before .before .before .before .before .before .pre in
+    let ready = pre .0 .1 in
     let g = heldIn (a .g .now) .graph in
     let m = routesIn (a .s .now) (a .y) in
-    let leads = rw (sym (funclet (c .before))) at (c .before .before .before .before .before .before .before .before .before .before .pre .1) in (
-      ready .stands,
-      ready .roomy,
-      ready .linked,
-      λ ne. (rw (c .entry-of .ensures) (entry-lt g m _ ne leads), rw (c .entry-of .ensures) (entry-built g m _ ne leads)),
-    )
+    let leads = rw (sym (funclet c)) at (pre .1) in
+    let is = rw (sym (funclet c)) at (pre .3) in
+    (ready .stands, ready .roomy, ready .linked, λ ne. (rw is (entry-lt g m _ ne leads), rw is (entry-built g m _ ne leads)))
 
 returns-of-requires : tie.Need-returns-of-requires
-returns-of-requires c κs = let ready = c .before .before .before .before .before .before .before .before .before .before .before .before .pre .0 in (ready .stands, ready .goes)
+returns-of-requires c κs = let ready = c .before .before .before .before .before .before .before .before .before .before .before .pre .0 .1 in (ready .stands, ready .goes)
 
 store-node-requires : tie.Need-store-node-requires
 store-node-requires c κs =
-    let a = c .before .before .before .before .before .before .before .before .before .before .before .before .before .before .before .before .before .before .before .args in
-    let pre = c .before .before .before .before .before .before .before .before .before .before .before .before .before .before .before .before .before .before .before .pre in
+    let a = c .before .before .before .before .before .before .before .before .before .before .before .before .before .before .before .before .before .before .args in
+    let pre = c .before .before .before .before .before .before .before .before .before .before .before .before .before .before .before .before .before .before .pre in
     let s = pre .2 in
-    let leads = rw (sym (funclet (c .before .before .before .before .before .before .before .before .before .before))) at (pre .1) in
-    let most = entry-most (heldIn (a .g .now) .graph) (routesIn (a .s .now) (a .y)) _ (block-most (a .g .now)) leads in
-    (omega (arith, s .bases-fit), omega (arith, s .entries-fit), omega (arith, s .parts-fit), omega (arith, s .returns-fit), omega arith, omega (arith, most, c .before .before .before .before .before .before .before .before .before .entry-of .ensures))
+    let most = entry-most (heldIn (a .g .now) .graph) (routesIn (a .s .now) (a .y)) _ (block-most (a .g .now)) (pre .1) in
+    (omega (arith, s .bases-fit), omega (arith, s .entries-fit), omega (arith, s .parts-fit), omega (arith, s .returns-fit), omega arith, omega (arith, most, pre .3))
 
 same-length : tie.Need-same-length
 same-length c = sizes-kept (c .before .before .before .before .before .before .before .before .store-node .ensures) .bases-long
@@ -58,20 +52,21 @@ same-length-4 c = sizes-kept (c .before .before .before .before .before .before 
 
 returns : tie.Need-returns
 returns c =
-    let a = c .before .before .before .before .before .before .before .before .before .before .before .before .before .before .before .before .before .before .before .before .before .before .before .before .before .before .before .before .args in
-    let pre = c .before .before .before .before .before .before .before .before .before .before .before .before .before .before .before .before .before .before .before .before .before .before .before .before .before .before .before .before .pre in
+    let a = c .before .before .before .before .before .before .before .before .before .before .before .before .before .before .before .before .before .before .before .before .before .before .before .before .before .before .before .args in
+    let pre = c .before .before .before .before .before .before .before .before .before .before .before .before .before .before .before .before .before .before .before .before .before .before .before .before .before .before .before .pre in
     let g = heldIn (a .g .now) .graph in
     let m = routesIn (a .s .now) (a .y) in
-    let f = funclet (c .before .before .before .before .before .before .before .before .before .before .before .before .before .before .before .before .before .before .before) in
+    let f = funclet (c .before .before .before .before .before .before .before .before .before .before .before .before .before .before .before .before .before .before) in
     let part = c .before .before .before .before .before .before .before .before .before .before .before .before .before .before .before .before .before .part-at .ensures in
     let leads = rw (sym f) at (pre .1) in
-    let has = rw f at (part-is g m _ _ _ _ leads (pre .0 .bars) (c .before .before .before .before .before .before .before .before .before .before .before .before .before .before .before .before .before .before .entry-of .ensures) (part .0) (part .1)) in
+    let is = rw (sym f) at (pre .3) in
+    let has = rw f at (part-is g m _ _ _ _ leads (pre .0 .1 .bars) is (part .0) (part .1)) in
     record {
       part = c .before .before .before .before .before .before .before .before .before .before .before .before .before .before .before .before .before .part-at .result;
       ret = c .before .before .before .before .before .before .before .before .before .before .before .before .before .before .before .returns-of .result;
       part-has = has;
       returns-has = returns-has g _ _ _ has (c .before .before .before .before .before .before .before .before .before .before .before .before .before .before .before .returns-of .ensures);
-      placed = rw (c .before .before .before .before .before .before .before .before .before .before .before .before .before .before .before .before .before .before .entry-of .ensures, f) at (c .before .before .before .before .before .before .before .before .store-node .ensures);
+      placed = rw (pre .3) at (c .before .before .before .before .before .before .before .before .store-node .ensures);
     }
 
 pub place-first-spec : {M : Type 1} → statement M
@@ -79,7 +74,6 @@ place-first-spec =
     tie.close
     (tie.spec
     (λ c κs. search needs)
-    entry-of-requires
     part-at-requires
     returns-of-requires
     store-node-requires

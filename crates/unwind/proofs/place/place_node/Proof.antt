@@ -1,16 +1,33 @@
 -- `place_node` meets its contract: a later node of a funclet, or the first. Assumes nothing.
-use mathlib.Core.Path.{_≡_}
+use mathlib.Core.Path.{_≡_, ap, _∙_}
 use native.Mathlib.Omega.{arith}
 use borrow.Author.Needs.{needs}
 use Rattle.image.specs.Image.{routesIn}
 use Rattle.graph.specs.Words.{heldIn}
 use Rattle.graph.proofs.RecordLaws.{block-most}
+use Rattle.unwind.specs.declared.tries.store.NodeRecord.{NodeRecord}
+use Rattle.unwind.specs.Nodes.{funcletIn}
+use Rattle.unwind.specs.Instance.{entryBlock}
+use Rattle.unwind.specs.Placed.{funcletAt}
 use Rattle.unwind.proofs.PlaceLaws.{sizes-kept, first-next, clone-next}
+use Rattle.unwind.proofs.LikeLaws.{none-like}
 use Rattle.unwind.proofs.place.place_node.Statement.{statement}
 use Rattle.unwind.proofs.place.place_node.Tie as tie
 
+entry-of-requires : tie.Need-entry-of-requires
+entry-of-requires c κs = let ready = c .before .before .before .before .before .before .before .before .before .pre .0 in (ready .stands, ready .built)
+
+-- the entry of node i
+entry : (c : tie.After-entry-of) → c .entry-of .result ≡ entryBlock (heldIn (c .before .before .before .before .before .before .before .before .before .before .args .g .now) .graph) (funcletAt (routesIn (c .before .before .before .before .before .before .before .before .before .before .args .s .now) (c .before .before .before .before .before .before .before .before .before .before .args .y)) (c .before .before .before .before .before .before .before .before .before .before .args .nodes .now) (c .before .before .before .before .before .before .before .before .before .before .args .i))
+entry c =
+    let a = c .before .before .before .before .before .before .before .before .before .before .args in
+    c .entry-of .ensures ∙ ap (λ (x : NodeRecord). entryBlock (heldIn (a .g .now) .graph) (funcletIn (routesIn (a .s .now) (a .y)) (x .funclet))) (c .before .node-at .ensures .is)
+
+first-like-requires : tie.Need-first-like-requires
+first-like-requires c κs = omega (arith, c .before .before .before .before .before .before .before .before .before .before .before .pre .2 .entries-fit)
+
 place-clone-requires : tie.Need-place-clone-requires
-place-clone-requires c κs = let pre = c .before .before .before .before .before .before .before .before .before .before .before .before .before .before .pre in (c .before .before .before .before .if1 .taken, pre .2, pre .3)
+place-clone-requires c κs = let pre = c .before .before .before .before .before .before .before .before .before .before .before .before .before .before .before .before .before .pre in (c .before .before .before .before .if1 .taken, pre .2, pre .3)
 
 same-length : tie.Need-same-length
 same-length c = sizes-kept (c .before .before .before .before .before .before .before .before .place-clone .ensures .0) .bases-long
@@ -26,13 +43,18 @@ same-length-4 c = sizes-kept (c .before .before .before .before .before .before 
 
 returns : tie.Need-returns
 returns c =
-    let a = c .before .before .before .before .before .before .before .before .before .before .before .before .before .before .before .before .before .before .before .before .before .before .before .args in
-    let pre = c .before .before .before .before .before .before .before .before .before .before .before .before .before .before .before .before .before .before .before .before .before .before .before .pre in
+    let a = c .before .before .before .before .before .before .before .before .before .before .before .before .before .before .before .before .before .before .before .before .before .before .before .before .before .before .args in
+    let pre = c .before .before .before .before .before .before .before .before .before .before .before .before .before .before .before .before .before .before .before .before .before .before .before .before .before .before .pre in
+    let g = heldIn (a .g .now) .graph in
+    let m = routesIn (a .s .now) (a .y) in
+    let first = c .before .before .before .before .before .before .before .before .before .before .before .before .before .before .first-like .ensures in
+    let lt = c .before .before .before .before .before .before .before .before .before .before .before .before .before .if1 .taken in
+    let none = none-like g m (a .nodes .now) _ (a .i) _ (a .bases .now) (a .entries .now) (a .parts .now) (a .returns .now) (entry (c .before .before .before .before .before .before .before .before .before .before .before .before .before .before .before .before)) first in
     let stored = c .before .before .before .before .before .before .before .before .place-clone .ensures in
-    clone-next (heldIn (a .g .now) .graph) (routesIn (a .s .now) (a .y)) (a .nodes .now) (a .i) _ _ _ _ _ _ _ _ (pre .2) (block-most (a .g .now)) (pre .1) (a .base) _ (c .before .before .before .before .before .before .before .before .before .before .before .before .before .before .first-like .ensures) (c .before .before .before .before .before .before .before .before .before .before .before .before .before .if1 .taken) _ (stored .1) (stored .0)
+    clone-next g m (a .nodes .now) (a .i) _ _ _ _ _ _ _ _ (pre .2) (block-most (a .g .now)) (pre .1) (a .base) _ none lt (first .same lt) _ (stored .1) (stored .0)
 
 place-first-requires : tie.Need-place-first-requires
-place-first-requires c κs = let pre = c .before .before .before .before .before .before .before .before .before .before .before .before .before .before .pre in (pre .0, pre .1, pre .2)
+place-first-requires c κs = let pre = c .before .before .before .before .before .before .before .before .before .before .before .before .before .before .before .before .before .pre in ((c .before .before .before .before .before .before .before .before .before .before .before .before .before .before .before .before .before .args .built, pre .0), pre .1, pre .2, entry (c .before .before .before .before .before .before .before))
 
 same-length-5 : tie.Need-same-length-5
 same-length-5 c = sizes-kept (c .before .before .before .before .before .before .before .before .place-first .ensures .placed) .bases-long
@@ -48,17 +70,22 @@ same-length-8 c = sizes-kept (c .before .before .before .before .before .before 
 
 returns-2 : tie.Need-returns-2
 returns-2 c =
-    let a = c .before .before .before .before .before .before .before .before .before .before .before .before .before .before .before .before .before .before .before .before .before .before .before .args in
-    let pre = c .before .before .before .before .before .before .before .before .before .before .before .before .before .before .before .before .before .before .before .before .before .before .before .pre in
+    let a = c .before .before .before .before .before .before .before .before .before .before .before .before .before .before .before .before .before .before .before .before .before .before .before .before .before .before .args in
+    let pre = c .before .before .before .before .before .before .before .before .before .before .before .before .before .before .before .before .before .before .before .before .before .before .before .before .before .before .pre in
+    let g = heldIn (a .g .now) .graph in
+    let m = routesIn (a .s .now) (a .y) in
     let first = c .before .before .before .before .before .before .before .before .before .before .before .before .before .before .first-like .ensures in
     let itself : c .before .before .before .before .before .before .before .before .before .before .before .before .before .before .first-like .result ≡ a .i = omega (arith, first .most, c .before .before .before .before .before .before .before .before .before .before .before .before .before .if1 .left) in
-    first-next (heldIn (a .g .now) .graph) (routesIn (a .s .now) (a .y)) (a .nodes .now) (a .i) _ _ _ _ _ _ _ _ (pre .2) (a .base) (rw itself at first) (c .before .before .before .before .before .before .before .before .place-first .ensures)
+    let none = none-like g m (a .nodes .now) _ (a .i) _ (a .bases .now) (a .entries .now) (a .parts .now) (a .returns .now) (entry (c .before .before .before .before .before .before .before .before .before .before .before .before .before .before .before .before)) first in
+    first-next g m (a .nodes .now) (a .i) _ _ _ _ _ _ _ _ (pre .2) (a .base) (rw itself at none) (c .before .before .before .before .before .before .before .before .place-first .ensures)
 
 pub place-node-spec : {M : Type 1} → statement M
 place-node-spec =
     tie.close
     (tie.spec
     (λ c κs. search needs)
+    entry-of-requires
+    first-like-requires
     place-clone-requires
     same-length
     same-length-2
