@@ -6,7 +6,7 @@
 --     sizes-none, sizes-then, sizes-kept, slots-same, slots-less     room
 --     same-eq                      the same funclet
 --     entry-alike                  the first node of a funclet has the entry of all
---     NoneLike, first-next, clone-next     the first node of a funclet, and a later one
+--     FirstPlaced, NoneLike, first-next, clone-next     the first node of a funclet, and a later one
 --     PlacedTo, placed-none, placed-next, placed-end, placed-over     the nodes before one, all nodes, and too many blocks
 -- Assumes nothing.
 use mathlib.Core.Path.{_≡_, refl, sym, ap, ap₂, _∙_, subst}
@@ -41,7 +41,7 @@ use Rattle.unwind.specs.Nodes.{stepIn, funcletIn, nodeIn, nodesIn}
 use Rattle.unwind.specs.Instance.{entryBlock, partOf, blocksOf, later, copied, base, entryOf, cloneBlocks}
 use Rattle.unwind.specs.Add.{funcletCheck}
 use Rattle.unwind.specs.Walk.{_∈_}
-use Rattle.unwind.specs.Placed.{setAt, Slots, SameSizes, Placed, funcletAt, like, NodePlaced, FirstPlaced, Placing, PlacedAll}
+use Rattle.unwind.specs.Placed.{setAt, Slots, SameSizes, Placed, funcletAt, like, NodePlaced, Placing, PlacedAll}
 use Rattle.unwind.proofs.Lists.{or-left, mem-keep, mem-upto, mem-among, flat-suc, flat-le}
 use Rattle.unwind.proofs.Accepted.{lead-begins}
 use Rattle.unwind.proofs.Instance.{place-first, place-later, copied-later}
@@ -264,6 +264,14 @@ module _ (g : Graph) (m : RouteImage) (nodes edges ends : List ℕ) (n : ℕ) wh
   base-grows i j h = let more = flat-le (copied g fs′ z) i j h in omega arith
 
 -- ---- the first node of a funclet, and a later one
+
+-- node i is the first of its funclet, and is stored so
+pub record FirstPlaced (g : Graph) (m : RouteImage) (nodes : List ℕ) (i : ℕ) (bases entries parts returns bases′ entries′ parts′ returns′ : List ℕ) : Type 0 where
+  pub part : List ℕ
+  pub ret : List ℕ
+  pub part-has : Has part (partOf g (funclets (routesOf m)) (funcletAt m nodes i))
+  pub returns-has : Has ret (keep (returning g) (partOf g (funclets (routesOf m)) (funcletAt m nodes i)))
+  pub placed : NodePlaced i 0 (entryBlock g (funcletAt m nodes i)) part ret bases entries parts returns bases′ entries′ parts′ returns′
 
 -- where the nodes before i are placed, none before r has the funclet of node i
 pub record NoneLike (g : Graph) (m : RouteImage) (nodes : List ℕ) (i r : ℕ) (bases entries parts returns : List ℕ) : Type 0 where

@@ -18,7 +18,7 @@ use Rattle.unwind.specs.Part.{funclets, returning}
 use Rattle.unwind.specs.PartSearch.{Barriers, Sources}
 use Rattle.unwind.specs.Trie.{Node, sameFunclet}
 use Rattle.unwind.specs.Nodes.{recordIn, funcletIn, nodesIn}
-use Rattle.unwind.specs.Instance.{entryBlock, partOf, blocksOf, later, base, entryOf, cloneBlocks}
+use Rattle.unwind.specs.Instance.{blocksOf, later, base, entryOf, cloneBlocks}
 
 -- set i of a slice, sixteen words each
 unfoldable pub setAt : List ℕ → ℕ → List ℕ
@@ -82,14 +82,6 @@ pub record NodePlaced (i b e : ℕ) (w r bases entries parts returns bases′ en
   pub entries-set : entries′ ≡ set entries i e
   pub part-put : SetPut parts i w parts′
   pub returns-put : SetPut returns i r returns′
-
--- node i is the first of its funclet, and is stored so
-pub record FirstPlaced (g : Graph) (m : RouteImage) (nodes : List ℕ) (i : ℕ) (bases entries parts returns bases′ entries′ parts′ returns′ : List ℕ) : Type 0 where
-  pub part : List ℕ
-  pub ret : List ℕ
-  pub part-has : Has part (partOf g (funclets (routesOf m)) (funcletAt m nodes i))
-  pub returns-has : Has ret (keep (returning g) (partOf g (funclets (routesOf m)) (funcletAt m nodes i)))
-  pub placed : NodePlaced i 0 (entryBlock g (funcletAt m nodes i)) part ret bases entries parts returns bases′ entries′ parts′ returns′
 
 -- one more instance, which copies r blocks, the first as block b
 pub record Placing (g : Graph) (m : RouteImage) (nodes : List ℕ) (i b r : ℕ) (bases entries parts returns bases′ entries′ parts′ returns′ : List ℕ) : Type 0 where
