@@ -46,6 +46,7 @@ pub mod LentLaws
 pub mod SizeLaws
 pub mod SlotLaws
 pub mod PlaceLaws
+pub mod LikeLaws
 pub mod CopyLaws
 pub mod AllHops
 pub mod CopiesAre
