@@ -27,6 +27,7 @@ pub mod TrieKeys
 pub mod TrieRuns
 pub mod TrieLaid
 pub mod TrieNodes
+pub mod TrieEarly
 pub mod TrieFuel
 pub mod TrieGroups
 pub mod TrieIntern
