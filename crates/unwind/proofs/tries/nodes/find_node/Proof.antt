@@ -23,36 +23,38 @@ abbrev μ-loop : tie.MeasureT-loop
 loop-holds : tie.Need-loop-holds Inv-loop μ-loop
 loop-holds c = (search needs, λ j h. absurd (omega arith))
 
-same-node-requires : tie.Need-same-node-requires Inv-loop μ-loop
-same-node-requires c κs = (c .before .before .before .before .before .before .before .pre .0, c .before .before .before .before .before .before .before .pre .1, c .node-at .ensures .small)
+stands-at-requires : tie.Need-stands-at-requires Inv-loop μ-loop
+stands-at-requires c κs = (c .before .before .before .before .before .before .pre .0, c .before .before .before .before .before .before .pre .1, omega (arith, c .loop-test .taken, c .before .before .before .before .before .before .pre .2))
 
 returns : tie.Need-returns Inv-loop μ-loop
 returns c =
-    let m = routesIn (c .before .before .before .before .before .before .before .before .before .args .s .now) (c .before .before .before .before .before .before .before .before .before .args .y) in
-    let e = c .before .before .before .before .before .before .before .before .before .args .edges .now in
-    let d = c .before .before .before .before .before .before .before .before .before .args .ends .now in
-    let own = nodeIn m e d (c .before .before .before .before .before .before .before .before .before .args .x) in
-    let z = nodesIn m (c .before .before .before .before .before .before .before .before .before .args .nodes .now) e d (c .before .before .before .before .before .before .before .before .before .args .n) in
-    let here = sym (c .before .same-node .ensures) ∙ c .if1 .taken in
+    let m = routesIn (c .before .before .before .before .before .before .before .before .args .s .now) (c .before .before .before .before .before .before .before .before .args .y) in
+    let l = c .before .before .before .before .before .before .before .before .args .nodes .now in
+    let e = c .before .before .before .before .before .before .before .before .args .edges .now in
+    let d = c .before .before .before .before .before .before .before .before .args .ends .now in
+    let n = c .before .before .before .before .before .before .before .before .args .n in
+    let own = nodeIn m e d (c .before .before .before .before .before .before .before .before .args .x) in
+    let i = c .before .before .before .loop .i in
+    let here = sym (c .before .stands-at .ensures) ∙ c .if1 .taken in
     sym
-    (place-first own z (c .before .before .before .before .loop .i) own (rw (length-nodes m (c .before .before .before .before .before .before .before .before .before .args .nodes .now) e d (c .before .before .before .before .before .before .before .before .before .args .n)) (c .before .before .before .loop-test .taken))
-    (λ j h. rw (node-of m (c .before .before .before .before .before .before .before .before .before .args .nodes .now) e d (c .before .before .before .before .before .before .before .before .before .args .n) j own (omega arith)) (c .before .before .before .before .loop .inv .1 j h))
-    (rw (node-of m (c .before .before .before .before .before .before .before .before .before .args .nodes .now) e d (c .before .before .before .before .before .before .before .before .before .args .n) (c .before .before .before .before .loop .i) own (c .before .before .before .loop-test .taken), ← c .before .before .node-at .ensures .is) here))
+    (place-first own (nodesIn m l e d n) i own (rw (length-nodes m l e d n) (c .before .before .loop-test .taken))
+    (λ j h. rw (node-of m l e d n j own (omega arith)) (c .before .before .before .loop .inv .1 j h))
+    (rw (node-of m l e d n i own (c .before .before .loop-test .taken)) here))
 
 loop-again : tie.Need-loop-again Inv-loop μ-loop
 loop-again c =
-    let m = routesIn (c .before .before .before .before .before .before .before .before .before .args .s .now) (c .before .before .before .before .before .before .before .before .before .args .y) in
-    let here = sym (c .before .same-node .ensures) ∙ c .if1 .left in
-    (search needs, λ j h. elim (decLt j (c .before .before .before .before .loop .i)) [ yes lt ↦ c .before .before .before .before .loop .inv .1 j lt | no ge ↦ let z : j ≡ c .before .before .before .before .loop .i = omega arith in rw (z, ← c .before .before .node-at .ensures .is) here ])
+    let here = sym (c .before .stands-at .ensures) ∙ c .if1 .left in
+    (search needs, λ j h. elim (decLt j (c .before .before .before .loop .i)) [ yes lt ↦ c .before .before .before .loop .inv .1 j lt | no ge ↦ let z : j ≡ c .before .before .before .loop .i = omega arith in rw z here ])
 
 returns-2 : tie.Need-returns-2 Inv-loop μ-loop
 returns-2 c =
     let m = routesIn (c .before .before .before .before .before .before .args .s .now) (c .before .before .before .before .before .before .args .y) in
+    let l = c .before .before .before .before .before .before .args .nodes .now in
     let e = c .before .before .before .before .before .before .args .edges .now in
     let d = c .before .before .before .before .before .before .args .ends .now in
+    let n = c .before .before .before .before .before .before .args .n in
     let own = nodeIn m e d (c .before .before .before .before .before .before .args .x) in
-    let z = nodesIn m (c .before .before .before .before .before .before .args .nodes .now) e d (c .before .before .before .before .before .before .args .n) in
-    sym (place-none own z own (λ j h. let lt : j < c .before .before .before .before .before .before .args .n = omega (arith, length-nodes m (c .before .before .before .before .before .before .args .nodes .now) e d (c .before .before .before .before .before .before .args .n)) in rw (node-of m (c .before .before .before .before .before .before .args .nodes .now) e d (c .before .before .before .before .before .before .args .n) j own lt) (c .before .loop .inv .1 j (omega arith))))
+    sym (place-none own (nodesIn m l e d n) own (λ j h. let lt : j < n = omega (arith, length-nodes m l e d n) in rw (node-of m l e d n j own lt) (c .before .loop .inv .1 j (omega arith))))
 
 pub find-node-spec : {M : Type 1} → statement M
 find-node-spec =
@@ -61,8 +63,7 @@ find-node-spec =
     Inv-loop
     μ-loop
     loop-holds
-    (λ c κs. search needs)
-    same-node-requires
+    stands-at-requires
     returns
     (λ c. search needs)
     (λ c. search needs)
