@@ -28,6 +28,7 @@ pub mod TrieRuns
 pub mod TrieLaid
 pub mod TrieNodes
 pub mod TrieEarly
+pub mod LowerLaws
 pub mod TrieFuel
 pub mod TrieGroups
 pub mod TrieIntern

@@ -23,6 +23,7 @@ ghost use Rattle.unwind.specs.Trie.{sameFunclet, sameNode, placeOf};
 ghost use Rattle.unwind.specs.Nodes.{recordIn, branches, funcletIn, nodeIn, nodesIn, Stored, NodeSmall};
 ghost use Rattle.unwind.specs.Interning.{ordered, meaning};
 ghost use Rattle.unwind.specs.Kept.{placeIn, Behind, Kept};
+ghost use Rattle.unwind.specs.Lower.{Lower, BehindChildren};
 
 // Where a node stands.
 pub enum Place {
@@ -46,7 +47,7 @@ pub fn keep_node(
     counts: Counts,
     x: NodeRecord,
 ) -> Interned
-    requires { ⌜ AcceptedRoutes (routesIn (now s) y) × Stored (now nodes) (now edges) (now ends) counts × Behind (now nodes) (now edges) (now ends) counts x ⌝ }
+    requires { ⌜ AcceptedRoutes (routesIn (now s) y) × Stored (now nodes) (now edges) (now ends) counts × Behind (now nodes) (now edges) (now ends) counts x × Lower (nodesIn (routesIn (now s) y) (now nodes) (now edges) (now ends) (counts .nodes)) ⌝ }
     ensures { λ r. ⌜ Kept (routesIn (now (s .entry)) y) (now (nodes .entry)) (now (edges .entry)) (now (ends .entry)) counts x (now (nodes .exit)) r ⌝ }
 {
     let n = counts.nodes;
@@ -66,7 +67,7 @@ pub fn keep_node(
     }
 }
 
-// The first of the n nodes that equals x.
+// The first of the n nodes that equals x. It stands behind the children of x.
 fn find_node(
     s: &[u8],
     y: RouteLayout,
@@ -76,15 +77,31 @@ fn find_node(
     n: usize,
     x: NodeRecord,
 ) -> Place
-    requires { ⌜ AcceptedRoutes (routesIn (now s) y) × NodeSmall x × (6 * n ≤ length (now nodes)) ⌝ }
+    requires { ⌜ AcceptedRoutes (routesIn (now s) y) × NodeSmall x × (6 * n ≤ length (now nodes)) × Lower (nodesIn (routesIn (now s) y) (now nodes) (now edges) (now ends) n) ⌝ }
     ensures { λ r. ⌜ placeIn r ≡ placeOf (nodeIn (routesIn (now (s .entry)) y) (now (edges .entry)) (now (ends .entry)) x) (nodesIn (routesIn (now (s .entry)) y) (now (nodes .entry)) (now (edges .entry)) (now (ends .entry)) n) ⌝ }
 {
-    for i in 0..n {
+    let low = behind_children(edges, x.first_edge, x.edges);
+    for i in low..n {
         if stands_at(s, y, nodes, edges, ends, i, x) {
             return Place::At(i);
         }
     }
     Place::Nothing
+}
+
+// Behind the greatest node that the n edges from `first` on lead to.
+fn behind_children(edges: &[u16], first: usize, n: usize) -> usize
+    requires { ⌜ first + n < 1048576 ⌝ }
+    ensures { λ r. ⌜ BehindChildren (now (edges .entry)) first n r ⌝ }
+{
+    let mut low = 0;
+    for k in 0..n {
+        let child = branch_at(edges, first + k).what;
+        if low <= child {
+            low = child + 1;
+        }
+    }
+    low
 }
 
 // Whether node i equals x. Most that do not are told by their counts.
