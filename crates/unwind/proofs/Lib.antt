@@ -27,6 +27,8 @@ pub mod TrieKeys
 pub mod TrieRuns
 pub mod TrieLaid
 pub mod TrieNodes
+pub mod TrieEarly
+pub mod LowerLaws
 pub mod TrieFuel
 pub mod TrieGroups
 pub mod TrieIntern
