@@ -68,3 +68,5 @@ pub mod AllNodesLaws
 pub mod FindLaws
 pub mod WantLaws
 pub mod StoreLaws
+pub mod AnswerLaws
+pub mod FrameLaws
