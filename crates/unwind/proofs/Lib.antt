@@ -65,3 +65,4 @@ pub mod AllNodesLaws
 pub mod FindLaws
 pub mod WantLaws
 pub mod StoreLaws
+pub mod MemberLaws
