@@ -70,3 +70,4 @@ pub mod WantLaws
 pub mod StoreLaws
 pub mod AnswerLaws
 pub mod FrameLaws
+pub mod MemberLaws

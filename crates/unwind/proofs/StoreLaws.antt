@@ -125,7 +125,7 @@ module _ (w : List ℕ) (m : RouteImage) {nodes edges ends roots head next bases
         exits-fit = record { edges-few = x .exits-fit .edges-few; ends-few = x .exits-fit .ends-few; room = omega (arith, x .exits-fit .room, long) };
       }
 
-  pub all-lent : AcceptedRoutes m × TriesIn m nodes edges ends roots c × Leads g m ends heads landings c × Sides g m guards bases returns c × PartsIn g m parts c × BasesFew bases (c .nodes) × Bounded g rs × Roomy edges ends exits
+  pub all-lent : AcceptedRoutes m × TriesIn m nodes edges ends roots c × Leads g m ends heads landings c × Sides g m guards bases returns c × PartsIn g m parts c × BasesFew bases (c .nodes) × Bounded g rs × Roomy edges ends exits × (16 * c .nodes ≤ length parts) × (16 * c .nodes ≤ length returns) × (16 * length (m .routes) ≤ length guards)
   all-lent =
       let i = x .instances in (
         x .accepted,
@@ -136,6 +136,9 @@ module _ (w : List ℕ) (m : RouteImage) {nodes edges ends roots head next bases
         few-in g m nodes edges ends roots bases heads parts returns guards landings c i,
         i .bounded,
         x .exits-fit,
+        i .slots .parts-fit,
+        i .slots .returns-fit,
+        i .guards-fit,
       )
 
   pub links-lent : Ends g × links.Roomy g head next × Linked g head next 0 × (c .nodes ≤ 1024) × (16 * c .nodes ≤ length parts)

@@ -35,3 +35,4 @@ pub mod Walk
 pub mod Demand
 pub mod Answers
 pub mod Frames
+pub mod Members

@@ -1,24 +1,27 @@
 // The hops out of copies of blocks, stored.
 use crate::emit::append::add_exits;
-use crate::emit::block::in_set;
-use crate::emit::copies::next_copy;
 use crate::emit::gather::gather_node;
 use crate::hops::Hops;
+use crate::slots::set_at;
+use graph::blockset::Lowest;
+use graph::blockset::lowest_in;
+use graph::blockset::rank_in;
+use graph::blockset::take_from;
 use image::section::RouteLayout;
 ghost use mathlib.Core.Path.{_≡_};
-ghost use mathlib.Core.Bool.{cond};
 ghost use mathlib.Core.List.{_++_};
 ghost use Prim.Native.Nat.{_+_, _≤_, _<_};
 ghost use lib.ListN.{length};
 ghost use Rattle.image.specs.Image.{routesIn};
 ghost use Rattle.graph.specs.Fold.{flat};
 ghost use Rattle.unwind.specs.Nodes.{recordIn};
-ghost use Rattle.unwind.specs.Gather.{NodeFits, inSet};
+ghost use Rattle.unwind.specs.Gather.{NodeFits};
 ghost use Rattle.unwind.specs.Lent.{Roomy};
-ghost use Rattle.unwind.specs.Copies.{copyNumber, hopsFrom, hopsIf, copyHops};
+ghost use Rattle.unwind.specs.Copies.{copyNumber, hopsFrom, copyHops};
 ghost use Rattle.unwind.specs.HopWords.{hopsIn, HopsHeld, HopsFit, HopsBelow, ReturnsWithin};
+ghost use Rattle.unwind.specs.Members.{NodeSets};
 
-// Those of node i, whose first copy is block `base`: of each of the first `blocks` blocks that is one of its part.
+// Those of node i, whose first copy is block `base`: of each block from which it returns. All are among the first `blocks`.
 pub fn add_copies(
     h: &mut Hops,
     s: &[u8],
@@ -35,50 +38,17 @@ pub fn add_copies(
     blocks: usize,
     exits: &mut [u16],
 )
-    requires { ⌜ NodeFits (now edges) (now ends) (recordIn (now nodes) i) × (i < 65536) × (base ≤ 1024) × (blocks ≤ 1024) × Roomy (now edges) (now ends) (now exits) × ReturnsWithin (now parts) (now returns) i × HopsBelow (routesIn (now s) y) base (now h) × HopsFit (hopsIn (routesIn (now s) y) (now h) ++ flat (copyHops (routesIn (now s) y) (now nodes) (now edges) (now ends) (now heads) (now landings) (now parts) (now returns) i base) blocks) ⌝ }
+    requires { ⌜ NodeFits (now edges) (now ends) (recordIn (now nodes) i) × (i < 65536) × (base ≤ 1024) × (blocks ≤ 1024) × Roomy (now edges) (now ends) (now exits) × ReturnsWithin (now parts) (now returns) i × HopsBelow (routesIn (now s) y) base (now h) × HopsFit (hopsIn (routesIn (now s) y) (now h) ++ flat (copyHops (routesIn (now s) y) (now nodes) (now edges) (now ends) (now heads) (now landings) (now parts) (now returns) i base) blocks) × NodeSets (now parts) (now returns) blocks i ⌝ }
     ensures { λ _. ⌜ HopsHeld (routesIn (now (s .entry)) y) (copyNumber (now (parts .entry)) i base blocks) (now (h .entry)) (now (h .exit)) (hopsIn (routesIn (now (s .entry)) y) (now (h .entry)) ++ flat (copyHops (routesIn (now (s .entry)) y) (now (nodes .entry)) (now (edges .entry)) (now (ends .entry)) (now (heads .entry)) (now (landings .entry)) (now (parts .entry)) (now (returns .entry)) i base) blocks) × (length (now (exits .exit)) ≡ length (now (exits .entry))) ⌝ }
 {
-    let mut b = base;
-    for o in 0..blocks {
-        add_return(
-            h,
-            s,
-            y,
-            nodes,
-            edges,
-            ends,
-            heads,
-            landings,
-            returns,
-            i,
-            o,
-            b,
-            exits,
-        );
-        b = next_copy(parts, i, o, b);
-    }
-}
-
-// Those out of b, if it is the copy of a block o from which node i returns.
-fn add_return(
-    h: &mut Hops,
-    s: &[u8],
-    y: RouteLayout,
-    nodes: &[u16],
-    edges: &[u16],
-    ends: &[u16],
-    heads: &[u16],
-    landings: &[u16],
-    returns: &[u64],
-    i: usize,
-    o: usize,
-    b: usize,
-    exits: &mut [u16],
-)
-    requires { ⌜ NodeFits (now edges) (now ends) (recordIn (now nodes) i) × (i < 65536) × (b < 65536) × Roomy (now edges) (now ends) (now exits) × HopsBelow (routesIn (now s) y) b (now h) × HopsFit (hopsIn (routesIn (now s) y) (now h) ++ hopsIf (routesIn (now s) y) (now nodes) (now edges) (now ends) (now heads) (now landings) (now returns) i o b) ⌝ }
-    ensures { λ _. ⌜ HopsHeld (routesIn (now (s .entry)) y) (b + cond (inSet (now (returns .entry)) i o) 1 0) (now (h .entry)) (now (h .exit)) (hopsIn (routesIn (now (s .entry)) y) (now (h .entry)) ++ hopsIf (routesIn (now (s .entry)) y) (now (nodes .entry)) (now (edges .entry)) (now (ends .entry)) (now (heads .entry)) (now (landings .entry)) (now (returns .entry)) i o b) × (length (now (exits .exit)) ≡ length (now (exits .entry))) ⌝ }
-{
-    if in_set(returns, i, o) {
+    let part = set_at(parts, i);
+    let mut left = set_at(returns, i);
+    loop {
+        let Lowest::At(o) = lowest_in(&left) else {
+            return;
+        };
+        take_from(&mut left, o);
+        let b = base + rank_in(&part, o);
         add_copy(h, s, y, nodes, edges, ends, heads, landings, i, b, exits);
     }
 }

@@ -1,21 +1,24 @@
 // The sizes of the hops out of the copies of one node.
-use crate::emit::block::in_set;
 use crate::emit::count::Sizes;
 use crate::emit::count::sizes_both;
 use crate::emit::count::sizes_of;
 use crate::emit::gather::gather_node;
+use crate::slots::set_at;
 use crate::tries::store::number_at;
+use graph::blockset::Lowest;
+use graph::blockset::lowest_in;
+use graph::blockset::rank_in;
+use graph::blockset::take_from;
 use image::section::RouteLayout;
-ghost use mathlib.Core.Path.{_≡_};
-ghost use mathlib.Core.Bool.{cond};
-ghost use Prim.Native.Nat.{_+_, _≤_, _<_};
+ghost use Prim.Native.Nat.{_≤_, _<_};
 ghost use lib.ListN.{getD};
 ghost use Rattle.image.specs.Image.{routesIn};
 ghost use Rattle.graph.specs.Fold.{flat};
 ghost use Rattle.unwind.specs.Nodes.{recordIn};
-ghost use Rattle.unwind.specs.Gather.{NodeFits, AllFit, inSet};
+ghost use Rattle.unwind.specs.Gather.{NodeFits, AllFit};
 ghost use Rattle.unwind.specs.Lent.{Roomy};
-ghost use Rattle.unwind.specs.Copies.{hopsFrom, hopsIf, copyHops, FewHops, SumSize, ManyHops, BasesFew, nodeHops};
+ghost use Rattle.unwind.specs.Copies.{hopsFrom, copyHops, FewHops, SumSize, ManyHops, BasesFew, nodeHops};
+ghost use Rattle.unwind.specs.Members.{NodeSets, NodesSets};
 
 // Those of all nodes.
 pub fn count_nodes(
@@ -33,7 +36,7 @@ pub fn count_nodes(
     blocks: usize,
     exits: &mut [u16],
 ) -> Sizes
-    requires { ⌜ AllFit (now nodes) (now edges) (now ends) (λ i. i) count × (count ≤ 1024) × BasesFew (now bases) count × (blocks ≤ 1024) × Roomy (now edges) (now ends) (now exits) ⌝ }
+    requires { ⌜ AllFit (now nodes) (now edges) (now ends) (λ i. i) count × (count ≤ 1024) × BasesFew (now bases) count × (blocks ≤ 1024) × Roomy (now edges) (now ends) (now exits) × NodesSets (now parts) (now returns) blocks count ⌝ }
     ensures { λ r. ⌜ ManyHops (flat (nodeHops (routesIn (now (s .entry)) y) (now (nodes .entry)) (now (edges .entry)) (now (ends .entry)) (now (heads .entry)) (now (landings .entry)) (now (bases .entry)) (now (parts .entry)) (now (returns .entry)) blocks) count) r ⌝ }
 {
     let mut sizes = Sizes {
@@ -78,7 +81,7 @@ fn count_node(
     blocks: usize,
     exits: &mut [u16],
 ) -> Sizes
-    requires { ⌜ NodeFits (now edges) (now ends) (recordIn (now nodes) i) × (i < 65536) × (getD (now bases) i 0 ≤ 1024) × (blocks ≤ 1024) × Roomy (now edges) (now ends) (now exits) ⌝ }
+    requires { ⌜ NodeFits (now edges) (now ends) (recordIn (now nodes) i) × (i < 65536) × (getD (now bases) i 0 ≤ 1024) × (blocks ≤ 1024) × Roomy (now edges) (now ends) (now exits) × NodeSets (now parts) (now returns) blocks i ⌝ }
     ensures { λ r. ⌜ SumSize (nodeHops (routesIn (now (s .entry)) y) (now (nodes .entry)) (now (edges .entry)) (now (ends .entry)) (now (heads .entry)) (now (landings .entry)) (now (bases .entry)) (now (parts .entry)) (now (returns .entry)) blocks i) (now (exits .entry)) (now (exits .exit)) r ⌝ }
 {
     let base = number_at(bases, i);
@@ -106,7 +109,7 @@ fn count_node(
     )
 }
 
-// Those of node i, whose first copy is block `base`: of each of the first `blocks` blocks that is one of its part.
+// Those of node i, whose first copy is block `base`: of each block from which it returns. All are among the first `blocks`.
 fn count_copies(
     s: &[u8],
     y: RouteLayout,
@@ -122,72 +125,24 @@ fn count_copies(
     blocks: usize,
     exits: &mut [u16],
 ) -> Sizes
-    requires { ⌜ NodeFits (now edges) (now ends) (recordIn (now nodes) i) × (i < 65536) × (base ≤ 1024) × (blocks ≤ 1024) × Roomy (now edges) (now ends) (now exits) ⌝ }
+    requires { ⌜ NodeFits (now edges) (now ends) (recordIn (now nodes) i) × (i < 65536) × (base ≤ 1024) × (blocks ≤ 1024) × Roomy (now edges) (now ends) (now exits) × NodeSets (now parts) (now returns) blocks i ⌝ }
     ensures { λ r. ⌜ SumSize (flat (copyHops (routesIn (now (s .entry)) y) (now (nodes .entry)) (now (edges .entry)) (now (ends .entry)) (now (heads .entry)) (now (landings .entry)) (now (parts .entry)) (now (returns .entry)) i base) blocks) (now (exits .entry)) (now (exits .exit)) r ⌝ }
 {
+    let part = set_at(parts, i);
+    let mut left = set_at(returns, i);
     let mut sizes = Sizes {
         hops: 0,
         lists: 0,
         blocks: 0,
     };
-    let mut b = base;
-    for o in 0..blocks {
-        let more = count_copy(
-            s,
-            y,
-            nodes,
-            edges,
-            ends,
-            heads,
-            landings,
-            returns,
-            i,
-            o,
-            b,
-            exits,
-        );
+    loop {
+        let Lowest::At(o) = lowest_in(&left) else {
+            return sizes;
+        };
+        take_from(&mut left, o);
+        let b = base + rank_in(&part, o);
+        let more = sizes_from(s, y, nodes, edges, ends, heads, landings, i, b, exits);
         sizes = sizes_both(sizes, more);
-        b = next_copy(parts, i, o, b);
-    }
-    sizes
-}
-
-// The number of the next copy, where b is that of block o, if it is one of the part.
-pub fn next_copy(parts: &[u64], i: usize, o: usize, b: usize) -> usize
-    requires { ⌜ (i < 65536) × (b < 65536) ⌝ }
-    ensures { λ r. ⌜ r ≡ b + cond (inSet (now (parts .entry)) i o) 1 0 ⌝ }
-{
-    if in_set(parts, i, o) {
-        return b + 1;
-    }
-    b
-}
-
-// Those out of b, if it is the copy of a block o from which the node returns.
-fn count_copy(
-    s: &[u8],
-    y: RouteLayout,
-    nodes: &[u16],
-    edges: &[u16],
-    ends: &[u16],
-    heads: &[u16],
-    landings: &[u16],
-    returns: &[u64],
-    i: usize,
-    o: usize,
-    b: usize,
-    exits: &mut [u16],
-) -> Sizes
-    requires { ⌜ NodeFits (now edges) (now ends) (recordIn (now nodes) i) × (i < 65536) × (b < 65536) × Roomy (now edges) (now ends) (now exits) ⌝ }
-    ensures { λ r. ⌜ FewHops (hopsIf (routesIn (now (s .entry)) y) (now (nodes .entry)) (now (edges .entry)) (now (ends .entry)) (now (heads .entry)) (now (landings .entry)) (now (returns .entry)) i o b) (now (exits .entry)) (now (exits .exit)) r ⌝ }
-{
-    if in_set(returns, i, o) {
-        return sizes_from(s, y, nodes, edges, ends, heads, landings, i, b, exits);
-    }
-    Sizes {
-        hops: 0,
-        lists: 0,
-        blocks: 0,
     }
 }
 

@@ -4,6 +4,7 @@ use Rattle.image.specs.Image.{routesIn}
 use Rattle.graph.specs.Words.{heldIn}
 use Rattle.unwind.proofs.LentLaws.{node-fits}
 use Rattle.unwind.proofs.CopiesAre.{counted-all}
+use Rattle.unwind.proofs.MemberLaws.{nodes-sets}
 use borrow.Author.Needs.{needs}
 use Rattle.unwind.proofs.emit.total.count_hops.Statement.{statement}
 use Rattle.unwind.proofs.emit.total.count_hops.Tie as tie
@@ -20,6 +21,7 @@ count-nodes-requires c κs =
       start .pre .5,
       omega (arith, blocks, start .pre .6 .few),
       record { edges-few = room .edges-few; ends-few = room .ends-few; room = omega (arith, room .room, c .before .before .before .count-blocks .ensures .long) },
+      rw (blocks) (nodes-sets (heldIn (a .g .now) .graph) (routesIn (a .s .now) (a .y)) (a .guards .now) (a .bases .now) (a .parts .now) (a .returns .now) (a .stored) (start .pre .3) (start .pre .8) (start .pre .9)),
     )
 
 returns : tie.Need-returns
