@@ -57,7 +57,7 @@ pub extern "C" fn foldzine_reached(g: &Words) -> ReachedCount
     }
 }
 
-fn nothing_refused() -> Answer
+pub fn nothing_refused() -> Answer
     ensures { λ r. ⌜ r ≡ refusalAnswer (refusal 0 0 0) ⌝ }
 {
     Answer {
@@ -67,7 +67,7 @@ fn nothing_refused() -> Answer
     }
 }
 
-fn answer_of(e: AddressBuildError) -> Answer
+pub fn answer_of(e: AddressBuildError) -> Answer
     ensures { λ r. ⌜ r ≡ refusalAnswer (refusalOf e) ⌝ }
 {
     let n = numbers_of(e);

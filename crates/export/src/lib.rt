@@ -1,3 +1,4 @@
 // What Rust and C call: numbers, slices and the words of a graph.
+pub mod add;
 pub mod build;
 pub mod read;

@@ -21,20 +21,20 @@ use Rattle.graph.specs.Graph.{Graph}
 use Rattle.graph.specs.Fold.{flat}
 use Rattle.graph.proofs.FoldLaws.{flat-same}
 use Rattle.unwind.specs.declared.tries.store.Counts.{Counts}
-use Rattle.unwind.specs.Lists.{keep, upto, rank}
-use Rattle.unwind.specs.Part.{funclets}
-use Rattle.unwind.specs.Trie.{Node, tries}
-use Rattle.unwind.specs.Instance.{blocksOf, later, copied, base, place}
-use Rattle.unwind.specs.Ways.{Hop, ways, hopsOf}
+use Rattle.addition.specs.Lists.{keep, upto, rank}
+use Rattle.addition.specs.Part.{funclets}
+use Rattle.addition.specs.Trie.{Node, tries}
+use Rattle.addition.specs.Instance.{blocksOf, later, copied, base, place}
+use Rattle.addition.specs.Ways.{Hop, ways, hopsOf}
 use Rattle.unwind.specs.Sources.{exit, exitsAt, hopsOn}
 use Rattle.unwind.specs.Gather.{inSet}
 use Rattle.unwind.specs.Lent.{PartsIn}
 use Rattle.unwind.specs.Copies.{copyNumber}
-use Rattle.unwind.specs.Walk.{_∈_}
-use Rattle.unwind.proofs.Lists.{mem-keep, keep-mem, mem-upto, upto-mem, mem-among, among-mem}
+use Rattle.addition.specs.Walk.{_∈_}
+use Rattle.addition.proofs.Lists.{mem-keep, keep-mem, mem-upto, upto-mem, mem-among, among-mem}
 use Rattle.unwind.proofs.EdgeNumber.{keep-append}
 use Rattle.unwind.proofs.Sources.{hops-sorted, exits-flat, hops-flat}
-use Rattle.unwind.proofs.Instance.{blocks-lt, place-later}
+use Rattle.addition.proofs.Instance.{blocks-lt, place-later}
 use Rattle.unwind.proofs.TrieOrder.{total-number}
 use Rattle.unwind.proofs.Rising.{rising-keep, sorted-rising, rising-is}
 use Rattle.unwind.proofs.Leaving.{source-below, upto-rising, blocks-rising}

@@ -19,19 +19,19 @@ use Rattle.image.specs.Deal.{routesOf}
 use Rattle.graph.specs.Graph.{Graph}
 use Rattle.graph.specs.Fold.{flat, among}
 use Rattle.unwind.specs.declared.tries.store.Counts.{Counts}
-use Rattle.unwind.specs.Lists.{keep, upto}
-use Rattle.unwind.specs.Part.{funclets, returning}
-use Rattle.unwind.specs.Trie.{Node, tries}
+use Rattle.addition.specs.Lists.{keep, upto}
+use Rattle.addition.specs.Part.{funclets, returning}
+use Rattle.addition.specs.Trie.{Node, tries}
 use Rattle.unwind.specs.Routed.{TriesIn}
-use Rattle.unwind.specs.Instance.{blocksOf, later, copied, base}
-use Rattle.unwind.specs.Ways.{Hop, ways, hopsOf}
+use Rattle.addition.specs.Instance.{blocksOf, later, copied, base}
+use Rattle.addition.specs.Ways.{Hop, ways, hopsOf}
 use Rattle.unwind.specs.Gather.{inSet}
 use Rattle.unwind.specs.Lent.{Leads, Sides, PartsIn, blockHops}
 use Rattle.unwind.specs.Copies.{copyNumber, copyHops, nodeHops, Bounded}
 use Rattle.unwind.specs.HopWords.{hopsIn, HopsHeld, HopsFit, HopsBelow, HopsEmptied, HopsLaid}
 use Rattle.unwind.specs.AllNodes.{behindNodes, NodeRises, NodesRise}
-use Rattle.unwind.proofs.Lists.{keep-mem, mem-among, among-mem, flat-suc, flat-le}
-use Rattle.unwind.proofs.Instance.{copied-later, from-above}
+use Rattle.addition.proofs.Lists.{keep-mem, mem-among, among-mem, flat-suc, flat-le}
+use Rattle.addition.proofs.Instance.{copied-later, from-above}
 use Rattle.unwind.proofs.LentLaws.{count-is}
 use Rattle.unwind.proofs.AllHops.{copy-number, part-is}
 use Rattle.unwind.proofs.CopiesAre.{total-hops}

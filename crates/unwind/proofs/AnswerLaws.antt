@@ -20,9 +20,9 @@ use Rattle.graph.specs.WellFormed.{wellFormed}
 use Rattle.graph.specs.declared.error.AddressBuildError.{AddressBuildError}
 use Rattle.unwind.specs.declared.add.AddedRoutes.{AddedRoutes}
 use Rattle.unwind.specs.declared.add.AddedRoutes.the-variants.{Stored, Refused}
-use Rattle.unwind.specs.Add.{addition, added, refused, outcome, sizeCheck, addRoutesTo, addRead, addRoutes}
+use Rattle.addition.specs.Add.{addition, added, refused, outcome, sizeCheck, addRoutesTo, addRead, addRoutes}
 use Rattle.unwind.specs.Answers.{additionIn, answerOf, imageOf, addAnswer, AddLeaves, Spells, Adds, Sized}
-use Rattle.unwind.proofs.Demand.{demand3}
+use Rattle.addition.proofs.Demand.{demand3}
 
 module _ (h : Held) (l : List ℕ) where
   pub graph-none : wellFormed h ≡ false → refused (refusal 21 0 0) ≡ addRoutes h l

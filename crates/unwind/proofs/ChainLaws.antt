@@ -23,8 +23,8 @@ use Rattle.graph.specs.BlockSet.{member, excluding}
 use Rattle.graph.specs.Search.{Ends, linkIn, link, Linked, Roomy}
 use Rattle.graph.proofs.BlockLaws.{member-excluding}
 use Rattle.graph.proofs.SearchLaws.{source-lt, Found, past, found-at, find}
-use Rattle.unwind.specs.Lists.{keep, upto}
-use Rattle.unwind.specs.Part.{outgoing}
+use Rattle.addition.specs.Lists.{keep, upto}
+use Rattle.addition.specs.Part.{outgoing}
 use Rattle.unwind.specs.Stands.{Has}
 use Rattle.unwind.specs.Clones.{listOf}
 use Rattle.unwind.proofs.Sets.{kept-more, among-kept, Rises}

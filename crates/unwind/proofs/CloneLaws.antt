@@ -20,8 +20,8 @@ use Rattle.graph.specs.Fold.{flat, count}
 use Rattle.graph.specs.BlockSet.{member, excluding}
 use Rattle.graph.proofs.FoldLaws.{flat-more, count-le}
 use Rattle.graph.proofs.BlockLaws.{rank-all}
-use Rattle.unwind.specs.Lists.{keep, joined, upto}
-use Rattle.unwind.specs.Part.{outgoing}
+use Rattle.addition.specs.Lists.{keep, joined, upto}
+use Rattle.addition.specs.Part.{outgoing}
 use Rattle.unwind.specs.Placed.{setAt}
 use Rattle.unwind.specs.Clones.{listOf, copiesIn, copyOf, edgeCopies}
 use Rattle.unwind.proofs.ChainLaws.{list-none, list-front}

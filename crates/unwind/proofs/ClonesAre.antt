@@ -19,15 +19,15 @@ use Rattle.graph.specs.Graph.{Graph, block}
 use Rattle.graph.specs.Fold.{flat, count, among}
 use Rattle.graph.specs.BlockSet.{member}
 use Rattle.graph.proofs.FoldLaws.{decided, flat-same}
-use Rattle.unwind.specs.Lists.{joined}
-use Rattle.unwind.specs.Part.{funclets, outgoing}
-use Rattle.unwind.specs.Trie.{Node, nodeAt}
-use Rattle.unwind.specs.Instance.{blocksOf, later, copied, base, place, moved, cloneBlocks, cloneEdge, cloneEdges}
-use Rattle.unwind.specs.Walk.{_∈_}
+use Rattle.addition.specs.Lists.{joined}
+use Rattle.addition.specs.Part.{funclets, outgoing}
+use Rattle.addition.specs.Trie.{Node, nodeAt}
+use Rattle.addition.specs.Instance.{blocksOf, later, copied, base, place, moved, cloneBlocks, cloneEdge, cloneEdges}
+use Rattle.addition.specs.Walk.{_∈_}
 use Rattle.unwind.specs.Placed.{setAt, Placed}
 use Rattle.unwind.specs.Clones.{copiesIn, copyOf, blockCopies, edgeCopies, SetsIn}
-use Rattle.unwind.proofs.Lists.{mem-among, keep-mem}
-use Rattle.unwind.proofs.Instance.{place-later, copied-later}
+use Rattle.addition.proofs.Lists.{mem-among, keep-mem}
+use Rattle.addition.proofs.Instance.{place-later, copied-later}
 use Rattle.unwind.proofs.Sets.{Rises, has-lt, rank-has}
 use Rattle.unwind.proofs.ChainLaws.{list-has}
 use Rattle.unwind.proofs.CloneLaws.{copies-none, copies-some}

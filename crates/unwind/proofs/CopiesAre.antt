@@ -18,22 +18,22 @@ use Rattle.graph.specs.Fold.{flat, among}
 use Rattle.graph.proofs.FoldLaws.{flat-same, decided}
 use Rattle.unwind.specs.declared.emit.count.Sizes.{Sizes}
 use Rattle.unwind.specs.declared.tries.store.Counts.{Counts}
-use Rattle.unwind.specs.Lists.{keep, upto}
-use Rattle.unwind.specs.Order.{sorted}
-use Rattle.unwind.specs.Part.{funclets, returning}
-use Rattle.unwind.specs.Trie.{Node, tries}
+use Rattle.addition.specs.Lists.{keep, upto}
+use Rattle.addition.specs.Order.{sorted}
+use Rattle.addition.specs.Part.{funclets, returning}
+use Rattle.addition.specs.Trie.{Node, tries}
 use Rattle.unwind.specs.Nodes.{recordIn}
 use Rattle.unwind.specs.Routed.{TriesIn}
-use Rattle.unwind.specs.Instance.{blocksOf, later, copied, base, place}
-use Rattle.unwind.specs.Ways.{Hop, ways, hopsOf}
+use Rattle.addition.specs.Instance.{blocksOf, later, copied, base, place}
+use Rattle.addition.specs.Ways.{Hop, ways, hopsOf}
 use Rattle.unwind.specs.Sources.{Exit, exit, compareExits, exitsAt, hopsOn}
 use Rattle.unwind.specs.Gather.{recordExits, inSet}
 use Rattle.unwind.specs.Lent.{Leads, Sides, PartsIn, blockHops}
 use Rattle.unwind.specs.Sizes.{HopsSize, sizesBoth}
 use Rattle.unwind.specs.Copies.{copyNumber, hopsFrom, hopsIf, copyHops, nodeHops}
-use Rattle.unwind.specs.Walk.{_∈_}
-use Rattle.unwind.proofs.Lists.{mem-keep, keep-mem, mem-among, among-mem}
-use Rattle.unwind.proofs.Instance.{copied-later, from-above}
+use Rattle.addition.specs.Walk.{_∈_}
+use Rattle.addition.proofs.Lists.{mem-keep, keep-mem, mem-among, among-mem}
+use Rattle.addition.proofs.Instance.{copied-later, from-above}
 use Rattle.unwind.proofs.Leaving.{place-below}
 use Rattle.unwind.proofs.SizeLaws.{sizes-both}
 use Rattle.unwind.proofs.LentLaws.{count-is, copy-records, standing-hops}

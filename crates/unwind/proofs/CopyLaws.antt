@@ -16,7 +16,7 @@ use Rattle.graph.specs.Fold.{flat}
 use Rattle.graph.proofs.FoldLaws.{length-table}
 use Rattle.unwind.specs.declared.emit.count.Sizes.{Sizes}
 use Rattle.unwind.specs.declared.tries.store.NodeRecord.{NodeRecord}
-use Rattle.unwind.specs.Lists.{keep, joined}
+use Rattle.addition.specs.Lists.{keep, joined}
 use Rattle.unwind.specs.Nodes.{recordIn}
 use Rattle.unwind.specs.Gather.{edgeExits, endExits, recordExits, Gathers, inSet}
 use Rattle.unwind.specs.Sizes.{SizesOf}

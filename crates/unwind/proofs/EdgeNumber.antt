@@ -12,13 +12,13 @@ use native.Mathlib.Omega.{arith}
 use lib.Dec.{isEq}
 use lib.ListN.{length, length-append, length-map}
 use Rattle.graph.specs.Graph.{Graph}
-use Rattle.unwind.specs.Lists.{keep}
-use Rattle.unwind.specs.Order.{put, placed, sorted}
-use Rattle.unwind.specs.Ways.{HopEnd, block, leave, Hop, Way, Leap, leap, compareLeaps, listsOf, hopsOf, wanted, routeEdge, edgeTo, routeEdges}
+use Rattle.addition.specs.Lists.{keep}
+use Rattle.addition.specs.Order.{put, placed, sorted}
+use Rattle.addition.specs.Ways.{HopEnd, block, leave, Hop, Way, Leap, leap, compareLeaps, listsOf, hopsOf, wanted, routeEdge, edgeTo, routeEdges}
 use Rattle.unwind.specs.Sources.{toBlock}
-use Rattle.unwind.specs.Walk.{_∈_}
-use Rattle.unwind.proofs.Lists.{or-either, or-left, or-right, mem-keep, keep-mem}
-use Rattle.unwind.proofs.Order.{exact-leaps, mem-sorted, sorted-mem}
+use Rattle.addition.specs.Walk.{_∈_}
+use Rattle.addition.proofs.Lists.{or-either, or-left, or-right, mem-keep, keep-mem}
+use Rattle.addition.proofs.Order.{exact-leaps, mem-sorted, sorted-mem}
 use Rattle.unwind.proofs.TrieOrder.{Total, put-member}
 use Rattle.unwind.proofs.Rising.{rising-keep, rising-sorted, rising-is, sorted-middle, total-leaps}
 

@@ -19,13 +19,13 @@ use lib.ListN.{length}
 use Rattle.image.specs.Image.{RouteImage, table}
 use Rattle.graph.proofs.FoldLaws.{table-same}
 use Rattle.unwind.specs.declared.tries.store.Branch.{Branch}
-use Rattle.unwind.specs.Order.{put, placed, sorted, _and-then_, compareTags}
+use Rattle.addition.specs.Order.{put, placed, sorted, _and-then_, compareTags}
 use Rattle.unwind.specs.Nodes.{branchIn, tagsIn, BranchSmall, BranchPut}
-use Rattle.unwind.specs.Ways.{block, leave, compareHopEnds, compareLeaps}
+use Rattle.addition.specs.Ways.{block, leave, compareHopEnds, compareLeaps}
 use Rattle.unwind.specs.Sources.{Exit, compareExits}
 use Rattle.unwind.specs.Entries.{endIn, exitIn, exitsIn, Ordered, Parts, EntryPut, Shifted}
-use Rattle.unwind.specs.Walk.{_∈_}
-use Rattle.unwind.proofs.Lists.{none-in}
+use Rattle.addition.specs.Walk.{_∈_}
+use Rattle.addition.proofs.Lists.{none-in}
 use Rattle.unwind.proofs.TrieOrder.{Total, turned, number-lt, number-gt, number-eq, put-member}
 use Rattle.unwind.proofs.Rising.{Rising, rising-join, rising-front, rising-less, rising-put, sorted-rising, total-exits}
 

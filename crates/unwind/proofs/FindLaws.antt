@@ -13,9 +13,9 @@ use borrow.Author.Tests.{ne-eqb}
 use lib.Dec.{eqb, ltb, isEq}
 use lib.ListN.{length}
 use Rattle.unwind.specs.declared.hops.HopRow.{HopRow}
-use Rattle.unwind.specs.Order.{_and-then_}
+use Rattle.addition.specs.Order.{_and-then_}
 use Rattle.unwind.specs.Interning.{isLt}
-use Rattle.unwind.specs.Ways.{block, leave, Leap, compareHopEnds, compareLeaps}
+use Rattle.addition.specs.Ways.{block, leave, Leap, compareHopEnds, compareLeaps}
 use Rattle.unwind.specs.HopWords.{rowsIn, endFrom}
 use Rattle.unwind.specs.Flags.{pair, rowLeap, leapAt, HopsRise, HopIs}
 use Rattle.unwind.proofs.TrieOrder.{turned, number-eq, is-eq}

@@ -22,7 +22,7 @@ use Rattle.graph.proofs.RuleLaws as rule
 use Rattle.graph.proofs.StoredLaws.{stored-then, all-held}
 use Rattle.graph.proofs.AddingLaws.{adding-held}
 use Rattle.graph.proofs.LaidLaws.{blocks-held}
-use Rattle.unwind.specs.Add.{extended}
+use Rattle.addition.specs.Add.{extended}
 
 -- a graph with more edges
 abbrev withEdges : Graph → List Edge → Graph

@@ -19,12 +19,12 @@ use Rattle.graph.specs.Search.{Linked, Roomy}
 use Rattle.graph.specs.WellFormed.{isBlock}
 use Rattle.unwind.specs.declared.tries.store.Counts.{Counts}
 use Rattle.unwind.specs.Stands.{Stands}
-use Rattle.unwind.specs.Trie.{Node, nodeAt, tries}
+use Rattle.addition.specs.Trie.{Node, nodeAt, tries}
 use Rattle.unwind.specs.Nodes.{nodesIn}
 use Rattle.unwind.specs.Routed.{TriesIn}
 use Rattle.unwind.specs.Placed.{PlacedAll}
 use Rattle.unwind.specs.Sides.{Lands, GuardsIn}
-use Rattle.unwind.specs.Add.{nodeCheck}
+use Rattle.addition.specs.Add.{nodeCheck}
 use Rattle.unwind.specs.Answers.{RoutesChecked}
 use Rattle.unwind.specs.Frames.{Frame, Room, Placements, AtHand}
 use Rattle.unwind.proofs.Standing.{stands-of}

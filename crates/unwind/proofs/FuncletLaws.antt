@@ -35,16 +35,16 @@ use Rattle.graph.proofs.FoldLaws.{decided, some-same, some-at, some-where}
 use Rattle.graph.proofs.BlockLaws.{member-none, member-including, length-including}
 use Rattle.graph.proofs.TableLaws.{start-at, below-at}
 use Rattle.graph.proofs.RouteLaws.{length-routes, paths-of, path-of, paths-in, steps-of, step-of, steps-in}
-use Rattle.unwind.specs.Blocks.{Leading, leads, inside, absent, firstOf, leading, blockIn, blockOf}
-use Rattle.unwind.specs.Part.{funclets}
+use Rattle.addition.specs.Blocks.{Leading, leads, inside, absent, firstOf, leading, blockIn, blockOf}
+use Rattle.addition.specs.Part.{funclets}
 use Rattle.unwind.specs.Stands.{Stands, Has}
 use Rattle.unwind.specs.PartSearch.{Barriers, PartFrom, entering}
-use Rattle.unwind.specs.Instance.{partOf}
-use Rattle.unwind.specs.Add.{leadFound, leadCheck}
-use Rattle.unwind.specs.Walk.{_∈_, Funclet, Built as BuiltBlock, Begins}
-use Rattle.unwind.proofs.Lists.{and-both, and-true, both-ways, mem-getD, mem-at, at-lt, at-getD, mem-among, among-mem}
-use Rattle.unwind.proofs.Closure.{mem-funclets, funclets-mem}
-use Rattle.unwind.proofs.Accepted.{lead-begins}
+use Rattle.addition.specs.Instance.{partOf}
+use Rattle.addition.specs.Add.{leadFound, leadCheck}
+use Rattle.addition.specs.Walk.{_∈_, Funclet, Built as BuiltBlock, Begins}
+use Rattle.addition.proofs.Lists.{and-both, and-true, both-ways, mem-getD, mem-at, at-lt, at-getD, mem-among, among-mem}
+use Rattle.addition.proofs.Closure.{mem-funclets, funclets-mem}
+use Rattle.addition.proofs.Accepted.{lead-begins}
 use Rattle.unwind.proofs.Standing.{table-rises, built-is, is-built, first-lt, leads-here}
 
 -- ---- steps

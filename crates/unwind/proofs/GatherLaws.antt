@@ -15,7 +15,7 @@ use lib.Seq.{append-snoc}
 use Rattle.image.specs.Image.{RouteImage, table}
 use Rattle.unwind.specs.declared.tries.store.NodeRecord.{NodeRecord}
 use Rattle.unwind.specs.declared.tries.store.Branch.{Branch}
-use Rattle.unwind.specs.Order.{put, sorted}
+use Rattle.addition.specs.Order.{put, sorted}
 use Rattle.unwind.specs.Nodes.{pathRecord, tagsIn}
 use Rattle.unwind.specs.Sources.{Exit, compareExits}
 use Rattle.unwind.specs.Entries.{exitIn, exitsIn, Ordered, EntryPut}

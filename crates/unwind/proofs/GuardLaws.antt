@@ -21,11 +21,11 @@ use Rattle.graph.specs.BlockSet.{member, none, including}
 use Rattle.graph.specs.Table.{entryAt, below}
 use Rattle.graph.specs.WellFormed.{Built}
 use Rattle.graph.proofs.BlockLaws.{member-none, member-including, length-including}
-use Rattle.unwind.specs.Blocks.{firstOf, guarded}
+use Rattle.addition.specs.Blocks.{firstOf, guarded}
 use Rattle.unwind.specs.Stands.{Stands, Before, Guards, routeOf}
-use Rattle.unwind.specs.Walk.{Built as BuiltBlock, Covers}
-use Rattle.unwind.proofs.Lists.{both-ways, mem-among, among-mem, or-either, or-left, or-right}
-use Rattle.unwind.proofs.Accepted.{mem-guarded, guarded-mem}
+use Rattle.addition.specs.Walk.{Built as BuiltBlock, Covers}
+use Rattle.addition.proofs.Lists.{both-ways, mem-among, among-mem, or-either, or-left, or-right}
+use Rattle.addition.proofs.Accepted.{mem-guarded, guarded-mem}
 use Rattle.unwind.proofs.Standing.{table-rises, below-test, built-is, is-built, first-lt}
 
 module _ (g : Graph) (s : Stands g) where

@@ -22,17 +22,17 @@ use Rattle.image.specs.Image.{RouteImage, table}
 use Rattle.graph.specs.Fold.{flat}
 use Rattle.graph.proofs.FoldLaws.{flat-more}
 use Rattle.unwind.specs.declared.tries.store.Counts.{Counts}
-use Rattle.unwind.specs.Lists.{joined}
+use Rattle.addition.specs.Lists.{joined}
 use Rattle.unwind.specs.Nodes.{branchIn, recordIn}
-use Rattle.unwind.specs.Ways.{Hop}
+use Rattle.addition.specs.Ways.{Hop}
 use Rattle.unwind.specs.Sources.{Exit, hopsOn}
 use Rattle.unwind.specs.Entries.{exitIn, exitsIn}
 use Rattle.unwind.specs.Lent.{blockRecords, Holds, blockHops}
 use Rattle.unwind.specs.Gather.{recordExits, Gathers, inSet}
 use Rattle.unwind.specs.Copies.{hopsFrom, hopsIf}
-use Rattle.unwind.specs.Walk.{_∈_}
+use Rattle.addition.specs.Walk.{_∈_}
 use Rattle.unwind.specs.HopWords.{Rows, rowsIn, hopsIn, rowHops, noRows, rowsOn, Consecutive, InOrder, HopsStored, HopsHeld, HopsFit, HopsBelow}
-use Rattle.unwind.proofs.Lists.{none-in}
+use Rattle.addition.proofs.Lists.{none-in}
 use Rattle.unwind.proofs.TrieKeys.{joined-append}
 use Rattle.unwind.proofs.Sources.{on-apart, on-source}
 use Rattle.unwind.proofs.AllHops.{flat-split}

@@ -21,17 +21,17 @@ use Rattle.graph.specs.Graph.{Graph}
 use Rattle.graph.specs.Fold.{flat, among}
 use Rattle.graph.specs.Route.{routeAt}
 use Rattle.graph.proofs.FoldLaws.{flat-front}
-use Rattle.unwind.specs.Lists.{keep, joined, upto, rank}
-use Rattle.unwind.specs.Order.{Tagged, sorted}
-use Rattle.unwind.specs.Blocks.{builtBlocks, guarded}
-use Rattle.unwind.specs.Part.{funclets, part, round, rounds, returning}
-use Rattle.unwind.specs.Trie.{Node, nodeAt, internRoutes, tries}
-use Rattle.unwind.specs.Instance.{partOf, blocksOf, later, copied, base, place, entryOf, returnsOf}
-use Rattle.unwind.specs.Ways.{Way, block, endAt, waysFrom, routeWays, nodeWays, ways}
+use Rattle.addition.specs.Lists.{keep, joined, upto, rank}
+use Rattle.addition.specs.Order.{Tagged, sorted}
+use Rattle.addition.specs.Blocks.{builtBlocks, guarded}
+use Rattle.addition.specs.Part.{funclets, part, round, rounds, returning}
+use Rattle.addition.specs.Trie.{Node, nodeAt, internRoutes, tries}
+use Rattle.addition.specs.Instance.{partOf, blocksOf, later, copied, base, place, entryOf, returnsOf}
+use Rattle.addition.specs.Ways.{Way, block, endAt, waysFrom, routeWays, nodeWays, ways}
 use Rattle.unwind.specs.Sources.{Exit, exit, compareExits, isFrom, exitsAt, exitsFrom, routeExits, nodeExits, copyExits}
-use Rattle.unwind.specs.Walk.{_∈_}
-use Rattle.unwind.proofs.Lists.{none-in, and-both, and-true, at, at-rank, at-lt, mem-keep, keep-mem, mem-joined, joined-mem, mem-map, map-mem, mem-flat, flat-mem, flat-suc, flat-le, upto-mem, mem-among, among-mem}
-use Rattle.unwind.proofs.Instance.{first-or-later, blocks-lt, place-first, place-later, copied-later, place-apart, clone-owner, later-above}
+use Rattle.addition.specs.Walk.{_∈_}
+use Rattle.addition.proofs.Lists.{none-in, and-both, and-true, at, at-rank, at-lt, mem-keep, keep-mem, mem-joined, joined-mem, mem-map, map-mem, mem-flat, flat-mem, flat-suc, flat-le, upto-mem, mem-among, among-mem}
+use Rattle.addition.proofs.Instance.{first-or-later, blocks-lt, place-first, place-later, copied-later, place-apart, clone-owner, later-above}
 use Rattle.unwind.proofs.TrieOrder.{number-lt, lt-number}
 use Rattle.unwind.proofs.Rising.{Rising, rising-keep, rising-join, sorted-same, total-exits}
 

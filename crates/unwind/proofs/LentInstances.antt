@@ -30,31 +30,31 @@ use Rattle.graph.specs.Route.{routeAt}
 use Rattle.graph.proofs.FoldLaws.{flat-same, flat-front}
 use Rattle.graph.proofs.RouteLaws.{length-routes}
 use Rattle.unwind.specs.declared.tries.store.Counts.{Counts}
-use Rattle.unwind.specs.Lists.{keep, joined, rank, head}
-use Rattle.unwind.specs.Order.{Tagged}
-use Rattle.unwind.specs.Blocks.{builtBlocks, firstOf, leadingBy, leading, blockIn, blockOf, guarded}
+use Rattle.addition.specs.Lists.{keep, joined, rank, head}
+use Rattle.addition.specs.Order.{Tagged}
+use Rattle.addition.specs.Blocks.{builtBlocks, firstOf, leadingBy, leading, blockIn, blockOf, guarded}
 use Rattle.unwind.specs.Stands.{Stands}
-use Rattle.unwind.specs.Part.{funclets, returning}
-use Rattle.unwind.specs.Trie.{Node, nodeAt, tries}
+use Rattle.addition.specs.Part.{funclets, returning}
+use Rattle.addition.specs.Trie.{Node, nodeAt, tries}
 use Rattle.unwind.specs.Nodes.{recordIn, nodeIn}
-use Rattle.unwind.specs.Instance.{entryBlock, blocksOf, later, copied, base, place, entryOf, returnsOf, cloneBlocks}
+use Rattle.addition.specs.Instance.{entryBlock, blocksOf, later, copied, base, place, entryOf, returnsOf, cloneBlocks}
 use Rattle.unwind.specs.Placed.{setAt}
 use Rattle.unwind.specs.Sides.{landing}
-use Rattle.unwind.specs.Ways.{Way, block as toBlock, endAt, waysFrom, routeWays, nodeWays, ways}
+use Rattle.addition.specs.Ways.{Way, block as toBlock, endAt, waysFrom, routeWays, nodeWays, ways}
 use Rattle.unwind.specs.Sources.{Exit, exitsFrom}
 use Rattle.unwind.specs.Gather.{inSet}
 use Rattle.unwind.specs.Lent.{Leads, Sides, PartsIn}
 use Rattle.unwind.specs.Copies.{BasesFew, Bounded}
 use Rattle.unwind.specs.Wanted.{wayOf, placeIn, recordWays, guardWays, returnWays, lentWays, RunsFit}
 use Rattle.unwind.specs.Instances.{Instances}
-use Rattle.unwind.specs.Add.{extended}
-use Rattle.unwind.specs.Walk.{_∈_}
-use Rattle.unwind.proofs.Lists.{keep-mem, mem-among, flat-suc, flat-le}
+use Rattle.addition.specs.Add.{extended}
+use Rattle.addition.specs.Walk.{_∈_}
+use Rattle.addition.proofs.Lists.{keep-mem, mem-among, flat-suc, flat-le}
 use Rattle.unwind.proofs.Sources.{joined-map}
-use Rattle.unwind.proofs.Accepted.{head-mem, built-mem, guarded-mem}
+use Rattle.addition.proofs.Accepted.{head-mem, built-mem, guarded-mem}
 use Rattle.unwind.proofs.Standing.{run-fits}
-use Rattle.unwind.proofs.Instance.{first-or-later, place-first, place-later, copied-later}
-use Rattle.unwind.proofs.After.{old-block}
+use Rattle.addition.proofs.Instance.{first-or-later, place-first, place-later, copied-later}
+use Rattle.addition.proofs.After.{old-block}
 use Rattle.unwind.proofs.Sets.{Rises, keep-rises, guarded-kept}
 use Rattle.unwind.proofs.TrieNodes.{length-nodes}
 use Rattle.unwind.proofs.Leaving.{roots-length, place-below}

@@ -26,23 +26,23 @@ use Rattle.graph.proofs.FoldLaws.{length-table, table-same, getD-table, flat-sa
 use Rattle.graph.proofs.RouteLaws.{length-routes}
 use Rattle.unwind.specs.declared.emit.count.Sizes.{Sizes}
 use Rattle.unwind.specs.declared.tries.store.Counts.{Counts}
-use Rattle.unwind.specs.Lists.{keep}
-use Rattle.unwind.specs.Order.{Tagged, sorted}
-use Rattle.unwind.specs.Part.{funclets, returning}
-use Rattle.unwind.specs.Trie.{Node, nodeAt, tries}
+use Rattle.addition.specs.Lists.{keep}
+use Rattle.addition.specs.Order.{Tagged, sorted}
+use Rattle.addition.specs.Part.{funclets, returning}
+use Rattle.addition.specs.Trie.{Node, nodeAt, tries}
 use Rattle.unwind.specs.Nodes.{branchIn, recordIn, branches, pathRecord, edgeOf, endAt, nodeIn, nodesIn}
 use Rattle.unwind.specs.Routed.{TriesIn}
-use Rattle.unwind.specs.Instance.{blocksOf, later, base, place, entryOf}
-use Rattle.unwind.specs.Ways.{block, endAt as hopEnd, ways}
+use Rattle.addition.specs.Instance.{blocksOf, later, base, place, entryOf}
+use Rattle.addition.specs.Ways.{block, endAt as hopEnd, ways}
 use Rattle.unwind.specs.Sources.{Exit, exit, compareExits, exitsAt, exitsFrom, routeExits, nodeExits, copyExits, hopsOn}
 use Rattle.unwind.specs.Entries.{endIn, exitsIn}
 use Rattle.unwind.specs.Gather.{exitTo, edgeExits, endNumber, endExits, recordExits, Gathers, inSet, NodeFits, routeRecords, nodeRecords, Pooled, Adds}
 use Rattle.unwind.specs.Lent.{Leads, Sides, blockRecords, Holds, BlockHeld, blockHops}
 use Rattle.unwind.specs.Sizes.{HopsSize, SizesOf}
-use Rattle.unwind.specs.Walk.{_∈_}
-use Rattle.unwind.proofs.Lists.{none-in, at, lt-at, at-getD, mem-map}
-use Rattle.unwind.proofs.Intern.{tries-law}
-use Rattle.unwind.proofs.Instance.{from-above}
+use Rattle.addition.specs.Walk.{_∈_}
+use Rattle.addition.proofs.Lists.{none-in, at, lt-at, at-getD, mem-map}
+use Rattle.addition.proofs.Intern.{tries-law}
+use Rattle.addition.proofs.Instance.{from-above}
 use Rattle.unwind.proofs.Rising.{total-exits}
 use Rattle.unwind.proofs.EntryLaws.{table-mem}
 use Rattle.unwind.proofs.GatherLaws.{put-all-sorted}

@@ -16,9 +16,9 @@ use Rattle.image.specs.Deal.{routesOf}
 use Rattle.graph.specs.Graph.{Graph}
 use Rattle.graph.specs.Fold.{some}
 use Rattle.graph.proofs.FoldLaws.{decided}
-use Rattle.unwind.specs.Part.{funclets}
+use Rattle.addition.specs.Part.{funclets}
 use Rattle.unwind.specs.Nodes.{nodesIn}
-use Rattle.unwind.specs.Instance.{entryBlock}
+use Rattle.addition.specs.Instance.{entryBlock}
 use Rattle.unwind.specs.Placed.{Placed, funcletAt, like, FirstWith}
 use Rattle.unwind.proofs.PlaceLaws.{same-eq, entry-alike, NoneLike}
 

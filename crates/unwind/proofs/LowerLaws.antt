@@ -17,15 +17,15 @@ use Rattle.image.specs.Image.{RouteImage}
 use Rattle.image.specs.Deal.{UnwindPath}
 use Rattle.unwind.specs.declared.tries.store.NodeRecord.{NodeRecord}
 use Rattle.unwind.specs.declared.tries.store.Branch.{Branch}
-use Rattle.unwind.specs.Order.{Tagged, tagged, compareTagged, compareEnds, same}
-use Rattle.unwind.specs.Trie.{Node, groups, rest, sameFunclet, sameNode, placeOf, Interned, created, create, Children, internEach, nodeOf, intern, longest, nodeAt}
-use Rattle.unwind.specs.Walk.{_∈_}
+use Rattle.addition.specs.Order.{Tagged, tagged, compareTagged, compareEnds, same}
+use Rattle.addition.specs.Trie.{Node, groups, rest, sameFunclet, sameNode, placeOf, Interned, created, create, Children, internEach, nodeOf, intern, longest, nodeAt}
+use Rattle.addition.specs.Walk.{_∈_}
 use Rattle.unwind.specs.Nodes.{recordIn, branchIn, branches, edgeOf, nodeIn, nodesIn}
 use Rattle.unwind.specs.Interns.{interned}
 use Rattle.unwind.specs.Lower.{Lower, BehindChildren}
-use Rattle.unwind.proofs.Lists.{and-both, none-in, mem-map, mem-getD}
-use Rattle.unwind.proofs.Order.{sorted-mem, same-eq}
-use Rattle.unwind.proofs.Paths.{exact-key}
+use Rattle.addition.proofs.Lists.{and-both, none-in, mem-map, mem-getD}
+use Rattle.addition.proofs.Order.{sorted-mem, same-eq}
+use Rattle.addition.proofs.Paths.{exact-key}
 use Rattle.unwind.proofs.TrieRuns.{length-branches, branch-of}
 use Rattle.unwind.proofs.TrieNodes.{place-lt, length-nodes, node-of}
 

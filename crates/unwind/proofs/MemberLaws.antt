@@ -29,9 +29,9 @@ use Rattle.graph.proofs.FoldLaws.{decided, count-yes, count-no, length-table}
 use Rattle.graph.proofs.BlockLaws.{member-excluding, length-excluding}
 use Rattle.unwind.specs.declared.emit.count.Sizes.{Sizes}
 use Rattle.unwind.specs.declared.tries.store.Counts.{Counts}
-use Rattle.unwind.specs.Part.{returning}
-use Rattle.unwind.specs.Trie.{tries}
-use Rattle.unwind.specs.Ways.{Hop}
+use Rattle.addition.specs.Part.{returning}
+use Rattle.addition.specs.Trie.{tries}
+use Rattle.addition.specs.Ways.{Hop}
 use Rattle.unwind.specs.Placed.{setAt}
 use Rattle.unwind.specs.Gather.{inSet}
 use Rattle.unwind.specs.Lent.{Sides}
@@ -39,8 +39,8 @@ use Rattle.unwind.specs.Sizes.{HopsSize, sizesBoth}
 use Rattle.unwind.specs.Copies.{copyNumber, hopsFrom, hopsIf, copyHops, SumSize}
 use Rattle.unwind.specs.HopWords.{HopsHeld, HopsFit, ReturnsWithin}
 use Rattle.unwind.specs.Members.{NodeSets, NodesSets}
-use Rattle.unwind.proofs.Lists.{keep-mem, among-mem}
-use Rattle.unwind.proofs.Instance.{blocks-lt}
+use Rattle.addition.proofs.Lists.{keep-mem, among-mem}
+use Rattle.addition.proofs.Instance.{blocks-lt}
 use Rattle.unwind.proofs.SizeLaws.{Summed, summed-none, summed-more}
 use Rattle.unwind.proofs.SlotLaws.{set-run}
 use Rattle.unwind.proofs.PlaceLaws.{rank-most}

@@ -25,11 +25,11 @@ use Rattle.graph.proofs.FoldLaws.{length-table, getD-table}
 use Rattle.graph.proofs.CheckLaws.{checks-same}
 use Rattle.unwind.specs.declared.tries.store.NodeRecord.{NodeRecord}
 use Rattle.unwind.specs.declared.tries.store.Branch.{Branch}
-use Rattle.unwind.specs.Order.{Tagged, tagged}
+use Rattle.addition.specs.Order.{Tagged, tagged}
 use Rattle.unwind.specs.Nodes.{branchIn, branches, stepIn, pathRecord, funcletIn, endAt, recordIn, nodeIn, nodesIn}
-use Rattle.unwind.specs.Trie.{nodeAt}
+use Rattle.addition.specs.Trie.{nodeAt}
 use Rattle.unwind.specs.Placed.{funcletAt}
-use Rattle.unwind.specs.Add.{leadCheck, funcletCheck, endCheck, nodeCheck}
+use Rattle.addition.specs.Add.{leadCheck, funcletCheck, endCheck, nodeCheck}
 use Rattle.unwind.proofs.TrieNodes.{node-of}
 
 -- f of an element that stands in the list, whatever the defaults

@@ -10,8 +10,8 @@ use Rattle.image.specs.Refusal.{Refusal, Check, clear}
 use Rattle.image.specs.Deal.{UnwindRoute}
 use Rattle.graph.specs.Graph.{Graph}
 use Rattle.graph.specs.Fold.{checks}
-use Rattle.unwind.specs.Trie.{nodeAt, tries}
-use Rattle.unwind.specs.Add.{routeCheck, nodeCheck, addition, sizeCheck, Outcome, added, outcome, addRoutesTo}
+use Rattle.addition.specs.Trie.{nodeAt, tries}
+use Rattle.addition.specs.Add.{routeCheck, nodeCheck, addition, sizeCheck, Outcome, added, outcome, addRoutesTo}
 
 module _ (g : Graph) (rs : List UnwindRoute) where
   pub first-refused : (r : Refusal) → checks (routeCheck g rs) (length rs) ≡ Check.refused r → addRoutesTo g rs ≡ Outcome.refused r

@@ -30,15 +30,15 @@ use Rattle.graph.specs.WellFormed.{isBlock, edgeEndsExist, isBuilt}
 use Rattle.graph.proofs.FoldLaws.{decided, some-front}
 use Rattle.graph.proofs.BlockLaws.{member-below, member-none, member-including, member-excluding, length-including, length-excluding, size-excluding}
 use Rattle.graph.proofs.SearchLaws as search-laws
-use Rattle.unwind.specs.Lists.{keep, isEmpty}
-use Rattle.unwind.specs.Blocks.{firstOf}
-use Rattle.unwind.specs.Part.{funclets, ordinary, outgoing, part, returning}
+use Rattle.addition.specs.Lists.{keep, isEmpty}
+use Rattle.addition.specs.Blocks.{firstOf}
+use Rattle.addition.specs.Part.{funclets, ordinary, outgoing, part, returning}
 use Rattle.unwind.specs.Stands.{Stands, Has}
 use Rattle.unwind.specs.PartSearch.{Barriers, Sources, Returns, followed, bent, bounded}
-use Rattle.unwind.specs.Walk.{_∈_, Built as BuiltBlock, Begins, Other, Reach, start as enter, step as onward}
-use Rattle.unwind.proofs.Lists.{both-ways, and-both, and-true, so-not, not-so, mem-getD, mem-at, at-lt, at-getD, mem-among, among-mem}
-use Rattle.unwind.proofs.Sound.{ends-exist}
-use Rattle.unwind.proofs.Closure.{funclets-mem, barred-other, ordinary-kind, kind-ordinary, mem-funclets, part-reach, reach-part}
+use Rattle.addition.specs.Walk.{_∈_, Built as BuiltBlock, Begins, Other, Reach, start as enter, step as onward}
+use Rattle.addition.proofs.Lists.{both-ways, and-both, and-true, so-not, not-so, mem-getD, mem-at, at-lt, at-getD, mem-among, among-mem}
+use Rattle.addition.proofs.Sound.{ends-exist}
+use Rattle.addition.proofs.Closure.{funclets-mem, barred-other, ordinary-kind, kind-ordinary, mem-funclets, part-reach, reach-part}
 use Rattle.unwind.proofs.Standing.{begins-one}
 
 -- ---- edges of the bounded graph

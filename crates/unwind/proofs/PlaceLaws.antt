@@ -31,20 +31,20 @@ use Rattle.graph.specs.BlockSet as set
 use Rattle.graph.specs.WellFormed.{isBuilt}
 use Rattle.graph.proofs.FoldLaws.{length-table, some-same, some-at, count-le}
 use Rattle.graph.proofs.BlockLaws.{member-none}
-use Rattle.unwind.specs.Lists.{keep, upto, rank}
-use Rattle.unwind.specs.Blocks.{blockIn, blockOf, leading}
+use Rattle.addition.specs.Lists.{keep, upto, rank}
+use Rattle.addition.specs.Blocks.{blockIn, blockOf, leading}
 use Rattle.unwind.specs.Stands.{Has}
-use Rattle.unwind.specs.Part.{funclets, round, rounds, part, returning}
+use Rattle.addition.specs.Part.{funclets, round, rounds, part, returning}
 use Rattle.unwind.specs.PartSearch.{Barriers, PartFrom}
-use Rattle.unwind.specs.Trie.{Node, nodeAt, sameFunclet}
+use Rattle.addition.specs.Trie.{Node, nodeAt, sameFunclet}
 use Rattle.unwind.specs.Nodes.{stepIn, funcletIn, nodeIn, nodesIn}
-use Rattle.unwind.specs.Instance.{entryBlock, partOf, blocksOf, later, copied, base, entryOf, cloneBlocks}
-use Rattle.unwind.specs.Add.{funcletCheck}
-use Rattle.unwind.specs.Walk.{_∈_}
+use Rattle.addition.specs.Instance.{entryBlock, partOf, blocksOf, later, copied, base, entryOf, cloneBlocks}
+use Rattle.addition.specs.Add.{funcletCheck}
+use Rattle.addition.specs.Walk.{_∈_}
 use Rattle.unwind.specs.Placed.{setAt, Slots, SameSizes, Placed, funcletAt, like, NodePlaced, Placing, PlacedAll}
-use Rattle.unwind.proofs.Lists.{or-left, mem-keep, mem-upto, mem-among, flat-suc, flat-le}
-use Rattle.unwind.proofs.Accepted.{lead-begins}
-use Rattle.unwind.proofs.Instance.{place-first, place-later, copied-later}
+use Rattle.addition.proofs.Lists.{or-left, mem-keep, mem-upto, mem-among, flat-suc, flat-le}
+use Rattle.addition.proofs.Accepted.{lead-begins}
+use Rattle.addition.proofs.Instance.{place-first, place-later, copied-later}
 use Rattle.unwind.proofs.Sets.{none-kept, Rises, part-kept, size-has, rank-has}
 use Rattle.unwind.proofs.CloneLaws.{rank-few}
 use Rattle.unwind.proofs.TrieNodes.{length-nodes, node-of}

@@ -21,13 +21,13 @@ use Rattle.graph.specs.BlockSet.{member}
 use Rattle.graph.specs.Fold.{flat}
 use Rattle.graph.proofs.FoldLaws.{length-table, flat-more}
 use Rattle.unwind.specs.declared.tries.store.NodeRecord.{NodeRecord}
-use Rattle.unwind.specs.Order.{put}
+use Rattle.addition.specs.Order.{put}
 use Rattle.unwind.specs.Nodes.{branchIn, recordIn}
 use Rattle.unwind.specs.Sources.{Exit, compareExits}
 use Rattle.unwind.specs.Entries.{exitIn, exitsIn}
 use Rattle.unwind.specs.Gather.{putAll, exitTo, edgeExits, endNumber, endExits, recordExits, Gathers, inSet, NodeFits, routeRecords, nodeRecords, pool, Pooled, Adds}
-use Rattle.unwind.specs.Walk.{_∈_}
-use Rattle.unwind.proofs.Order.{put-mem}
+use Rattle.addition.specs.Walk.{_∈_}
+use Rattle.addition.proofs.Order.{put-mem}
 use Rattle.unwind.proofs.Rising.{rising-length, total-exits}
 use Rattle.unwind.proofs.EntryLaws.{table-mem, mem-table, table-rising}
 use Rattle.unwind.proofs.GatherLaws.{gather-none, gather-both}

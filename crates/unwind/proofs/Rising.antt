@@ -18,13 +18,13 @@ use mathlib.Core.List.{List, [], _∷_, _++_, append-nil, List·Memᴰ·head, Li
 use Prim.Native.Nat.{suc, _≤_, compare, Ordering, Ordering·lt, Ordering·eq, Ordering·gt}
 use native.Mathlib.Omega.{arith}
 use lib.ListN.{length}
-use Rattle.unwind.specs.Lists.{keep}
-use Rattle.unwind.specs.Order.{placed, put, sorted, _and-then_, compareTags}
-use Rattle.unwind.specs.Ways.{HopEnd, block, leave, Leap, compareHopEnds, compareLeaps}
+use Rattle.addition.specs.Lists.{keep}
+use Rattle.addition.specs.Order.{placed, put, sorted, _and-then_, compareTags}
+use Rattle.addition.specs.Ways.{HopEnd, block, leave, Leap, compareHopEnds, compareLeaps}
 use Rattle.unwind.specs.Sources.{Exit, compareExits}
-use Rattle.unwind.specs.Walk.{_∈_}
-use Rattle.unwind.proofs.Lists.{none-in, keep-mem}
-use Rattle.unwind.proofs.Order.{both, join, exact-hop-ends, put-mem}
+use Rattle.addition.specs.Walk.{_∈_}
+use Rattle.addition.proofs.Lists.{none-in, keep-mem}
+use Rattle.addition.proofs.Order.{both, join, exact-hop-ends, put-mem}
 use Rattle.unwind.proofs.TrieOrder.{turned, Total, turn-then, then-trans, total-number, total-tags, put-comm, put-member, not-gt-lt}
 
 module _ {A : Type 0} (c : A → A → Ordering) where

@@ -30,9 +30,9 @@ use Rattle.graph.specs.WellFormed.{Built}
 use Rattle.graph.proofs.CheckLaws.{checks-clear}
 use Rattle.graph.proofs.TableLaws.{start-at, start-has, below-at}
 use Rattle.graph.proofs.RouteLaws.{route-is, length-routes}
-use Rattle.unwind.specs.Blocks.{Leading, leads, inside, leading, within}
+use Rattle.addition.specs.Blocks.{Leading, leads, inside, leading, within}
 use Rattle.unwind.specs.Stands.{Stands, Before, routeOf}
-use Rattle.unwind.specs.Add.{leadFound, leadCheck, rangeLeads, routeCheck}
+use Rattle.addition.specs.Add.{leadFound, leadCheck, rangeLeads, routeCheck}
 use Rattle.unwind.proofs.Standing.{table-rises, block-rises, none-begins, leads-here, leads-none}
 use Rattle.unwind.proofs.GuardLaws.{start-below, below-start}
 

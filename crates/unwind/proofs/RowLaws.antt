@@ -22,10 +22,10 @@ use Rattle.image.specs.Image.{RouteImage, table}
 use Rattle.unwind.specs.declared.tries.store.Branch.{Branch}
 use Rattle.unwind.specs.declared.hops.HopRow.{HopRow}
 use Rattle.unwind.specs.declared.hops.ListRow.{ListRow}
-use Rattle.unwind.specs.Lists.{joined}
-use Rattle.unwind.specs.Order.{_and-then_}
+use Rattle.addition.specs.Lists.{joined}
+use Rattle.addition.specs.Order.{_and-then_}
 use Rattle.unwind.specs.Nodes.{branchIn}
-use Rattle.unwind.specs.Ways.{block, leave, Hop, compareHopEnds, compareLeaps}
+use Rattle.addition.specs.Ways.{block, leave, Hop, compareHopEnds, compareLeaps}
 use Rattle.unwind.specs.Sources.{Exit, leapOf, firstHop, withList, hopsThen, hopsOn}
 use Rattle.unwind.specs.Entries.{endIn, exitIn, exitsIn}
 use Rattle.unwind.specs.HopWords.{hopRow, Rows, endFrom, tagsFrom, rowHop, rowHops, withHop, withRun, wider, widened, withWider, endsAt, hopTo, lastLeaps, runOf, rowsThen, rowsOn, Consecutive, InOrder}

@@ -23,12 +23,12 @@ use Rattle.graph.specs.Fold.{count, among}
 use Rattle.graph.specs.BlockSet.{member, sizeOf}
 use Rattle.graph.specs.WellFormed.{isBuilt}
 use Rattle.graph.proofs.FoldLaws.{decided, among-append, count-yes, count-no, count-same, count-none, count-add}
-use Rattle.unwind.specs.Lists.{keep, upto, rank}
-use Rattle.unwind.specs.Blocks.{builtBlocks, firstOf, within, keepsEdge, guarded}
-use Rattle.unwind.specs.Part.{onward, round, rounds, part, returning}
+use Rattle.addition.specs.Lists.{keep, upto, rank}
+use Rattle.addition.specs.Blocks.{builtBlocks, firstOf, within, keepsEdge, guarded}
+use Rattle.addition.specs.Part.{onward, round, rounds, part, returning}
 use Rattle.unwind.specs.Stands.{Has}
 use Rattle.unwind.specs.PartSearch.{Returns}
-use Rattle.unwind.proofs.Lists.{and-both, and-true, both-ways, mem-keep, keep-mem, mem-among, among-mem}
+use Rattle.addition.proofs.Lists.{and-both, and-true, both-ways, mem-keep, keep-mem, mem-among, among-mem}
 
 module _ {A : Type 0} where
   pub keep-append : (f : A → Bool) (l m : List A) → keep f (l ++ m) ≡ keep f l ++ keep f m

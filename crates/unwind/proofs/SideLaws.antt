@@ -20,7 +20,7 @@ use Rattle.image.specs.Deal.{propagate, resume, endOf}
 use Rattle.image.specs.declared.record.Path.{Path}
 use Rattle.graph.specs.Graph.{Graph}
 use Rattle.graph.proofs.RouteLaws.{route-is}
-use Rattle.unwind.specs.Blocks.{blockIn, blockOf, leading}
+use Rattle.addition.specs.Blocks.{blockIn, blockOf, leading}
 use Rattle.unwind.specs.Stands.{Guards}
 use Rattle.unwind.specs.Nodes.{branchIn, pathRecord}
 use Rattle.unwind.specs.Placed.{SetPut}

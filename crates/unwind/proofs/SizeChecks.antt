@@ -24,18 +24,18 @@ use Rattle.graph.specs.Graph.{Graph, block}
 use Rattle.graph.specs.Fold.{flat}
 use Rattle.unwind.specs.declared.emit.count.Sizes.{Sizes}
 use Rattle.unwind.specs.declared.tries.store.Counts.{Counts}
-use Rattle.unwind.specs.Lists.{joined}
-use Rattle.unwind.specs.Blocks.{firstOf, lastOf}
-use Rattle.unwind.specs.Part.{funclets}
-use Rattle.unwind.specs.Trie.{Node, tries}
+use Rattle.addition.specs.Lists.{joined}
+use Rattle.addition.specs.Blocks.{firstOf, lastOf}
+use Rattle.addition.specs.Part.{funclets}
+use Rattle.addition.specs.Trie.{Node, tries}
 use Rattle.unwind.specs.Routed.{TriesIn}
-use Rattle.unwind.specs.Instance.{copied, cloneBlocks, cloneEdges}
+use Rattle.addition.specs.Instance.{copied, cloneBlocks, cloneEdges}
 use Rattle.unwind.specs.Placed.{Placed, PlacedAll}
-use Rattle.unwind.specs.Ways.{HopEnd, block as toBlock, leave, Way, Leap, leap, ways, hopsOf, routeEdge, edgeTo, routeEdges}
+use Rattle.addition.specs.Ways.{HopEnd, block as toBlock, leave, Way, Leap, leap, ways, hopsOf, routeEdge, edgeTo, routeEdges}
 use Rattle.unwind.specs.Sizes.{HopsSize}
 use Rattle.unwind.specs.Copies.{Bounded}
 use Rattle.unwind.specs.HopWords.{HopsFit}
-use Rattle.unwind.specs.Add.{extended, addition, sizeCheck}
+use Rattle.addition.specs.Add.{extended, addition, sizeCheck}
 use Rattle.unwind.proofs.EdgeNumber.{edges-number}
 
 -- ---- route edges

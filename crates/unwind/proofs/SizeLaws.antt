@@ -17,10 +17,10 @@ use Rattle.image.specs.Image.{RouteImage, table}
 use Rattle.graph.specs.Fold.{flat}
 use Rattle.graph.proofs.FoldLaws.{flat-more}
 use Rattle.unwind.specs.declared.emit.count.Sizes.{Sizes}
-use Rattle.unwind.specs.Lists.{keep, joined}
-use Rattle.unwind.specs.Order.{_and-then_}
+use Rattle.addition.specs.Lists.{keep, joined}
+use Rattle.addition.specs.Order.{_and-then_}
 use Rattle.unwind.specs.Nodes.{branchIn}
-use Rattle.unwind.specs.Ways.{block, leave, Hop, Leap, compareLeaps}
+use Rattle.addition.specs.Ways.{block, leave, Hop, Leap, compareLeaps}
 use Rattle.unwind.specs.Sources.{Exit, hopsThen, hopsOn, toBlock}
 use Rattle.unwind.specs.Entries.{endIn, exitIn, exitsIn}
 use Rattle.unwind.specs.Sizes.{HopsSize, sizesThen, sizesBoth}

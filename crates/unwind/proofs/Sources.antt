@@ -19,13 +19,13 @@ use lib.Dec.{isEq}
 use lib.ListN.{length, length-append}
 use lib.Seq.{append-snoc}
 use Rattle.graph.specs.Fold.{flat}
-use Rattle.unwind.specs.Lists.{keep, joined}
-use Rattle.unwind.specs.Order.{compareTags, put, placed, sorted}
-use Rattle.unwind.specs.Ways.{Hop, Way, Leap, leap, compareHopEnds, compareLeaps, listsOf, hopsOf}
+use Rattle.addition.specs.Lists.{keep, joined}
+use Rattle.addition.specs.Order.{compareTags, put, placed, sorted}
+use Rattle.addition.specs.Ways.{Hop, Way, Leap, leap, compareHopEnds, compareLeaps, listsOf, hopsOf}
 use Rattle.unwind.specs.Sources.{Exit, exit, compareExits, isFrom, exitsAt, leapOf, firstHop, withList, hopsThen, hopsOn}
-use Rattle.unwind.specs.Walk.{_∈_}
-use Rattle.unwind.proofs.Lists.{none-in, mem-keep, keep-mem, mem-joined, joined-mem, mem-map, map-mem, mem-flat, flat-mem}
-use Rattle.unwind.proofs.Order.{exact-leaps, mem-sorted, sorted-mem}
+use Rattle.addition.specs.Walk.{_∈_}
+use Rattle.addition.proofs.Lists.{none-in, mem-keep, keep-mem, mem-joined, joined-mem, mem-map, map-mem, mem-flat, flat-mem}
+use Rattle.addition.proofs.Order.{exact-leaps, mem-sorted, sorted-mem}
 use Rattle.unwind.proofs.TrieKeys.{joined-append}
 use Rattle.unwind.proofs.TrieOrder.{turned, then-lt, lt-then, number-lt, eq-same, sorted-behind, total-tags}
 use Rattle.unwind.proofs.Rising.{Rising, rising-join, rising-less, rising-sorted, sorted-same, rising-is, total-leaps, total-exits}

@@ -38,13 +38,13 @@ use Rattle.graph.proofs.SectionLaws.{size-most}
 use Rattle.graph.proofs.RecordLaws.{entry-count}
 use Rattle.graph.proofs.RangeLaws.{rising}
 use Rattle.graph.proofs.RuleLaws as rule
-use Rattle.unwind.specs.Lists.{keep, upto, head}
-use Rattle.unwind.specs.Blocks.{Leading, leads, inside, absent, builtBlocks, firstOf, leadingBy, leading}
+use Rattle.addition.specs.Lists.{keep, upto, head}
+use Rattle.addition.specs.Blocks.{Leading, leads, inside, absent, builtBlocks, firstOf, leadingBy, leading}
 use Rattle.unwind.specs.Stands.{Stands, Before}
-use Rattle.unwind.specs.Walk.{_∈_, Built as BuiltBlock, Begins}
-use Rattle.unwind.proofs.Lists.{and-both, or-either, none-in, keep-mem}
-use Rattle.unwind.proofs.Sound.{all-at}
-use Rattle.unwind.proofs.Accepted.{built-mem, mem-built}
+use Rattle.addition.specs.Walk.{_∈_, Built as BuiltBlock, Begins}
+use Rattle.addition.proofs.Lists.{and-both, or-either, none-in, keep-mem}
+use Rattle.addition.proofs.Sound.{all-at}
+use Rattle.addition.proofs.Accepted.{built-mem, mem-built}
 
 pub stands-of : (h : Held) → wellFormed h ≡ true → Stands (h .graph)
 stands-of h e =

@@ -31,12 +31,12 @@ use Rattle.graph.proofs.FoldLaws.{flat-more}
 use Rattle.graph.proofs.BlockLaws.{member-excluding, length-excluding}
 use Rattle.graph.proofs.AddingLaws.{added-none, added-then, edge-added}
 use Rattle.graph.proofs.LaidLaws.{blocks-none, blocks-then, block-one}
-use Rattle.unwind.specs.Lists.{joined, upto}
-use Rattle.unwind.specs.Part.{outgoing}
+use Rattle.addition.specs.Lists.{joined, upto}
+use Rattle.addition.specs.Part.{outgoing}
 use Rattle.unwind.specs.Placed.{setAt}
-use Rattle.unwind.specs.Walk.{_∈_}
+use Rattle.addition.specs.Walk.{_∈_}
 use Rattle.unwind.specs.Clones.{listOf, copiesIn, copyOf, blockCopies, edgeCopies, firstEdges, LinkedTo}
-use Rattle.unwind.proofs.Lists.{and-both, keep-mem}
+use Rattle.addition.proofs.Lists.{and-both, keep-mem}
 use Rattle.unwind.proofs.ChainLaws.{chain, OnChain, chain-start, chain-next, chain-none, list-none, list-front}
 use Rattle.unwind.proofs.CloneLaws.{copies-none, copies-some, none-next, some-next}
 

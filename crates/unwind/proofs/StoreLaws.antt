@@ -39,22 +39,22 @@ use Rattle.graph.specs.Search as links
 use Rattle.unwind.specs.declared.add.AddedRoutes.the-variants as answers
 use Rattle.unwind.specs.declared.emit.count.Sizes.{Sizes}
 use Rattle.unwind.specs.declared.tries.store.Counts.{Counts}
-use Rattle.unwind.specs.Lists.{joined}
-use Rattle.unwind.specs.Part.{funclets}
-use Rattle.unwind.specs.Trie.{Node, tries}
+use Rattle.addition.specs.Lists.{joined}
+use Rattle.addition.specs.Part.{funclets}
+use Rattle.addition.specs.Trie.{Node, tries}
 use Rattle.unwind.specs.Routed.{TriesIn}
-use Rattle.unwind.specs.Instance.{copied, cloneBlocks, cloneEdges}
+use Rattle.addition.specs.Instance.{copied, cloneBlocks, cloneEdges}
 use Rattle.unwind.specs.Clones.{copiesIn, blockCopies, edgeCopies, SetsIn}
-use Rattle.unwind.specs.Ways.{ways, hopsOf, routeEdges}
+use Rattle.addition.specs.Ways.{ways, hopsOf, routeEdges}
 use Rattle.unwind.specs.Sizes.{HopsSize}
 use Rattle.unwind.specs.Lent.{Leads, Sides, PartsIn, Roomy}
 use Rattle.unwind.specs.Copies.{BasesFew, Bounded}
 use Rattle.unwind.specs.HopWords.{hopsIn, HopsLaid, HopsFit}
 use Rattle.unwind.specs.Wanted.{lentWays, RunsFit}
-use Rattle.unwind.specs.Add.{extended, Addition, addition, sizeCheck, added, outcome}
+use Rattle.addition.specs.Add.{extended, Addition, addition, sizeCheck, added, outcome}
 use Rattle.unwind.specs.Answers.{Sized}
 use Rattle.unwind.specs.Frames.{AtHand}
-use Rattle.unwind.proofs.Lists.{and-both}
+use Rattle.addition.proofs.Lists.{and-both}
 use Rattle.unwind.proofs.Standing.{stands-of}
 use Rattle.unwind.proofs.TrieNodes.{length-nodes}
 use Rattle.unwind.proofs.ClonesAre.{sets-in, blocks-are, edges-are}

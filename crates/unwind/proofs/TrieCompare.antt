@@ -18,7 +18,7 @@ use lib.Dec.{eqb}
 use Rattle.image.specs.Image.{RouteImage}
 use Rattle.image.specs.Deal.{handler, propagate, resume, endOf}
 use Rattle.image.specs.declared.record.Path.{Path}
-use Rattle.unwind.specs.Order.{Tagged, _and-then_, compareTags, compareEnds, compareTagged}
+use Rattle.addition.specs.Order.{Tagged, _and-then_, compareTags, compareEnds, compareTagged}
 use Rattle.unwind.specs.declared.tries.store.Branch.{Branch}
 use Rattle.unwind.specs.declared.tries.compare.Kind.{Kind}
 use Rattle.unwind.specs.declared.tries.compare.Kind.the-variants.{Edges, Ends}

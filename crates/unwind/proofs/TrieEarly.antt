@@ -14,11 +14,11 @@ use Rattle.image.specs.Image.{RouteImage}
 use Rattle.image.specs.Deal.{UnwindStep, funclet, call, stepOf}
 use Rattle.unwind.specs.declared.tries.store.NodeRecord.{NodeRecord}
 use Rattle.unwind.specs.declared.tries.store.Branch.{Branch}
-use Rattle.unwind.specs.Order.{compareTagged, compareEnds, same}
-use Rattle.unwind.specs.Trie.{sameFunclet, sameNode}
+use Rattle.addition.specs.Order.{compareTagged, compareEnds, same}
+use Rattle.addition.specs.Trie.{sameFunclet, sameNode}
 use Rattle.unwind.specs.Nodes.{stepIn, branches, funcletIn, edgeOf, endAt, nodeIn}
 use Rattle.unwind.specs.Interning.{sameStep, sameSteps}
-use Rattle.unwind.proofs.Lists.{and-true}
+use Rattle.addition.proofs.Lists.{and-true}
 use Rattle.unwind.proofs.TrieRuns.{length-branches}
 use Rattle.unwind.proofs.TrieNodes.{same-size}
 

@@ -10,11 +10,11 @@ use Prim.Native.Nat.{ℕ, zero, suc, _-_, _≤_, _<_}
 use native.Mathlib.Omega.{arith}
 use lib.ListN.{length, length-append}
 use Rattle.image.specs.Deal.{funclet, call, UnwindPath}
-use Rattle.unwind.specs.Order.{Tagged}
-use Rattle.unwind.specs.Trie.{Node, Interned, groups, rest, create, Children, internEach, nodeOf, intern, longest}
-use Rattle.unwind.specs.Walk.{_∈_}
+use Rattle.addition.specs.Order.{Tagged}
+use Rattle.addition.specs.Trie.{Node, Interned, groups, rest, create, Children, internEach, nodeOf, intern, longest}
+use Rattle.addition.specs.Walk.{_∈_}
 use Rattle.unwind.specs.Interns.{interned}
-use Rattle.unwind.proofs.Paths.{rest-mem, groups-mem}
+use Rattle.addition.proofs.Paths.{rest-mem, groups-mem}
 
 pub longest-short : (ps : List UnwindPath) (p : UnwindPath) → p ∈ ps → length (p .steps) ≤ longest ps
 unfolding longest

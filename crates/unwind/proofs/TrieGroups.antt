@@ -19,17 +19,17 @@ use Rattle.graph.specs.Route.{pathIn}
 use Rattle.graph.proofs.FoldLaws.{flat-same}
 use Rattle.unwind.specs.declared.tries.paths.Group.{Group}
 use Rattle.unwind.specs.declared.tries.keys.Key.{Key}
-use Rattle.unwind.specs.Lists.{joined}
-use Rattle.unwind.specs.Order.{Tagged, tagged, _and-then_, compareTags, compareTagged}
-use Rattle.unwind.specs.Trie.{Cut, over, enters, behind, cut, endOn, groups, restOn, rest}
-use Rattle.unwind.specs.Walk.{_∈_}
+use Rattle.addition.specs.Lists.{joined}
+use Rattle.addition.specs.Order.{Tagged, tagged, _and-then_, compareTags, compareTagged}
+use Rattle.addition.specs.Trie.{Cut, over, enters, behind, cut, endOn, groups, restOn, rest}
+use Rattle.addition.specs.Walk.{_∈_}
 use Rattle.unwind.specs.Interning.{isLt, after, sameStep, strip, leftWith, stepsIn, leftAt, pathsOf}
 use Rattle.unwind.specs.Keys.{keySteps, keysOf, keyIn, Stands}
 use Rattle.unwind.specs.Laid.{endsList}
 use Rattle.unwind.specs.Interns.{weight, groupBehind}
-use Rattle.unwind.proofs.Lists.{none-in}
-use Rattle.unwind.proofs.Order.{mem-sorted}
-use Rattle.unwind.proofs.Paths.{exact-key, enters-path, groups-mem}
+use Rattle.addition.proofs.Lists.{none-in}
+use Rattle.addition.proofs.Order.{mem-sorted}
+use Rattle.addition.proofs.Paths.{exact-key, enters-path, groups-mem}
 use Rattle.unwind.proofs.TrieOrder.{total-key, self-eq, eq-same, is-lt}
 use Rattle.unwind.proofs.TriePaths.{steps-append}
 use Rattle.unwind.proofs.TrieKeys.{joined-flat, joined-one}

@@ -16,7 +16,7 @@ use Rattle.unwind.specs.declared.tries.store.Counts.{Counts}
 use Rattle.unwind.specs.declared.tries.paths.Group.{Group}
 use Rattle.unwind.specs.declared.tries.keys.Key.{Key}
 use Rattle.unwind.specs.declared.tries.nodes.Interned.{Interned}
-use Rattle.unwind.specs.Trie.{Node, create, nodeOf}
+use Rattle.addition.specs.Trie.{Node, create, nodeOf}
 use Rattle.unwind.specs.Nodes.{branches, funcletIn, edgeOf, nodeIn, nodesIn, Stored}
 use Rattle.unwind.specs.Interning.{pathsOf}
 use Rattle.unwind.specs.Keys.{keyIn, Stands}

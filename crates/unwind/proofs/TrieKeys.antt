@@ -26,8 +26,8 @@ use Rattle.unwind.specs.declared.tries.paths.Left.the-variants.{Steps, N
 use Rattle.unwind.specs.declared.tries.paths.CutAt.the-variants.{Over, Enters}
 use Rattle.unwind.specs.declared.tries.keys.NextKey.{NextKey}
 use Rattle.unwind.specs.declared.tries.keys.NextKey.the-variants.{At, Nothing as NoKey}
-use Rattle.unwind.specs.Lists.{joined}
-use Rattle.unwind.specs.Trie.{Cut, over, cut, groupOn}
+use Rattle.addition.specs.Lists.{joined}
+use Rattle.addition.specs.Trie.{Cut, over, cut, groupOn}
 use Rattle.unwind.specs.Nodes.{tagsIn}
 use Rattle.unwind.specs.Interning.{isLt, after, before, nearer, nearest, strip, leftWith, stepsIn, leftAt, pathsOf, leftSteps, LeftOf, cutOf, Cuts}
 use Rattle.unwind.specs.Keys.{KeySmall, keysOf, keyIn, keyOf, KeyIn, KeyOf}

@@ -22,9 +22,9 @@ use Rattle.unwind.specs.declared.tries.paths.Group.{Group}
 use Rattle.unwind.specs.declared.tries.paths.Left.the-variants.{Steps, Nothing}
 use Rattle.unwind.specs.declared.tries.paths.CutAt.the-variants.{Over, Enters}
 use Rattle.unwind.specs.declared.tries.lay.Ending.the-variants.{At}
-use Rattle.unwind.specs.Lists.{joined}
-use Rattle.unwind.specs.Order.{Tagged, compareTagged, compareEnds, sorted}
-use Rattle.unwind.specs.Trie.{Cut, over, cut, endOn, endsOf}
+use Rattle.addition.specs.Lists.{joined}
+use Rattle.addition.specs.Order.{Tagged, compareTagged, compareEnds, sorted}
+use Rattle.addition.specs.Trie.{Cut, over, cut, endOn, endsOf}
 use Rattle.unwind.specs.Nodes.{tagsIn, branchIn, branches, edgeOf, endAt}
 use Rattle.unwind.specs.Interning.{stepsIn, leftAt, pathsOf, LeftOf, cutOf, Cuts}
 use Rattle.unwind.specs.Runs.{RunPut}

@@ -21,8 +21,8 @@ use Rattle.image.specs.Image.{RouteImage, table}
 use Rattle.graph.proofs.FoldLaws.{length-table, getD-table, table-same}
 use Rattle.unwind.specs.declared.tries.store.NodeRecord.{NodeRecord}
 use Rattle.unwind.specs.declared.tries.store.Counts.{Counts}
-use Rattle.unwind.specs.Order.{same}
-use Rattle.unwind.specs.Trie.{Node, sameFunclet, sameNode, placeOf, created, create}
+use Rattle.addition.specs.Order.{same}
+use Rattle.addition.specs.Trie.{Node, sameFunclet, sameNode, placeOf, created, create}
 use Rattle.unwind.specs.Nodes.{stepIn, funcletIn, recordIn, branchIn, edgeOf, endAt, nodeIn, nodesIn, Stored, NodePut}
 use Rattle.unwind.specs.Kept.{Behind, Kept}
 use Rattle.unwind.proofs.TrieRuns.{branches-same}

@@ -17,12 +17,12 @@ use native.Mathlib.Omega.{arith}
 use borrow.Author.Tests.{eq-eqb, eqb-true, leb-true, leb-false}
 use lib.Dec.{isEq, isLe}
 use Rattle.image.specs.Deal.{UnwindEnd, handler, propagate, resume}
-use Rattle.unwind.specs.Lists.{keep}
-use Rattle.unwind.specs.Order.{placed, put, sorted, _and-then_, compareTags, compareEnds, compareTagged}
+use Rattle.addition.specs.Lists.{keep}
+use Rattle.addition.specs.Order.{placed, put, sorted, _and-then_, compareTags, compareEnds, compareTagged}
 use Rattle.unwind.specs.Interning.{isLt, after, before, nearer, nearest}
-use Rattle.unwind.specs.Walk.{_∈_}
-use Rattle.unwind.proofs.Lists.{mem-keep, keep-mem}
-use Rattle.unwind.proofs.Order.{Exact, exact-number, exact-tags, exact-ends, exact-tagged}
+use Rattle.addition.specs.Walk.{_∈_}
+use Rattle.addition.proofs.Lists.{mem-keep, keep-mem}
+use Rattle.addition.proofs.Order.{Exact, exact-number, exact-tags, exact-ends, exact-tagged}
 
 abbrev pub turned : Ordering → Ordering
 turned Ordering·lt = Ordering·gt

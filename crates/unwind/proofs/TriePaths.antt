@@ -25,10 +25,10 @@ use Rattle.image.specs.Accepted.{AcceptedRoutes}
 use Rattle.image.specs.declared.record.Step.{Step}
 use Rattle.graph.specs.Route.{stepsBefore, pathIn}
 use Rattle.graph.proofs.RouteLaws.{steps-of, step-of}
-use Rattle.unwind.specs.Trie.{Cut, over, enters, behind, cut}
+use Rattle.addition.specs.Trie.{Cut, over, enters, behind, cut}
 use Rattle.unwind.specs.Nodes.{stepIn, pathRecord, tagsIn}
 use Rattle.unwind.specs.Interning.{sameStep, strip, stepsIn, sameSteps}
-use Rattle.unwind.proofs.Lists.{and-both}
+use Rattle.addition.proofs.Lists.{and-both}
 
 -- ---- two steps by their numbers
 

@@ -11,8 +11,8 @@ use Rattle.image.specs.Image.{RouteImage}
 use Rattle.image.specs.Deal.{UnwindEnd, routesOf}
 use Rattle.unwind.specs.declared.tries.store.NodeRecord.{NodeRecord}
 use Rattle.unwind.specs.declared.tries.store.Counts.{Counts}
-use Rattle.unwind.specs.Order.{Tagged}
-use Rattle.unwind.specs.Trie.{Node, nodeAt, tries}
+use Rattle.addition.specs.Order.{Tagged}
+use Rattle.addition.specs.Trie.{Node, nodeAt, tries}
 use Rattle.unwind.specs.Nodes.{recordIn, branchIn, branches, edgeOf, endAt, nodeIn}
 use Rattle.unwind.specs.Routed.{TriesIn}
 use Rattle.unwind.proofs.TrieRuns.{length-branches, meant-of}

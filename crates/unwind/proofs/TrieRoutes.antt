@@ -24,14 +24,14 @@ use Rattle.graph.proofs.RouteLaws.{length-routes, paths-of, path-of, paths-in, 
 use Rattle.unwind.specs.declared.tries.store.Counts.{Counts}
 use Rattle.unwind.specs.declared.tries.paths.Group.{Group}
 use Rattle.unwind.specs.declared.tries.nodes.Interned.{Interned}
-use Rattle.unwind.specs.Trie.{Node, Interned as Made, Tries, internRoutes, tries}
+use Rattle.addition.specs.Trie.{Node, Interned as Made, Tries, internRoutes, tries}
 use Rattle.unwind.specs.Nodes.{funcletIn, nodesIn, Stored}
 use Rattle.unwind.specs.Interning.{strip, stepsIn, leftAt, pathsOf, Starts}
 use Rattle.unwind.specs.Lower.{Lower}
 use Rattle.unwind.specs.Interns.{interned, weight, funcletOf, Grouped, Room, Interns}
 use Rattle.unwind.specs.Routed.{Scratch, TriesIn}
-use Rattle.unwind.proofs.Lists.{at-lt}
-use Rattle.unwind.proofs.Intern.{Rooted, no-more, rooted, tries-law}
+use Rattle.addition.proofs.Lists.{at-lt}
+use Rattle.addition.proofs.Intern.{Rooted, no-more, rooted, tries-law}
 use Rattle.unwind.proofs.TrieNodes.{length-nodes}
 use Rattle.unwind.proofs.LowerLaws.{lower-none, interned-lower}
 use Rattle.unwind.proofs.TrieIntern.{funclet-none}

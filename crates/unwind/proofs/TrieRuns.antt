@@ -16,7 +16,7 @@ use Rattle.image.specs.Image.{table}
 use Rattle.graph.proofs.FoldLaws.{length-table, getD-table, table-same}
 use Rattle.unwind.specs.declared.tries.store.Branch.{Branch}
 use Rattle.unwind.specs.declared.tries.runs.Spot.the-variants.{At, Present}
-use Rattle.unwind.specs.Order.{placed, put}
+use Rattle.addition.specs.Order.{placed, put}
 use Rattle.unwind.specs.Nodes.{branchIn, branches, BranchPut}
 use Rattle.unwind.specs.Runs.{inserted, SpotOf, Inserted, RunPut}
 

@@ -22,18 +22,18 @@ use Rattle.unwind.specs.declared.tries.keys.Key.{Key}
 use Rattle.unwind.specs.declared.tries.keys.NextKey.{NextKey}
 use Rattle.unwind.specs.declared.tries.keys.NextKey.the-variants.{At, Nothing}
 use Rattle.unwind.specs.declared.tries.nodes.Interned.{Interned}
-use Rattle.unwind.specs.Lists.{keep}
-use Rattle.unwind.specs.Order.{Tagged, tagged, compareTagged, sorted}
-use Rattle.unwind.specs.Trie.{Node, Interned as Made, groups, rest, create, Children, internEach, nodeOf, longest}
-use Rattle.unwind.specs.Walk.{_∈_}
+use Rattle.addition.specs.Lists.{keep}
+use Rattle.addition.specs.Order.{Tagged, tagged, compareTagged, sorted}
+use Rattle.addition.specs.Trie.{Node, Interned as Made, groups, rest, create, Children, internEach, nodeOf, longest}
+use Rattle.addition.specs.Walk.{_∈_}
 use Rattle.unwind.specs.Nodes.{branchIn, branches, tagsIn, funcletIn, edgeOf, nodesIn, Stored, BranchSmall, BranchPut}
 use Rattle.unwind.specs.Interning.{after, nearest, pathsOf}
 use Rattle.unwind.specs.Keys.{keysOf, keyIn, keyOf, KeyIn, NextOf}
 use Rattle.unwind.specs.Laid.{endsList}
 use Rattle.unwind.specs.Lower.{Lower}
 use Rattle.unwind.specs.Interns.{interned, weight, groupBehind, funcletOf, Grouped, Room, Closes, Interns}
-use Rattle.unwind.proofs.Order.{mem-sorted}
-use Rattle.unwind.proofs.Paths.{exact-key}
+use Rattle.addition.proofs.Order.{mem-sorted}
+use Rattle.addition.proofs.Paths.{exact-key}
 use Rattle.unwind.proofs.TrieOrder.{total-key, next-none, next-in, next-some}
 use Rattle.unwind.proofs.TrieRuns.{branches-more, branches-same}
 use Rattle.unwind.proofs.LowerLaws.{interned-lower}

@@ -40,22 +40,22 @@ use Rattle.graph.proofs.AddingLaws.{added-none, added-then, edge-added}
 use Rattle.unwind.specs.declared.tries.store.NodeRecord.{NodeRecord}
 use Rattle.unwind.specs.declared.tries.store.Branch.{Branch}
 use Rattle.unwind.specs.declared.hops.HopRow.{HopRow}
-use Rattle.unwind.specs.Lists.{joined}
-use Rattle.unwind.specs.Order.{sorted}
-use Rattle.unwind.specs.Blocks.{firstOf, lastOf}
+use Rattle.addition.specs.Lists.{joined}
+use Rattle.addition.specs.Order.{sorted}
+use Rattle.addition.specs.Blocks.{firstOf, lastOf}
 use Rattle.unwind.specs.Nodes.{branchIn, recordIn}
 use Rattle.unwind.specs.Placed.{setAt}
 use Rattle.unwind.specs.Clones.{listOf}
-use Rattle.unwind.specs.Walk.{_∈_}
-use Rattle.unwind.specs.Ways.{HopEnd, block, leave, Way, Leap, leap, compareLeaps, listsOf, hopsOf, wanted, routeEdge, edgeTo, routeEdges}
+use Rattle.addition.specs.Walk.{_∈_}
+use Rattle.addition.specs.Ways.{HopEnd, block, leave, Way, Leap, leap, compareLeaps, listsOf, hopsOf, wanted, routeEdge, edgeTo, routeEdges}
 use Rattle.unwind.specs.Sources.{Exit, leapOf}
 use Rattle.unwind.specs.Entries.{endIn}
 use Rattle.unwind.specs.Gather.{exitTo, edgeExits, endNumber, endExits, recordExits}
 use Rattle.unwind.specs.HopWords.{hopRows, hopRow, rowsIn, rowHop, rowHops, hopsIn}
 use Rattle.unwind.specs.Wanted.{wayOf, placeIn, recordWays, guardWays, returnWays, lentWays, RunsFit}
 use Rattle.unwind.specs.Flags.{pair, leapTo, wayTo, rowLeap, leapAt, HopsRise, HopIs, HopStands, WaysStand, Flags, seenWith, SameRuns, EdgesWanted, placeOf, setWays}
-use Rattle.unwind.proofs.Lists.{or-left, none-in, mem-map, mem-joined, mem-flat, mem-getD}
-use Rattle.unwind.proofs.Order.{exact-leaps, mem-sorted}
+use Rattle.addition.proofs.Lists.{or-left, none-in, mem-map, mem-joined, mem-flat, mem-getD}
+use Rattle.addition.proofs.Order.{exact-leaps, mem-sorted}
 use Rattle.unwind.proofs.Rising.{Rising, rising-sorted, total-leaps}
 use Rattle.unwind.proofs.EntryLaws.{table-mem}
 use Rattle.unwind.proofs.HopLaws.{hops-number}

@@ -18,8 +18,8 @@ use Rattle.graph.specs.Answers.{Laid}
 use Rattle.unwind.specs.declared.add.AddedRoutes.{AddedRoutes}
 use Rattle.unwind.specs.declared.add.AddedRoutes.the-variants.{Stored, Refused}
 use Rattle.unwind.specs.HopWords.{hopsIn, HopsUnused}
-use Rattle.unwind.specs.Add.{Addition, addition, Outcome, added, refused, outcome, routeCheck, sizeCheck, addRoutesTo}
-use Rattle.unwind.specs.Demand.{Conditions, Demand3}
+use Rattle.addition.specs.Add.{Addition, addition, Outcome, added, refused, outcome, routeCheck, sizeCheck, addRoutesTo}
+use Rattle.addition.specs.Demand.{Conditions, Demand3}
 
 -- what two arrays of words hold afterwards
 abbrev pub additionIn : RouteImage → List ℕ → List ℕ → Addition

@@ -11,8 +11,8 @@ use Rattle.graph.specs.Graph.{Graph, block}
 use Rattle.graph.specs.Fold.{flat, count}
 use Rattle.graph.specs.BlockSet.{member}
 use Rattle.graph.specs.Search.{Ends, Linked, Roomy}
-use Rattle.unwind.specs.Lists.{keep, joined, upto}
-use Rattle.unwind.specs.Part.{outgoing}
+use Rattle.addition.specs.Lists.{keep, joined, upto}
+use Rattle.addition.specs.Part.{outgoing}
 use Rattle.unwind.specs.Placed.{setAt}
 
 -- the blocks of a set, rising

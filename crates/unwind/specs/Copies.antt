@@ -10,12 +10,12 @@ use Rattle.image.specs.Deal.{UnwindRoute}
 use Rattle.graph.specs.Graph.{Graph}
 use Rattle.graph.specs.Fold.{flat}
 use Rattle.unwind.specs.declared.emit.count.Sizes.{Sizes}
-use Rattle.unwind.specs.Order.{sorted}
-use Rattle.unwind.specs.Part.{funclets}
-use Rattle.unwind.specs.Trie.{tries}
+use Rattle.addition.specs.Order.{sorted}
+use Rattle.addition.specs.Part.{funclets}
+use Rattle.addition.specs.Trie.{tries}
 use Rattle.unwind.specs.Nodes.{recordIn}
-use Rattle.unwind.specs.Instance.{copied}
-use Rattle.unwind.specs.Ways.{Hop}
+use Rattle.addition.specs.Instance.{copied}
+use Rattle.addition.specs.Ways.{Hop}
 use Rattle.unwind.specs.Sources.{compareExits, hopsOn}
 use Rattle.unwind.specs.Gather.{recordExits, inSet}
 use Rattle.unwind.specs.Sizes.{HopsSize}

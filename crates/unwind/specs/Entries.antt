@@ -10,10 +10,10 @@ use Rattle.unwind.specs.declared.tries.compare.Order.{Order}
 use Rattle.unwind.specs.declared.tries.store.Branch.{Branch}
 use Rattle.unwind.specs.declared.emit.entries.Place.{Place}
 use Rattle.unwind.specs.declared.emit.entries.Place.the-variants.{At, Before}
-use Rattle.unwind.specs.Order.{put}
+use Rattle.addition.specs.Order.{put}
 use Rattle.unwind.specs.Nodes.{branchIn, tagsIn}
 use Rattle.unwind.specs.Interning.{orderingOf}
-use Rattle.unwind.specs.Ways.{HopEnd, block, leave}
+use Rattle.addition.specs.Ways.{HopEnd, block, leave}
 use Rattle.unwind.specs.Sources.{Exit, compareExits}
 
 -- a block by its number, and leave by the greatest number, so that ends are ordered as their numbers are

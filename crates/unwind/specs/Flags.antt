@@ -13,11 +13,11 @@ use Rattle.graph.specs.Fold.{count}
 use Rattle.graph.specs.BlockSet.{member}
 use Rattle.graph.specs.Adding.{Added}
 use Rattle.unwind.specs.declared.hops.HopRow.{HopRow}
-use Rattle.unwind.specs.Lists.{joined}
+use Rattle.addition.specs.Lists.{joined}
 use Rattle.unwind.specs.Nodes.{recordIn}
 use Rattle.unwind.specs.Clones.{listOf}
-use Rattle.unwind.specs.Walk.{_∈_}
-use Rattle.unwind.specs.Ways.{block, Way, Leap, leap, compareLeaps, wanted, routeEdges}
+use Rattle.addition.specs.Walk.{_∈_}
+use Rattle.addition.specs.Ways.{block, Way, Leap, leap, compareLeaps, wanted, routeEdges}
 use Rattle.unwind.specs.Entries.{endIn}
 use Rattle.unwind.specs.HopWords.{rowsIn, hopAt, endFrom}
 use Rattle.unwind.specs.Wanted.{recordWays}

@@ -12,8 +12,8 @@ use Rattle.graph.specs.Graph.{Graph, Held}
 use Rattle.graph.specs.Search.{Linked, Roomy}
 use Rattle.graph.specs.WellFormed.{wellFormed}
 use Rattle.unwind.specs.declared.tries.store.Counts.{Counts}
-use Rattle.unwind.specs.Part.{funclets}
-use Rattle.unwind.specs.Trie.{tries}
+use Rattle.addition.specs.Part.{funclets}
+use Rattle.addition.specs.Trie.{tries}
 use Rattle.unwind.specs.Routed.{Scratch, TriesIn}
 use Rattle.unwind.specs.Placed.{Slots, Placed}
 use Rattle.unwind.specs.Lent as lent

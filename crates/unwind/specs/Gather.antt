@@ -9,9 +9,9 @@ use Rattle.image.specs.Image.{RouteImage, table}
 use Rattle.graph.specs.BlockSet.{member}
 use Rattle.unwind.specs.declared.tries.store.NodeRecord.{NodeRecord}
 use Rattle.unwind.specs.declared.tries.store.Branch.{Branch}
-use Rattle.unwind.specs.Order.{put}
+use Rattle.addition.specs.Order.{put}
 use Rattle.unwind.specs.Nodes.{branchIn, recordIn, pathRecord, tagsIn, BranchSmall}
-use Rattle.unwind.specs.Walk.{_∈_}
+use Rattle.addition.specs.Walk.{_∈_}
 use Rattle.unwind.specs.Sources.{Exit, compareExits}
 use Rattle.unwind.specs.Entries.{endIn, exitIn, exitsIn, Ordered}
 

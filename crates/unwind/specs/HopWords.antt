@@ -12,11 +12,11 @@ use Rattle.graph.specs.Section.{Section, records, Beside}
 use Rattle.unwind.specs.declared.tries.store.Branch.{Branch}
 use Rattle.unwind.specs.declared.hops.HopRow.{HopRow}
 use Rattle.unwind.specs.declared.hops.ListRow.{ListRow}
-use Rattle.unwind.specs.Lists.{joined}
-use Rattle.unwind.specs.Walk.{_∈_}
+use Rattle.addition.specs.Lists.{joined}
+use Rattle.addition.specs.Walk.{_∈_}
 use Rattle.unwind.specs.Nodes.{branchIn, tagsIn}
 use Rattle.unwind.specs.Gather.{inSet}
-use Rattle.unwind.specs.Ways.{HopEnd, block, leave, Hop}
+use Rattle.addition.specs.Ways.{HopEnd, block, leave, Hop}
 
 -- ---- where the rows stand
 

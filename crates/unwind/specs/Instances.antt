@@ -6,8 +6,8 @@ use Rattle.image.specs.Image.{RouteImage}
 use Rattle.image.specs.Deal.{routesOf}
 use Rattle.graph.specs.Graph.{Graph}
 use Rattle.unwind.specs.declared.tries.store.Counts.{Counts}
-use Rattle.unwind.specs.Part.{funclets}
-use Rattle.unwind.specs.Trie.{tries}
+use Rattle.addition.specs.Part.{funclets}
+use Rattle.addition.specs.Trie.{tries}
 use Rattle.unwind.specs.Routed.{TriesIn}
 use Rattle.unwind.specs.Placed.{Slots, Placed}
 use Rattle.unwind.specs.Sides.{Lands, GuardsIn}

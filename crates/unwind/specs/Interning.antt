@@ -20,8 +20,8 @@ use Rattle.unwind.specs.declared.tries.paths.Left.{Left}
 use Rattle.unwind.specs.declared.tries.paths.Left.the-variants.{Steps, Nothing}
 use Rattle.unwind.specs.declared.tries.paths.CutAt.{CutAt}
 use Rattle.unwind.specs.declared.tries.paths.CutAt.the-variants.{Over, Enters}
-use Rattle.unwind.specs.Trie.{Cut, over, enters, cut}
-use Rattle.unwind.specs.Order.{Tagged, compareTagged, compareEnds}
+use Rattle.addition.specs.Trie.{Cut, over, enters, cut}
+use Rattle.addition.specs.Order.{Tagged, compareTagged, compareEnds}
 use Rattle.unwind.specs.Nodes.{stepIn, tagsIn, edgeOf, endAt}
 
 abbrev pub orderingOf : Order → Ordering

@@ -13,7 +13,7 @@ use Rattle.unwind.specs.declared.tries.store.Counts.{Counts}
 use Rattle.unwind.specs.declared.tries.paths.Group.{Group}
 use Rattle.unwind.specs.declared.tries.keys.Key.{Key}
 use Rattle.unwind.specs.declared.tries.nodes.Interned.{Interned}
-use Rattle.unwind.specs.Trie.{Node, Interned as Made, create, nodeOf, intern, longest}
+use Rattle.addition.specs.Trie.{Node, Interned as Made, create, nodeOf, intern, longest}
 use Rattle.unwind.specs.Nodes.{branchIn, branches, funcletIn, edgeOf, nodesIn, Stored}
 use Rattle.unwind.specs.Interning.{Starts, GroupIn, pathsOf}
 use Rattle.unwind.specs.Laid.{endsList}

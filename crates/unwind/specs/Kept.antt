@@ -10,7 +10,7 @@ use Rattle.unwind.specs.declared.tries.store.Counts.{Counts}
 use Rattle.unwind.specs.declared.tries.nodes.Place.{Place}
 use Rattle.unwind.specs.declared.tries.nodes.Place.the-variants.{At, Nothing}
 use Rattle.unwind.specs.declared.tries.nodes.Interned.{Interned}
-use Rattle.unwind.specs.Trie.{create}
+use Rattle.addition.specs.Trie.{create}
 use Rattle.unwind.specs.Nodes.{nodeIn, nodesIn, Stored, NodeSmall}
 
 abbrev pub placeIn : Place → Option ℕ

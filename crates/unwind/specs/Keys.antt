@@ -10,9 +10,9 @@ use Rattle.unwind.specs.declared.tries.paths.Group.{Group}
 use Rattle.unwind.specs.declared.tries.keys.Key.{Key}
 use Rattle.unwind.specs.declared.tries.keys.NextKey.{NextKey}
 use Rattle.unwind.specs.declared.tries.keys.NextKey.the-variants.{At, Nothing}
-use Rattle.unwind.specs.Lists.{joined}
-use Rattle.unwind.specs.Order.{Tagged, tagged, compareTagged}
-use Rattle.unwind.specs.Trie.{cut, groupOn}
+use Rattle.addition.specs.Lists.{joined}
+use Rattle.addition.specs.Order.{Tagged, tagged, compareTagged}
+use Rattle.addition.specs.Trie.{cut, groupOn}
 use Rattle.unwind.specs.Nodes.{stepIn, tagsIn}
 use Rattle.unwind.specs.Interning.{nearest, stepsIn, leftAt, pathsOf}
 

@@ -9,9 +9,9 @@ use Rattle.image.specs.Deal.{UnwindEnd, UnwindPath}
 use Rattle.unwind.specs.declared.tries.paths.Group.{Group}
 use Rattle.unwind.specs.declared.tries.lay.Ending.{Ending}
 use Rattle.unwind.specs.declared.tries.lay.Ending.the-variants.{At, Nothing}
-use Rattle.unwind.specs.Lists.{joined}
-use Rattle.unwind.specs.Order.{Tagged, compareTagged, compareEnds, sorted}
-use Rattle.unwind.specs.Trie.{cut, endOn, endsOf}
+use Rattle.addition.specs.Lists.{joined}
+use Rattle.addition.specs.Order.{Tagged, compareTagged, compareEnds, sorted}
+use Rattle.addition.specs.Trie.{cut, endOn, endsOf}
 use Rattle.unwind.specs.Nodes.{branchIn, branches, edgeOf, endAt, BranchSmall}
 use Rattle.unwind.specs.Interning.{leftAt, pathsOf}
 use Rattle.unwind.specs.Keys.{listOf}

@@ -10,14 +10,14 @@ use Rattle.graph.specs.Graph.{Graph}
 use Rattle.graph.specs.Fold.{flat, among}
 use Rattle.graph.specs.Route.{routeAt}
 use Rattle.unwind.specs.declared.tries.store.Counts.{Counts}
-use Rattle.unwind.specs.Lists.{keep}
-use Rattle.unwind.specs.Order.{sorted}
-use Rattle.unwind.specs.Blocks.{blockOf, guarded}
-use Rattle.unwind.specs.Part.{funclets, returning}
-use Rattle.unwind.specs.Trie.{tries}
+use Rattle.addition.specs.Lists.{keep}
+use Rattle.addition.specs.Order.{sorted}
+use Rattle.addition.specs.Blocks.{blockOf, guarded}
+use Rattle.addition.specs.Part.{funclets, returning}
+use Rattle.addition.specs.Trie.{tries}
 use Rattle.unwind.specs.Nodes.{branchIn, pathRecord}
-use Rattle.unwind.specs.Instance.{blocksOf, later, base, entryOf}
-use Rattle.unwind.specs.Ways.{Hop}
+use Rattle.addition.specs.Instance.{blocksOf, later, base, entryOf}
+use Rattle.addition.specs.Ways.{Hop}
 use Rattle.unwind.specs.Sources.{Exit, compareExits, hopsOn}
 use Rattle.unwind.specs.Entries.{exitsIn, Ordered}
 use Rattle.unwind.specs.Gather.{inSet, routeRecords, nodeRecords}

@@ -1,10 +1,5 @@
-pub mod Lists
-pub mod Order
-pub mod Blocks
 pub mod Stands
-pub mod Part
 pub mod PartSearch
-pub mod Trie
 pub mod Nodes
 pub mod Interning
 pub mod Keys
@@ -14,11 +9,9 @@ pub mod Kept
 pub mod Lower
 pub mod Interns
 pub mod Routed
-pub mod Instance
 pub mod Placed
 pub mod Clones
 pub mod Sides
-pub mod Ways
 pub mod Sources
 pub mod Entries
 pub mod Gather
@@ -30,9 +23,6 @@ pub mod AllNodes
 pub mod Wanted
 pub mod Flags
 pub mod Instances
-pub mod Add
-pub mod Walk
-pub mod Demand
 pub mod Answers
 pub mod Frames
 pub mod Members

@@ -2,9 +2,9 @@
 use mathlib.Core.List.{List}
 use Prim.Native.Nat.{ℕ, _+_, _≤_, _<_}
 use lib.ListN.{length}
-use Rattle.unwind.specs.Order.{Tagged}
-use Rattle.unwind.specs.Trie.{Node, nodeAt}
-use Rattle.unwind.specs.Walk.{_∈_}
+use Rattle.addition.specs.Order.{Tagged}
+use Rattle.addition.specs.Trie.{Node, nodeAt}
+use Rattle.addition.specs.Walk.{_∈_}
 use Rattle.unwind.specs.Nodes.{branchIn}
 
 pub record Lower (z : List Node) : Type 0 where

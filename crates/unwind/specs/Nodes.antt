@@ -13,8 +13,8 @@ use Rattle.image.specs.declared.record.Step.{Step}
 use Rattle.unwind.specs.declared.tries.store.NodeRecord.{NodeRecord}
 use Rattle.unwind.specs.declared.tries.store.Branch.{Branch}
 use Rattle.unwind.specs.declared.tries.store.Counts.{Counts}
-use Rattle.unwind.specs.Order.{Tagged, tagged}
-use Rattle.unwind.specs.Trie.{Node}
+use Rattle.addition.specs.Order.{Tagged, tagged}
+use Rattle.addition.specs.Trie.{Node}
 
 -- ---- the numbers
 

@@ -11,10 +11,10 @@ use Rattle.graph.specs.Fold.{among}
 use Rattle.graph.specs.BlockSet.{member, including}
 use Rattle.graph.specs.Search.{seeing}
 use Rattle.graph.specs.WellFormed.{isBuilt}
-use Rattle.unwind.specs.Lists.{keep, isEmpty}
-use Rattle.unwind.specs.Blocks.{Leading, leads, inside, absent, firstOf}
+use Rattle.addition.specs.Lists.{keep, isEmpty}
+use Rattle.addition.specs.Blocks.{Leading, leads, inside, absent, firstOf}
 use Rattle.unwind.specs.Stands.{Has}
-use Rattle.unwind.specs.Part.{funclets, ordinary, outgoing, part, returning}
+use Rattle.addition.specs.Part.{funclets, ordinary, outgoing, part, returning}
 
 -- the built blocks that start a funclet of the routes
 pub record Barriers (g : Graph) (rs : List UnwindRoute) (w : List ℕ) : Type 0 where

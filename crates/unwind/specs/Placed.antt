@@ -12,13 +12,13 @@ use Rattle.image.specs.Deal.{routesOf}
 use Rattle.graph.specs.Graph.{Graph}
 use Rattle.graph.specs.Search.{Linked, Roomy}
 use Rattle.graph.specs.WellFormed.{Built}
-use Rattle.unwind.specs.Lists.{keep}
+use Rattle.addition.specs.Lists.{keep}
 use Rattle.unwind.specs.Stands.{Stands, Has}
-use Rattle.unwind.specs.Part.{funclets, returning}
+use Rattle.addition.specs.Part.{funclets, returning}
 use Rattle.unwind.specs.PartSearch.{Barriers, Sources}
-use Rattle.unwind.specs.Trie.{Node, sameFunclet}
+use Rattle.addition.specs.Trie.{Node, sameFunclet}
 use Rattle.unwind.specs.Nodes.{recordIn, funcletIn, nodesIn}
-use Rattle.unwind.specs.Instance.{blocksOf, later, base, entryOf, cloneBlocks}
+use Rattle.addition.specs.Instance.{blocksOf, later, base, entryOf, cloneBlocks}
 
 -- set i of a slice, sixteen words each
 unfoldable pub setAt : List ℕ → ℕ → List ℕ

@@ -6,7 +6,7 @@ use lib.ListN.{length, getD, take}
 use Rattle.image.specs.Image.{RouteImage}
 use Rattle.image.specs.Deal.{routesOf}
 use Rattle.unwind.specs.declared.tries.store.Counts.{Counts}
-use Rattle.unwind.specs.Trie.{tries}
+use Rattle.addition.specs.Trie.{tries}
 use Rattle.unwind.specs.Nodes.{nodesIn, Stored}
 
 -- there is room for what the routes may want

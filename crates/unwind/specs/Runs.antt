@@ -6,7 +6,7 @@ use lib.ListN.{length, take, drop}
 use Rattle.unwind.specs.declared.tries.store.Branch.{Branch}
 use Rattle.unwind.specs.declared.tries.runs.Spot.{Spot}
 use Rattle.unwind.specs.declared.tries.runs.Spot.the-variants.{At, Present}
-use Rattle.unwind.specs.Order.{put}
+use Rattle.addition.specs.Order.{put}
 use Rattle.unwind.specs.Nodes.{branchIn, branches}
 
 -- x in place j of a list

@@ -7,7 +7,7 @@ use Rattle.image.specs.Image.{RouteImage}
 use Rattle.image.specs.Deal.{UnwindEnd, handler, propagate, resume, endOf, routesOf}
 use Rattle.graph.specs.Graph.{Graph}
 use Rattle.graph.specs.Route.{routeAt}
-use Rattle.unwind.specs.Blocks.{blockOf, guarded}
+use Rattle.addition.specs.Blocks.{blockOf, guarded}
 use Rattle.unwind.specs.Stands.{Has}
 use Rattle.unwind.specs.Nodes.{branchIn, pathRecord}
 use Rattle.unwind.specs.Placed.{setAt}

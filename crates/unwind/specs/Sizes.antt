@@ -7,8 +7,8 @@ use lib.Dec.{eqb}
 use lib.ListN.{length}
 use Rattle.image.specs.Image.{RouteImage}
 use Rattle.unwind.specs.declared.emit.count.Sizes.{Sizes}
-use Rattle.unwind.specs.Lists.{keep, joined}
-use Rattle.unwind.specs.Ways.{Hop}
+use Rattle.addition.specs.Lists.{keep, joined}
+use Rattle.addition.specs.Ways.{Hop}
 use Rattle.unwind.specs.Sources.{hopsOn, toBlock}
 use Rattle.unwind.specs.Entries.{exitsIn}
 

@@ -8,13 +8,13 @@ use Rattle.image.specs.Deal.{UnwindRoute}
 use Rattle.graph.specs.Graph.{Graph}
 use Rattle.graph.specs.Fold.{among}
 use Rattle.graph.specs.Route.{routeAt}
-use Rattle.unwind.specs.Lists.{keep}
-use Rattle.unwind.specs.Order.{compareTags, sorted, _and-then_}
-use Rattle.unwind.specs.Blocks.{guarded}
-use Rattle.unwind.specs.Part.{funclets, returning}
-use Rattle.unwind.specs.Trie.{Node, nodeAt, tries}
-use Rattle.unwind.specs.Instance.{blocksOf, later, entryOf}
-use Rattle.unwind.specs.Ways.{HopEnd, block, leave, Hop, Way, endAt, Leap, leap, compareLeaps}
+use Rattle.addition.specs.Lists.{keep}
+use Rattle.addition.specs.Order.{compareTags, sorted, _and-then_}
+use Rattle.addition.specs.Blocks.{guarded}
+use Rattle.addition.specs.Part.{funclets, returning}
+use Rattle.addition.specs.Trie.{Node, nodeAt, tries}
+use Rattle.addition.specs.Instance.{blocksOf, later, entryOf}
+use Rattle.addition.specs.Ways.{HopEnd, block, leave, Hop, Way, endAt, Leap, leap, compareLeaps}
 
 -- a way without its route
 pub record Exit : Type 0 where

@@ -13,7 +13,7 @@ use Rattle.graph.specs.Search.{Ends}
 use Rattle.graph.specs.WellFormed.{coversTable, copiesRepeat, noneEmpty}
 use Rattle.unwind.specs.declared.blocks.Lead.{Lead}
 use Rattle.unwind.specs.declared.blocks.Lead.the-variants.{Leads, Inside, Absent}
-use Rattle.unwind.specs.Blocks.{Leading, leads, inside, absent, guarded}
+use Rattle.addition.specs.Blocks.{Leading, leads, inside, absent, guarded}
 
 -- what is used of 21
 pub record Stands (g : Graph) : Type 0 where

@@ -10,11 +10,11 @@ use Rattle.graph.specs.Graph.{Graph, block}
 use Rattle.graph.specs.Fold.{flat, count}
 use Rattle.graph.specs.BlockSet.{member}
 use Rattle.unwind.specs.declared.tries.store.NodeRecord.{NodeRecord}
-use Rattle.unwind.specs.Lists.{joined}
+use Rattle.addition.specs.Lists.{joined}
 use Rattle.unwind.specs.Nodes.{recordIn}
 use Rattle.unwind.specs.Placed.{setAt}
 use Rattle.unwind.specs.Clones.{listOf}
-use Rattle.unwind.specs.Ways.{Way}
+use Rattle.addition.specs.Ways.{Way}
 use Rattle.unwind.specs.Sources.{Exit}
 use Rattle.unwind.specs.Gather.{recordExits}
 

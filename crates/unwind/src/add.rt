@@ -23,7 +23,7 @@ ghost use Rattle.image.specs.Accepted.{AcceptedRoutes};
 ghost use Rattle.graph.specs.Words.{heldIn};
 ghost use Rattle.graph.specs.Error.{refusalOf};
 ghost use Rattle.graph.specs.WellFormed.{wellFormed};
-ghost use Rattle.unwind.specs.Add.{addRoutes};
+ghost use Rattle.addition.specs.Add.{addRoutes};
 ghost use Rattle.unwind.specs.Answers.{addAnswer, AddLeaves, Spells, Adds};
 
 pub enum AddedRoutes {

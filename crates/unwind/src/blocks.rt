@@ -11,7 +11,7 @@ ghost use Rattle.graph.specs.Words.{heldIn};
 ghost use Rattle.graph.specs.Table.{below};
 ghost use Rattle.graph.specs.Lookup.{Finds};
 ghost use Rattle.graph.specs.WellFormed.{Built};
-ghost use Rattle.unwind.specs.Blocks.{firstOf, lastOf, leading};
+ghost use Rattle.addition.specs.Blocks.{firstOf, lastOf, leading};
 ghost use Rattle.unwind.specs.Stands.{Stands, Before, Guards, leadingOf};
 ghost use Rattle.unwind.specs.Wanted.{RunsFit};
 

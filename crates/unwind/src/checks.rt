@@ -33,7 +33,7 @@ ghost use Rattle.graph.specs.Route.{stepsBefore};
 ghost use Rattle.graph.specs.Ranges.{Placed};
 ghost use Rattle.graph.specs.WellFormed.{Built};
 ghost use Rattle.unwind.specs.Stands.{Stands, routeOf};
-ghost use Rattle.unwind.specs.Add.{leadCheck, rangeLeads, routeCheck};
+ghost use Rattle.addition.specs.Add.{leadCheck, rangeLeads, routeCheck};
 
 // The first refusal among those of the routes. The scan carries along where a route's paths and their steps start.
 pub fn check_routes(g: &Words, built: usize, s: &[u8], y: RouteLayout) -> Checked

@@ -25,8 +25,8 @@ ghost use Rattle.graph.specs.BlockSet.{member};
 ghost use Rattle.graph.specs.Stored.{Stored};
 ghost use Rattle.graph.specs.Adding.{withBlocks, Added};
 ghost use Rattle.graph.specs.Search.{Ends, Linked, Roomy};
-ghost use Rattle.unwind.specs.Lists.{joined};
-ghost use Rattle.unwind.specs.Part.{outgoing};
+ghost use Rattle.addition.specs.Lists.{joined};
+ghost use Rattle.addition.specs.Part.{outgoing};
 ghost use Rattle.unwind.specs.Clones.{listOf, copyOf, blockCopies, edgeCopies, firstEdges, LinkedTo, SetsIn};
 
 // How many edges the copies of n nodes add.

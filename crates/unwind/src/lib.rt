@@ -1,4 +1,4 @@
-// The unwinding: what an addition of routes gives (specs), and why its hops spell the listed paths (proofs).
+// The unwinding: routes added to a graph, each function against the definition in the crate below.
 pub mod add;
 mod blocks;
 mod checks;

@@ -18,9 +18,9 @@ ghost use Rattle.graph.specs.Error.{checkOf};
 ghost use Rattle.graph.specs.Fold.{checks};
 ghost use Rattle.graph.specs.WellFormed.{Built};
 ghost use Rattle.unwind.specs.Stands.{Stands};
-ghost use Rattle.unwind.specs.Trie.{nodeAt};
+ghost use Rattle.addition.specs.Trie.{nodeAt};
 ghost use Rattle.unwind.specs.Nodes.{branchIn, pathRecord, funcletIn, recordIn, nodeIn, nodesIn};
-ghost use Rattle.unwind.specs.Add.{funcletCheck, endCheck, nodeCheck};
+ghost use Rattle.addition.specs.Add.{funcletCheck, endCheck, nodeCheck};
 
 // The first refusal among those of the n nodes, whatever their edges.
 pub fn check_nodes(

@@ -27,8 +27,8 @@ ghost use Rattle.graph.specs.Graph.{edge};
 ghost use Rattle.graph.specs.Words.{heldIn};
 ghost use Rattle.graph.specs.Search.{Linked, Roomy, Follows};
 ghost use Rattle.graph.specs.WellFormed.{isBuilt, Built};
-ghost use Rattle.unwind.specs.Blocks.{leading};
-ghost use Rattle.unwind.specs.Part.{returning as isReturning};
+ghost use Rattle.addition.specs.Blocks.{leading};
+ghost use Rattle.addition.specs.Part.{returning as isReturning};
 ghost use Rattle.unwind.specs.Stands.{Stands};
 ghost use Rattle.unwind.specs.PartSearch.{Barriers, Sources, Returns, PartFrom, entering, bounded, Takes};
 

@@ -31,8 +31,8 @@ ghost use Rattle.graph.specs.WellFormed.{isBuilt, Built};
 ghost use Rattle.unwind.specs.Stands.{Stands};
 ghost use Rattle.unwind.specs.PartSearch.{PartFrom};
 ghost use Rattle.unwind.specs.Nodes.{funcletIn};
-ghost use Rattle.unwind.specs.Instance.{entryBlock};
-ghost use Rattle.unwind.specs.Add.{funcletCheck};
+ghost use Rattle.addition.specs.Instance.{entryBlock};
+ghost use Rattle.addition.specs.Add.{funcletCheck};
 ghost use Rattle.unwind.specs.Placed.{setAt, Slots, funcletAt, Ready, FirstWith, NodePlaced, Placing, PlacedAll};
 
 // Most blocks of a graph (18).

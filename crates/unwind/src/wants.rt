@@ -35,7 +35,7 @@ ghost use Rattle.graph.specs.Adding.{Added};
 ghost use Rattle.unwind.specs.Interning.{isLt};
 ghost use Rattle.unwind.specs.Nodes.{branchIn, recordIn};
 ghost use Rattle.unwind.specs.Routed.{TriesIn};
-ghost use Rattle.unwind.specs.Ways.{compareLeaps, hopsOf, routeEdge, routeEdges};
+ghost use Rattle.addition.specs.Ways.{compareLeaps, hopsOf, routeEdge, routeEdges};
 ghost use Rattle.unwind.specs.Gather.{edgeExits, endNumber, endExits};
 ghost use Rattle.unwind.specs.HopWords.{hopsIn};
 ghost use Rattle.unwind.specs.Wanted.{wayOf, recordWays, guardWays, returnWays, lentWays, RunsFit};

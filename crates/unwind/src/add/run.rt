@@ -23,7 +23,7 @@ ghost use Rattle.graph.specs.Error.{checkOf};
 ghost use Rattle.graph.specs.Search.{Linked, Roomy};
 ghost use Rattle.unwind.specs.Routed.{TriesIn};
 ghost use Rattle.unwind.specs.Placed.{Slots, funcletAt, PlacedAll};
-ghost use Rattle.unwind.specs.Add.{funcletCheck};
+ghost use Rattle.addition.specs.Add.{funcletCheck};
 ghost use Rattle.unwind.specs.Answers.{Adds, Sized, RoutesChecked};
 ghost use Rattle.unwind.specs.Frames.{Frame, Room, Placements};
 

@@ -28,7 +28,7 @@ ghost use Rattle.graph.specs.Words.{heldIn};
 ghost use Rattle.graph.specs.Error.{checkOf};
 ghost use Rattle.graph.specs.Answers.{Laid};
 ghost use Rattle.unwind.specs.HopWords.{HopsLaid};
-ghost use Rattle.unwind.specs.Add.{addition, sizeCheck};
+ghost use Rattle.addition.specs.Add.{addition, sizeCheck};
 ghost use Rattle.unwind.specs.Answers.{Sized};
 ghost use Rattle.unwind.specs.Frames.{AtHand};
 

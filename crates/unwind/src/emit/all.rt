@@ -19,7 +19,7 @@ ghost use Rattle.graph.specs.Words.{heldIn};
 ghost use Rattle.graph.specs.Fold.{flat};
 ghost use Rattle.unwind.specs.Nodes.{recordIn};
 ghost use Rattle.unwind.specs.Gather.{NodeFits, AllFit};
-ghost use Rattle.unwind.specs.Ways.{ways, hopsOf};
+ghost use Rattle.addition.specs.Ways.{ways, hopsOf};
 ghost use Rattle.unwind.specs.Routed.{TriesIn};
 ghost use Rattle.unwind.specs.Lent.{Leads, Sides, PartsIn, Roomy};
 ghost use Rattle.unwind.specs.Copies.{BasesFew, Bounded, nodeHops};

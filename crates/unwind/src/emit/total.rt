@@ -13,7 +13,7 @@ ghost use Rattle.image.specs.Image.{routesIn};
 ghost use Rattle.image.specs.Deal.{routesOf};
 ghost use Rattle.image.specs.Accepted.{AcceptedRoutes};
 ghost use Rattle.graph.specs.Words.{heldIn};
-ghost use Rattle.unwind.specs.Ways.{ways, hopsOf};
+ghost use Rattle.addition.specs.Ways.{ways, hopsOf};
 ghost use Rattle.unwind.specs.Routed.{TriesIn};
 ghost use Rattle.unwind.specs.Lent.{Leads, Sides, PartsIn, Roomy};
 ghost use Rattle.unwind.specs.Sizes.{HopsSize};

@@ -8,7 +8,7 @@ ghost use Prim.Native.Nat.{_+_, _<_, compare};
 ghost use Rattle.image.specs.Image.{routesIn};
 ghost use Rattle.image.specs.Deal.{endOf};
 ghost use Rattle.image.specs.Accepted.{AcceptedRoutes};
-ghost use Rattle.unwind.specs.Order.{compareTags, compareEnds};
+ghost use Rattle.addition.specs.Order.{compareTags, compareEnds};
 ghost use Rattle.unwind.specs.Nodes.{pathRecord, tagsIn, BranchSmall};
 ghost use Rattle.unwind.specs.Interning.{orderingOf, ordered, meaning};
 

@@ -13,7 +13,7 @@ ghost use Prim.Native.Nat.{_+_, _<_, _≤_, compare};
 ghost use lib.ListN.{length};
 ghost use Rattle.image.specs.Image.{routesIn};
 ghost use Rattle.image.specs.Accepted.{AcceptedRoutes};
-ghost use Rattle.unwind.specs.Order.{compareTagged};
+ghost use Rattle.addition.specs.Order.{compareTagged};
 ghost use Rattle.unwind.specs.Interning.{isLt, after, before, Starts, GroupIn};
 ghost use Rattle.unwind.specs.Keys.{keyIn, keyOf, KeySmall, KeyIn, KeyOf, NearerKey, NextOf};
 

@@ -4,7 +4,7 @@ use borrow.Author.Needs.{needs}
 use Rattle.graph.specs.declared.record.Block.{Block}
 use Rattle.graph.specs.Words.{heldIn}
 use Rattle.graph.specs.Table.{entryAt}
-use Rattle.unwind.specs.Blocks.{firstOf}
+use Rattle.addition.specs.Blocks.{firstOf}
 use Rattle.unwind.proofs.blocks.first_of.Statement.{statement}
 use Rattle.unwind.proofs.blocks.first_of.Tie as tie
 

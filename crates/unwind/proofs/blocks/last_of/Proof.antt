@@ -8,7 +8,7 @@ use Rattle.graph.specs.declared.record.Block.{Block}
 use Rattle.graph.specs.Graph.{block}
 use Rattle.graph.specs.Words.{heldIn}
 use Rattle.graph.specs.Table.{entryAt}
-use Rattle.unwind.specs.Blocks.{lastOf}
+use Rattle.addition.specs.Blocks.{lastOf}
 use Rattle.unwind.proofs.Standing.{table-most}
 use Rattle.unwind.proofs.blocks.last_of.Statement.{statement}
 use Rattle.unwind.proofs.blocks.last_of.Tie as tie

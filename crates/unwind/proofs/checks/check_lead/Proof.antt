@@ -2,7 +2,7 @@
 use mathlib.Core.Path.{_≡_, refl, sym, ap, _∙_}
 use borrow.Author.Needs.{needs}
 use Rattle.unwind.specs.Stands.{leadingOf}
-use Rattle.unwind.specs.Add.{leadFound, leadCheck}
+use Rattle.addition.specs.Add.{leadFound, leadCheck}
 use Rattle.unwind.proofs.checks.check_lead.Statement.{statement}
 use Rattle.unwind.proofs.checks.check_lead.Tie as tie
 

@@ -22,8 +22,8 @@ use Rattle.graph.proofs.CheckLaws.{checks-clear}
 use Rattle.graph.proofs.RecordLaws.{block-most}
 use Rattle.graph.proofs.TableLaws.{below-most}
 use Rattle.unwind.specs.Stands.{Before, routeOf}
-use Rattle.unwind.specs.Add.{rangeLeads}
-use Rattle.unwind.proofs.Lists.{and-both, and-true}
+use Rattle.addition.specs.Add.{rangeLeads}
+use Rattle.addition.proofs.Lists.{and-both, and-true}
 use Rattle.unwind.proofs.Standing.{table-most}
 use Rattle.unwind.proofs.RouteChecks.{lead-before, lead-yes, lead-no, lead-all, begins-yes, begins-no, before-next}
 use Rattle.unwind.proofs.checks.check_leads.Statement.{statement}

@@ -16,7 +16,7 @@ use Rattle.graph.specs.Words.{heldIn}
 use Rattle.graph.specs.Error.{checkOf}
 use Rattle.graph.specs.Route.{pathsBefore, stepsBefore}
 use Rattle.graph.proofs.RouteLaws.{length-routes, paths-in, paths-next}
-use Rattle.unwind.specs.Add.{routeCheck}
+use Rattle.addition.specs.Add.{routeCheck}
 use Rattle.unwind.proofs.checks.check_routes.Statement.{statement}
 use Rattle.unwind.proofs.checks.check_routes.Tie as tie
 

@@ -8,8 +8,8 @@ use Rattle.graph.specs.Words.{heldIn}
 use Rattle.graph.specs.BlockSet.{sizeOf}
 use Rattle.graph.proofs.RecordLaws.{edge-most}
 use Rattle.graph.proofs.BlockLaws.{length-excluding, size-excluding}
-use Rattle.unwind.specs.Lists.{joined}
-use Rattle.unwind.specs.Part.{outgoing}
+use Rattle.addition.specs.Lists.{joined}
+use Rattle.addition.specs.Part.{outgoing}
 use Rattle.unwind.specs.Clones.{listOf}
 use Rattle.unwind.proofs.CloneLaws.{set-front, set-most, joined-none}
 use Rattle.unwind.proofs.clones.edges_out.Statement.{statement}

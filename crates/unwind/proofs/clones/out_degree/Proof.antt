@@ -6,7 +6,7 @@ use borrow.Author.Needs.{needs}
 use lib.ListN.{length}
 use Rattle.graph.specs.Words.{heldIn}
 use Rattle.graph.proofs.RecordLaws.{edge-most}
-use Rattle.unwind.specs.Part.{outgoing}
+use Rattle.addition.specs.Part.{outgoing}
 use Rattle.unwind.proofs.ChainLaws.{chain, OnChain, chain-start, chain-next, chain-none}
 use Rattle.unwind.proofs.CloneLaws.{out-most}
 use Rattle.unwind.proofs.clones.out_degree.Statement.{statement}

@@ -9,9 +9,9 @@ use Rattle.image.specs.Image.{routesIn}
 use Rattle.image.proofs.Checks.{checks-more, checks-stop}
 use Rattle.graph.specs.Words.{heldIn}
 use Rattle.graph.specs.Error.{checkOf}
-use Rattle.unwind.specs.Trie.{nodeAt}
+use Rattle.addition.specs.Trie.{nodeAt}
 use Rattle.unwind.specs.Nodes.{nodesIn}
-use Rattle.unwind.specs.Add.{nodeCheck}
+use Rattle.addition.specs.Add.{nodeCheck}
 use Rattle.unwind.proofs.NodeChecks.{node-check}
 use Rattle.unwind.proofs.node_checks.check_nodes.Statement.{statement}
 use Rattle.unwind.proofs.node_checks.check_nodes.Tie as tie

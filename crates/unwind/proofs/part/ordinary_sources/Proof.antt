@@ -10,7 +10,7 @@ use Rattle.graph.specs.Graph.{edge}
 use Rattle.graph.specs.Words.{heldIn}
 use Rattle.graph.proofs.RecordLaws.{block-most, edge-most}
 use Rattle.graph.proofs.SearchLaws.{source-lt}
-use Rattle.unwind.specs.Part.{ordinary}
+use Rattle.addition.specs.Part.{ordinary}
 use Rattle.unwind.proofs.PartLaws.{Leaves, leaves-none, leaves-put, leaves-skip, sources-are}
 use Rattle.unwind.proofs.part.ordinary_sources.Statement.{statement}
 use Rattle.unwind.proofs.part.ordinary_sources.Tie as tie

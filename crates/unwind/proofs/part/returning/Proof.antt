@@ -6,9 +6,9 @@ use lib.Dec.{eqb}
 use borrow.Author.Tests.{eq-eqb, ne-eqb}
 use Rattle.graph.specs.declared.record.TableEntry.{TableEntry}
 use Rattle.graph.specs.Words.{heldIn}
-use Rattle.unwind.specs.Lists.{keep, isEmpty}
-use Rattle.unwind.specs.Blocks.{lastOf}
-use Rattle.unwind.specs.Part.{ordinary, outgoing, returning}
+use Rattle.addition.specs.Lists.{keep, isEmpty}
+use Rattle.addition.specs.Blocks.{lastOf}
+use Rattle.addition.specs.Part.{ordinary, outgoing, returning}
 use Rattle.unwind.proofs.Standing.{run-fits}
 use Rattle.unwind.proofs.part.returning.Statement.{statement}
 use Rattle.unwind.proofs.part.returning.Tie as tie

@@ -7,7 +7,7 @@ use Rattle.graph.specs.declared.record.Edge.{Edge}
 use Rattle.graph.specs.BlockSet.{member}
 use Rattle.graph.specs.Graph.{edge}
 use Rattle.graph.specs.Words.{heldIn}
-use Rattle.unwind.specs.Part.{ordinary}
+use Rattle.addition.specs.Part.{ordinary}
 use Rattle.unwind.specs.PartSearch.{followed}
 use Rattle.unwind.proofs.part.take_edge.Statement.{statement}
 use Rattle.unwind.proofs.part.take_edge.Tie as tie

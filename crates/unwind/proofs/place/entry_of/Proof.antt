@@ -4,7 +4,7 @@ use native.Mathlib.Omega.{arith}
 use borrow.Author.Needs.{needs}
 use Rattle.image.specs.Image.{routesIn}
 use Rattle.graph.specs.Words.{heldIn}
-use Rattle.unwind.specs.Blocks.{blockIn}
+use Rattle.addition.specs.Blocks.{blockIn}
 use Rattle.unwind.specs.Stands.{leadingOf}
 use Rattle.unwind.proofs.PlaceLaws.{entry-root, entry-named}
 use Rattle.unwind.proofs.place.entry_of.Statement.{statement}

@@ -8,7 +8,7 @@ use Rattle.graph.specs.Words.{heldIn}
 use Rattle.graph.proofs.RecordLaws.{block-most}
 use Rattle.unwind.specs.declared.tries.store.NodeRecord.{NodeRecord}
 use Rattle.unwind.specs.Nodes.{recordIn, funcletIn}
-use Rattle.unwind.specs.Instance.{entryBlock}
+use Rattle.addition.specs.Instance.{entryBlock}
 use Rattle.unwind.specs.Placed.{funcletAt}
 use Rattle.unwind.proofs.PlaceLaws.{sizes-kept, entry-lt, entry-built, entry-most, part-is, first-next, clone-next}
 use Rattle.unwind.proofs.LikeLaws.{none-like}

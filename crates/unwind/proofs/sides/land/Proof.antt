@@ -6,7 +6,7 @@ use Rattle.image.specs.declared.record.Path.{Path}
 use Rattle.image.specs.Image.{routesIn}
 use Rattle.graph.specs.Words.{heldIn}
 use Rattle.graph.proofs.RecordLaws.{block-most}
-use Rattle.unwind.specs.Blocks.{blockIn}
+use Rattle.addition.specs.Blocks.{blockIn}
 use Rattle.unwind.specs.Stands.{leadingOf}
 use Rattle.unwind.specs.Nodes.{pathRecord}
 use Rattle.unwind.proofs.FuncletLaws.{leads-begins}

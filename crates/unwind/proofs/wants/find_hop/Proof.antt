@@ -6,7 +6,7 @@ use native.Mathlib.Omega.{arith}
 use borrow.Author.Needs.{needs}
 use Rattle.unwind.specs.declared.hops.HopRow.{HopRow}
 use Rattle.unwind.specs.Interning.{isLt}
-use Rattle.unwind.specs.Ways.{compareLeaps}
+use Rattle.addition.specs.Ways.{compareLeaps}
 use Rattle.unwind.specs.Flags.{pair, rowLeap, leapAt}
 use Rattle.unwind.proofs.FindLaws.{Between, between-all, between-right, between-left, between-end}
 use Rattle.unwind.proofs.wants.find_hop.Statement.{statement}

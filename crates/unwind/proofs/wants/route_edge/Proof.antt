@@ -1,6 +1,6 @@
 -- `route_edge` meets its contract. Assumes nothing.
 use borrow.Author.Needs.{needs}
-use Rattle.unwind.specs.Ways.{routeEdge}
+use Rattle.addition.specs.Ways.{routeEdge}
 use Rattle.unwind.proofs.wants.route_edge.Statement.{statement}
 use Rattle.unwind.proofs.wants.route_edge.Tie as tie
 

@@ -4,7 +4,7 @@ use native.Mathlib.Omega.{arith}
 use borrow.Author.Needs.{needs}
 use borrow.Author.Tests.{leb-true}
 use lib.Dec.{leb}
-use Rattle.unwind.proofs.Lists.{and-both}
+use Rattle.addition.proofs.Lists.{and-both}
 use Rattle.unwind.proofs.add.frames.is_few.Statement.{statement}
 use Rattle.unwind.proofs.add.frames.is_few.Tie as tie
 

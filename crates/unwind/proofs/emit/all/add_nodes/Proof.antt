@@ -7,7 +7,7 @@ use borrow.Author.Needs.{needs}
 use lib.ListN.{length}
 use Rattle.image.specs.Image.{routesIn}
 use Rattle.graph.specs.Fold.{flat}
-use Rattle.unwind.specs.Ways.{Hop}
+use Rattle.addition.specs.Ways.{Hop}
 use Rattle.unwind.specs.Copies.{nodeHops}
 use Rattle.unwind.specs.HopWords.{hopsIn, HopsHeld, HopsFit}
 use Rattle.unwind.specs.AllNodes.{behindNodes}

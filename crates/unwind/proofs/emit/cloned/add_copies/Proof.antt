@@ -9,7 +9,7 @@ use Rattle.image.specs.Image.{routesIn}
 use Rattle.graph.specs.Fold.{flat}
 use Rattle.graph.specs.BlockSet.{sizeOf}
 use Rattle.graph.proofs.BlockLaws.{size-excluding}
-use Rattle.unwind.specs.Ways.{Hop}
+use Rattle.addition.specs.Ways.{Hop}
 use Rattle.unwind.specs.Placed.{setAt}
 use Rattle.unwind.specs.Copies.{copyNumber, hopsFrom, copyHops}
 use Rattle.unwind.specs.HopWords.{hopsIn, HopsHeld, HopsFit, HopsBelow}

@@ -7,7 +7,7 @@ use lib.ListN.{length}
 use Rattle.image.specs.Image.{routesIn}
 use Rattle.graph.specs.BlockSet.{sizeOf}
 use Rattle.graph.proofs.BlockLaws.{size-excluding}
-use Rattle.unwind.specs.Ways.{Hop}
+use Rattle.addition.specs.Ways.{Hop}
 use Rattle.unwind.specs.Placed.{setAt}
 use Rattle.unwind.specs.Sizes.{HopsSize}
 use Rattle.unwind.specs.Copies.{copyHops}

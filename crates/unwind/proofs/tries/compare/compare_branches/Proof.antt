@@ -2,7 +2,7 @@
 use mathlib.Core.Path.{sym, ap, _∙_}
 use Prim.Native.Nat.{compare}
 use Rattle.image.specs.Image.{routesIn}
-use Rattle.unwind.specs.Order.{compareEnds}
+use Rattle.addition.specs.Order.{compareEnds}
 use Rattle.unwind.specs.Nodes.{edgeOf, endAt}
 use Rattle.unwind.specs.Interning.{orderingOf}
 use Rattle.unwind.proofs.TrieCompare.{tagged-equal, branches-less, branches-greater}

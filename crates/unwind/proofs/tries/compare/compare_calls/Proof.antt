@@ -4,7 +4,7 @@ use Prim.Native.Nat.{_+_, _-_, _≤_, compare}
 use native.Mathlib.Omega.{arith}
 use Rattle.image.specs.Image.{routesIn}
 use Rattle.image.specs.declared.record.Step.{Step}
-use Rattle.unwind.specs.Order.{compareTags}
+use Rattle.addition.specs.Order.{compareTags}
 use Rattle.unwind.specs.Nodes.{stepIn, tagsIn}
 use Rattle.unwind.specs.Interning.{orderingOf}
 use Rattle.unwind.proofs.TrieCompare.{comparedFrom, calls-start, calls-less, calls-greater, calls-next, calls-longer, calls-shorter, calls-equal}

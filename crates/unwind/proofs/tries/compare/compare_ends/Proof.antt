@@ -2,7 +2,7 @@
 use mathlib.Core.Path.{sym, ap, ap₂, _∙_}
 use Rattle.image.specs.Deal.{endOf}
 use Rattle.image.specs.declared.record.Path.{Path}
-use Rattle.unwind.specs.Order.{compareEnds}
+use Rattle.addition.specs.Order.{compareEnds}
 use Rattle.unwind.proofs.TrieCompare.{ends-handlers, ends-first, ends-others}
 use borrow.Author.Needs.{needs}
 use Rattle.unwind.proofs.tries.compare.compare_ends.Statement.{statement}

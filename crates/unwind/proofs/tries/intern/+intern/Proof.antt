@@ -13,7 +13,7 @@ use Rattle.unwind.specs.declared.tries.paths.Group.{Group}
 use Rattle.unwind.specs.declared.tries.keys.Key.{Key}
 use Rattle.unwind.specs.declared.tries.keys.NextKey.{NextKey}
 use Rattle.unwind.specs.declared.tries.keys.NextKey.the-variants.{At, Nothing}
-use Rattle.unwind.specs.Trie.{longest}
+use Rattle.addition.specs.Trie.{longest}
 use Rattle.unwind.specs.Interning.{pathsOf}
 use Rattle.unwind.specs.Keys.{NextOf}
 use Rattle.unwind.proofs.TrieWork.{left, Working, work-start, next-falls, child-grouped, child-room, push-room, left-falls, branch-small, work-next, close-room, work-done}

@@ -3,7 +3,7 @@ use mathlib.Core.Path.{sym, _∙_}
 use Prim.Native.Nat.{compare}
 use Rattle.image.specs.Image.{routesIn}
 use Rattle.unwind.specs.declared.tries.keys.NextKey.the-variants.{At, Nothing}
-use Rattle.unwind.specs.Order.{compareTagged}
+use Rattle.addition.specs.Order.{compareTagged}
 use Rattle.unwind.specs.Keys.{keyIn, keyOf, KeyOf}
 use Rattle.unwind.proofs.TrieKeys.{nearest-none, nearer-taken, nearer-late, nearer-early, key-small}
 use borrow.Author.Needs.{needs}

@@ -7,7 +7,7 @@ use native.Mathlib.Omega.{arith}
 use Rattle.image.specs.Image.{routesIn}
 use Rattle.graph.specs.Fold.{flat}
 use Rattle.graph.proofs.FoldLaws.{flat-more}
-use Rattle.unwind.specs.Order.{Tagged, compareTagged}
+use Rattle.addition.specs.Order.{Tagged, compareTagged}
 use Rattle.unwind.specs.Interning.{nearest, leftAt}
 use Rattle.unwind.specs.Keys.{keysOf, keyOf, KeyIn}
 use Rattle.unwind.proofs.TrieKeys.{nearest-append, keys-flat}

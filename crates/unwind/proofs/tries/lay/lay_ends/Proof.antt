@@ -5,10 +5,10 @@ use native.Mathlib.Omega.{arith}
 use lib.ListN.{length}
 use Rattle.image.specs.Image.{routesIn}
 use Rattle.image.specs.Deal.{UnwindEnd}
-use Rattle.unwind.specs.Order.{Tagged}
+use Rattle.addition.specs.Order.{Tagged}
 use Rattle.unwind.specs.Interning.{leftAt, pathsOf}
 use Rattle.unwind.specs.Laid.{endsList}
-use Rattle.unwind.proofs.Lists.{flat-suc, flat-le}
+use Rattle.addition.proofs.Lists.{flat-suc, flat-le}
 use Rattle.unwind.proofs.TrieLaid.{ends-flat, EndsBelow, ends-start, ends-more, ends-all}
 use borrow.Author.Needs.{needs}
 use Rattle.unwind.proofs.tries.lay.lay_ends.Statement.{statement}

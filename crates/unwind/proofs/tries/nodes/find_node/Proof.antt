@@ -6,7 +6,7 @@ use Prim.Native.Nat.{ℕ, _-_, _<_}
 use native.Mathlib.Decide.{decLt}
 use native.Mathlib.Omega.{arith}
 use Rattle.image.specs.Image.{routesIn}
-use Rattle.unwind.specs.Trie.{sameNode}
+use Rattle.addition.specs.Trie.{sameNode}
 use Rattle.unwind.specs.Nodes.{recordIn, nodeIn, nodesIn}
 use Rattle.unwind.proofs.TrieNodes.{place-first, place-none, length-nodes, node-of}
 use Rattle.unwind.proofs.LowerLaws.{low-differs}

@@ -1,5 +1,5 @@
 -- `same_node` meets its contract. Assumes nothing.
-use Rattle.unwind.specs.Trie.{sameNode}
+use Rattle.addition.specs.Trie.{sameNode}
 use Rattle.unwind.specs.Nodes.{nodeIn}
 use borrow.Author.Needs.{needs}
 use Rattle.unwind.proofs.tries.nodes.same_node.Statement.{statement}

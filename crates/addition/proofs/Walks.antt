@@ -13,15 +13,15 @@ use Prim.Native.Nat.{ℕ}
 use native.Mathlib.Omega.{arith}
 use Rattle.image.specs.Deal.{UnwindStep, funclet, call, UnwindEnd, handler, propagate, resume, UnwindPath, UnwindRoute}
 use Rattle.graph.specs.Graph.{Graph}
-use Rattle.unwind.specs.Order.{Tagged}
-use Rattle.unwind.specs.Blocks.{firstOf}
-use Rattle.unwind.specs.Trie.{Node}
-use Rattle.unwind.specs.Ways.{HopEnd, block, leave, Hop}
-use Rattle.unwind.specs.Walk.{_∈_, Funclet, Reach, Returning, Covers, Guarded, Lists, Takes, Ends, resumes, leaves, handles, Enters, Walk, over, through, May, once, again}
-use Rattle.unwind.proofs.Lists.{at}
-use Rattle.unwind.proofs.Paths.{steps-of}
-use Rattle.unwind.proofs.Trie.{⊑-refl, Spelled, stops, goes, Says}
-use Rattle.unwind.proofs.Intern.{Fits}
+use Rattle.addition.specs.Order.{Tagged}
+use Rattle.addition.specs.Blocks.{firstOf}
+use Rattle.addition.specs.Trie.{Node}
+use Rattle.addition.specs.Ways.{HopEnd, block, leave, Hop}
+use Rattle.addition.specs.Walk.{_∈_, Funclet, Reach, Returning, Covers, Guarded, Lists, Takes, Ends, resumes, leaves, handles, Enters, Walk, over, through, May, once, again}
+use Rattle.addition.proofs.Lists.{at}
+use Rattle.addition.proofs.Paths.{steps-of}
+use Rattle.addition.proofs.Trie.{⊑-refl, Spelled, stops, goes, Says}
+use Rattle.addition.proofs.Intern.{Fits}
 
 -- the graph and the hops afterwards, the routes, the nodes, and for each node its entry and its returns
 module _ (g : Graph) (rs : List UnwindRoute) (hs : List Hop) (z : List Node) (entry : ℕ → ℕ) (returns : ℕ → List ℕ) (land : ℕ → ℕ) where

@@ -22,8 +22,8 @@ use borrow.Author.Tests.{eq-eqb, eqb-true, ne-eqb}
 use lib.Dec.{eqb}
 use lib.ListN.{length, getD, length-append}
 use Rattle.graph.specs.Fold.{flat, among}
-use Rattle.unwind.specs.Lists.{keep, joined, upto, rank}
-use Rattle.unwind.specs.Walk.{_∈_}
+use Rattle.addition.specs.Lists.{keep, joined, upto, rank}
+use Rattle.addition.specs.Walk.{_∈_}
 
 -- ---- tests
 

@@ -15,8 +15,8 @@ use Rattle.graph.specs.declared.record.Edge.{Edge}
 use Rattle.graph.specs.Graph.{Graph, Held, edge}
 use Rattle.graph.specs.Fold.{all}
 use Rattle.graph.specs.WellFormed.{isBlock, edgeEndsExist, filled, coversTable, wellFormed}
-use Rattle.unwind.specs.Walk.{_∈_}
-use Rattle.unwind.proofs.Lists.{and-both, mem-at, at-lt, at-getD}
+use Rattle.addition.specs.Walk.{_∈_}
+use Rattle.addition.proofs.Lists.{and-both, mem-at, at-lt, at-getD}
 
 pub all-at : (f : ℕ → Bool) (n i : ℕ) → all f n ≡ true → i < n → f i ≡ true
 unfolding all

@@ -6,8 +6,8 @@ use Prim.Native.Nat.{ℕ, zero, suc, max, compare}
 use lib.Dec.{eqb, isEq}
 use lib.ListN.{length, getD}
 use Rattle.image.specs.Deal.{UnwindStep, funclet, call, UnwindEnd, UnwindPath, UnwindRoute}
-use Rattle.unwind.specs.Lists.{joined}
-use Rattle.unwind.specs.Order.{Tagged, tagged, compareTagged, compareEnds, sorted, same}
+use Rattle.addition.specs.Lists.{joined}
+use Rattle.addition.specs.Order.{Tagged, tagged, compareTagged, compareEnds, sorted, same}
 
 -- The funclet that the runtime entered (none at the root of a route: the protected instruction), the next funclets as the
 -- nodes after them, and the ends; and the route whose interning created the node.

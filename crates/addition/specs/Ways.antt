@@ -9,12 +9,12 @@ use Rattle.graph.specs.declared.record.Edge.{Edge}
 use Rattle.graph.specs.Graph.{Graph}
 use Rattle.graph.specs.Fold.{flat}
 use Rattle.graph.specs.Flow.{Kind, Role}
-use Rattle.unwind.specs.Lists.{joined}
-use Rattle.unwind.specs.Order.{compareTags, sorted, _and-then_}
-use Rattle.unwind.specs.Blocks.{firstOf, lastOf, blockOf, guarded}
-use Rattle.unwind.specs.Part.{funclets}
-use Rattle.unwind.specs.Trie.{Node, nodeAt, tries}
-use Rattle.unwind.specs.Instance.{entryOf, returnsOf}
+use Rattle.addition.specs.Lists.{joined}
+use Rattle.addition.specs.Order.{compareTags, sorted, _and-then_}
+use Rattle.addition.specs.Blocks.{firstOf, lastOf, blockOf, guarded}
+use Rattle.addition.specs.Part.{funclets}
+use Rattle.addition.specs.Trie.{Node, nodeAt, tries}
+use Rattle.addition.specs.Instance.{entryOf, returnsOf}
 
 -- where a hop goes: to a block, or out of the function
 pub data HopEnd : Type 0 where

@@ -9,9 +9,9 @@ use native.Mathlib.Decide.{ℕ-discrete}
 use Rattle.image.specs.Deal.{UnwindRoute}
 use Rattle.graph.specs.Graph.{Graph, block}
 use Rattle.graph.specs.Table.{entryAt}
-use Rattle.unwind.specs.Blocks.{firstOf}
-use Rattle.unwind.specs.Walk.{_∈_, Covers, Funclet, Handler, Begins, Reach, start, step, Part, Returning, Guarded}
-use Rattle.unwind.specs.Demand.{Conditions}
+use Rattle.addition.specs.Blocks.{firstOf}
+use Rattle.addition.specs.Walk.{_∈_, Covers, Funclet, Handler, Begins, Reach, start, step, Part, Returning, Guarded}
+use Rattle.addition.specs.Demand.{Conditions}
 
 pub record Milder (g : Graph) (rs : List UnwindRoute) : Type 0 where
   -- the parts of different funclets share no returning block

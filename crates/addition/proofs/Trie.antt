@@ -9,12 +9,12 @@ use mathlib.Core.List.{List, map, Memᴰ·cast}
 use mathlib.Core.Option.{some}
 use Prim.Native.Nat.{ℕ, compare}
 use Rattle.image.specs.Deal.{UnwindStep, funclet, call, UnwindEnd, UnwindPath}
-use Rattle.unwind.specs.Order.{Tagged, tagged, compareTagged, sorted}
-use Rattle.unwind.specs.Trie.{Node, Cut, over, enters, cut, endsOf, groups, rest}
-use Rattle.unwind.specs.Walk.{_∈_}
-use Rattle.unwind.proofs.Lists.{at}
-use Rattle.unwind.proofs.Order.{mem-sorted, sorted-mem}
-use Rattle.unwind.proofs.Paths.{path, steps-of, exact-key, over-path, enters-path, mem-ends, ends-mem, mem-rest, rest-mem, mem-groups}
+use Rattle.addition.specs.Order.{Tagged, tagged, compareTagged, sorted}
+use Rattle.addition.specs.Trie.{Node, Cut, over, enters, cut, endsOf, groups, rest}
+use Rattle.addition.specs.Walk.{_∈_}
+use Rattle.addition.proofs.Lists.{at}
+use Rattle.addition.proofs.Order.{mem-sorted, sorted-mem}
+use Rattle.addition.proofs.Paths.{path, steps-of, exact-key, over-path, enters-path, mem-ends, ends-mem, mem-rest, rest-mem, mem-groups}
 
 infix 40 _⊑_
 pub record _⊑_ (t z : List Node) : Type 0 where

@@ -11,10 +11,10 @@ use Prim.Native.Nat.{ℕ, compare, Ordering, Ordering·lt, Ordering·eq, Orderin
 use borrow.Author.Tests.{eq-eqb, eqb-true}
 use lib.Dec.{isEq}
 use Rattle.image.specs.Deal.{UnwindEnd, handler, propagate, resume}
-use Rattle.unwind.specs.Order.{placed, put, sorted, _and-then_, compareTags, compareEnds, compareTagged, same}
-use Rattle.unwind.specs.Ways.{HopEnd, block, leave, compareHopEnds, compareLeaps}
-use Rattle.unwind.specs.Walk.{_∈_}
-use Rattle.unwind.proofs.Lists.{and-both, none-in}
+use Rattle.addition.specs.Order.{placed, put, sorted, _and-then_, compareTags, compareEnds, compareTagged, same}
+use Rattle.addition.specs.Ways.{HopEnd, block, leave, compareHopEnds, compareLeaps}
+use Rattle.addition.specs.Walk.{_∈_}
+use Rattle.addition.proofs.Lists.{and-both, none-in}
 
 pub record Exact {A : Type 0} (c : A → A → Ordering) : Type 0 where
   pub tells : (x y : A) → isEq (c x y) ≡ true → x ≡ y

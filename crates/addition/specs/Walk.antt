@@ -11,8 +11,8 @@ use Rattle.graph.specs.declared.record.Edge.{Edge}
 use Rattle.graph.specs.Graph.{Graph}
 use Rattle.graph.specs.Flow.{Flow, Kind}
 use Rattle.graph.specs.WellFormed.{isBuilt}
-use Rattle.unwind.specs.Blocks.{firstOf, lastOf}
-use Rattle.unwind.specs.Ways.{HopEnd, block, leave, Hop}
+use Rattle.addition.specs.Blocks.{firstOf, lastOf}
+use Rattle.addition.specs.Ways.{HopEnd, block, leave, Hop}
 
 infix 40 _∈_
 abbrev pub _∈_ : {A : Type 0} → A → List A → Type 0

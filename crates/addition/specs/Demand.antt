@@ -7,8 +7,8 @@ use Rattle.image.specs.Image.{RouteImage}
 use Rattle.image.specs.Read.{read, readRoutes}
 use Rattle.image.specs.Deal.{UnwindPath, UnwindRoute, routesOf}
 use Rattle.graph.specs.Graph.{Graph, Held}
-use Rattle.unwind.specs.Walk.{Funclet, Handler, Begins, Reach, Part, Returning, Guarded, Lists, Walk, May}
-use Rattle.unwind.specs.Add.{Addition, added, addRoutes}
+use Rattle.addition.specs.Walk.{Funclet, Handler, Begins, Reach, Part, Returning, Guarded, Lists, Walk, May}
+use Rattle.addition.specs.Add.{Addition, added, addRoutes}
 
 -- The conditions, over the graph before the addition. Blocks are built ones here, and a handler lies in a part where the
 -- block that it begins does: that asks less than to count copies too, and instructions within blocks.

@@ -22,14 +22,14 @@ use lib.ListN.{length}
 use Rattle.image.specs.Deal.{UnwindRoute}
 use Rattle.graph.specs.Graph.{Graph}
 use Rattle.graph.specs.Fold.{some as any, among}
-use Rattle.unwind.specs.Lists.{rank}
-use Rattle.unwind.specs.Part.{funclets, part, returning}
-use Rattle.unwind.specs.Blocks.{blockOf}
-use Rattle.unwind.specs.Trie.{Node, nodeAt, sameFunclet}
-use Rattle.unwind.specs.Instance.{partOf, blocksOf, later, copied, base, place, moved, returnsOf}
-use Rattle.unwind.specs.Walk.{_∈_, Returning}
-use Rattle.unwind.proofs.Lists.{at, none-in, or-left, or-right, mem-keep, keep-mem, mem-map, map-mem, mem-among, among-mem, at-lt, at-rank, flat-suc, flat-le}
-use Rattle.unwind.proofs.Closure.{part-lt, returning-is, is-returning}
+use Rattle.addition.specs.Lists.{rank}
+use Rattle.addition.specs.Part.{funclets, part, returning}
+use Rattle.addition.specs.Blocks.{blockOf}
+use Rattle.addition.specs.Trie.{Node, nodeAt, sameFunclet}
+use Rattle.addition.specs.Instance.{partOf, blocksOf, later, copied, base, place, moved, returnsOf}
+use Rattle.addition.specs.Walk.{_∈_, Returning}
+use Rattle.addition.proofs.Lists.{at, none-in, or-left, or-right, mem-keep, keep-mem, mem-map, map-mem, mem-among, among-mem, at-lt, at-rank, flat-suc, flat-le}
+use Rattle.addition.proofs.Closure.{part-lt, returning-is, is-returning}
 
 any-true : (f : ℕ → Bool) (n i : ℕ) → i < n → f i ≡ true → any f n ≡ true
 unfolding any

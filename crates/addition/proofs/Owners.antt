@@ -20,24 +20,24 @@ use Rattle.graph.specs.declared.record.Edge.{Edge}
 use Rattle.graph.specs.Graph.{Graph}
 use Rattle.graph.specs.Flow.{Kind}
 use Rattle.graph.specs.Fold.{checks}
-use Rattle.unwind.specs.Order.{Tagged}
-use Rattle.unwind.specs.Blocks.{firstOf, blockOf, guarded}
-use Rattle.unwind.specs.Part.{funclets}
-use Rattle.unwind.specs.Trie.{Node, nodeAt, tries}
-use Rattle.unwind.specs.Instance.{partOf, blocksOf, later, place, entryOf, returnsOf, cloneBlocks, cloneEdges}
-use Rattle.unwind.specs.Ways.{Hop, ways, hopsOf, routeEdges}
-use Rattle.unwind.specs.Add.{extended, nodeCheck}
-use Rattle.unwind.specs.Walk.{_∈_, Funclet, Handler, Built, Begins, Reach, start, Part, Returning, Guarded}
-use Rattle.unwind.proofs.Lists.{at, none-in, at-lt, at-getD}
-use Rattle.unwind.proofs.Sound.{Sound}
-use Rattle.unwind.proofs.Intern.{Fits, tries-law}
-use Rattle.unwind.proofs.Instance.{first-or-later, place-first, later-above, clone-owner, first-once, mem-returns, returns-mem}
-use Rattle.unwind.proofs.After.{new-unwinds}
-use Rattle.unwind.proofs.Parts
-use Rattle.unwind.proofs.Milder.{Milder, reach-entry}
-use Rattle.unwind.proofs.Walks.{ends}
-use Rattle.unwind.proofs.HopWays
-use Rattle.unwind.proofs.Accepted.{check-at, funclet-begins, handler-begins}
+use Rattle.addition.specs.Order.{Tagged}
+use Rattle.addition.specs.Blocks.{firstOf, blockOf, guarded}
+use Rattle.addition.specs.Part.{funclets}
+use Rattle.addition.specs.Trie.{Node, nodeAt, tries}
+use Rattle.addition.specs.Instance.{partOf, blocksOf, later, place, entryOf, returnsOf, cloneBlocks, cloneEdges}
+use Rattle.addition.specs.Ways.{Hop, ways, hopsOf, routeEdges}
+use Rattle.addition.specs.Add.{extended, nodeCheck}
+use Rattle.addition.specs.Walk.{_∈_, Funclet, Handler, Built, Begins, Reach, start, Part, Returning, Guarded}
+use Rattle.addition.proofs.Lists.{at, none-in, at-lt, at-getD}
+use Rattle.addition.proofs.Sound.{Sound}
+use Rattle.addition.proofs.Intern.{Fits, tries-law}
+use Rattle.addition.proofs.Instance.{first-or-later, place-first, later-above, clone-owner, first-once, mem-returns, returns-mem}
+use Rattle.addition.proofs.After.{new-unwinds}
+use Rattle.addition.proofs.Parts
+use Rattle.addition.proofs.Milder.{Milder, reach-entry}
+use Rattle.addition.proofs.Walks.{ends}
+use Rattle.addition.proofs.HopWays
+use Rattle.addition.proofs.Accepted.{check-at, funclet-begins, handler-begins}
 
 module _ (g : Graph) (rs : List UnwindRoute) (sound : Sound g) (milder : Milder g rs)
     (ok : checks (λ i. nodeCheck g (nodeAt (tries rs .nodes) i)) (length (tries rs .nodes)) ≡ clear) where

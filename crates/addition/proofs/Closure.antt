@@ -17,15 +17,15 @@ use lib.ListN.{length, getD, length-append}
 use Rattle.image.specs.Deal.{UnwindStep, funclet, call, UnwindPath, UnwindRoute}
 use Rattle.graph.specs.declared.record.Edge.{Edge}
 use Rattle.graph.specs.Graph.{Graph}
-use Rattle.unwind.specs.Lists.{keep, joined, upto, isEmpty}
+use Rattle.addition.specs.Lists.{keep, joined, upto, isEmpty}
 use Rattle.graph.specs.Fold.{among}
 use Rattle.graph.specs.Flow.{Flow, Kind}
 use Rattle.graph.specs.Route.{funcletOf, funclets as onPath}
 use Rattle.graph.specs.WellFormed.{isBuilt}
-use Rattle.unwind.specs.Blocks.{firstOf, lastOf}
-use Rattle.unwind.specs.Part.{funclets, barred, ordinary, outgoing, onward, round, rounds, part, returning}
-use Rattle.unwind.specs.Walk.{_∈_, Funclet, Other, Reach, start, step, Returning, by-return, by-jump}
-use Rattle.unwind.proofs.Lists.{and-both, and-true, or-either, or-left, or-right, not-so, so-not, none-in, mem-keep, keep-mem, mem-joined, joined-mem, mem-map, map-mem, mem-upto, upto-mem, mem-flat, flat-mem, mem-at, at-lt, lt-at, at-getD, at-mem, mem-among, among-mem}
+use Rattle.addition.specs.Blocks.{firstOf, lastOf}
+use Rattle.addition.specs.Part.{funclets, barred, ordinary, outgoing, onward, round, rounds, part, returning}
+use Rattle.addition.specs.Walk.{_∈_, Funclet, Other, Reach, start, step, Returning, by-return, by-jump}
+use Rattle.addition.proofs.Lists.{and-both, and-true, or-either, or-left, or-right, not-so, so-not, none-in, mem-keep, keep-mem, mem-joined, joined-mem, mem-map, map-mem, mem-upto, upto-mem, mem-flat, flat-mem, mem-at, at-lt, lt-at, at-getD, at-mem, mem-among, among-mem}
 
 -- ---- funclets
 

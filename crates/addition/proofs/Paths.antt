@@ -9,11 +9,11 @@ use mathlib.Core.List.{List, [], _∷_, _++_, map, List·Memᴰ·head, List·Mem
 use Prim.Native.Nat.{ℕ, compare}
 use lib.Dec.{isEq}
 use Rattle.image.specs.Deal.{UnwindStep, funclet, call, UnwindEnd, UnwindPath}
-use Rattle.unwind.specs.Order.{Tagged, tagged, compareTagged, compareEnds}
-use Rattle.unwind.specs.Trie.{Cut, over, enters, behind, cut, endOn, endsOf, groupOn, groups, restOn, rest}
-use Rattle.unwind.specs.Walk.{_∈_}
-use Rattle.unwind.proofs.Lists.{none-in, mem-joined, joined-mem}
-use Rattle.unwind.proofs.Order.{Exact, exact-number, exact-ends, exact-tagged, mem-sorted, sorted-mem}
+use Rattle.addition.specs.Order.{Tagged, tagged, compareTagged, compareEnds}
+use Rattle.addition.specs.Trie.{Cut, over, enters, behind, cut, endOn, endsOf, groupOn, groups, restOn, rest}
+use Rattle.addition.specs.Walk.{_∈_}
+use Rattle.addition.proofs.Lists.{none-in, mem-joined, joined-mem}
+use Rattle.addition.proofs.Order.{Exact, exact-number, exact-ends, exact-tagged, mem-sorted, sorted-mem}
 
 abbrev pub path : List UnwindStep → UnwindEnd → UnwindPath
 path s e = record { steps = s; end = e }

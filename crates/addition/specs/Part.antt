@@ -11,8 +11,8 @@ use Rattle.graph.specs.Fold.{among}
 use Rattle.graph.specs.Flow.{Flow, Kind}
 use Rattle.graph.specs.Route.{funclets as onPath}
 use Rattle.graph.specs.WellFormed.{isBuilt}
-use Rattle.unwind.specs.Lists.{keep, joined, upto, isEmpty}
-use Rattle.unwind.specs.Blocks.{firstOf, lastOf}
+use Rattle.addition.specs.Lists.{keep, joined, upto, isEmpty}
+use Rattle.addition.specs.Blocks.{firstOf, lastOf}
 
 -- 'A funclet is an address that one of their steps names'
 unfoldable pub funclets : List UnwindRoute → List ℕ

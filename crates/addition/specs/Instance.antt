@@ -8,10 +8,10 @@ use Rattle.graph.specs.declared.record.Block.{Block}
 use Rattle.graph.specs.declared.record.Edge.{Edge}
 use Rattle.graph.specs.Graph.{Graph, block}
 use Rattle.graph.specs.Fold.{flat, some as any, among}
-use Rattle.unwind.specs.Lists.{keep, joined, rank}
-use Rattle.unwind.specs.Blocks.{blockOf}
-use Rattle.unwind.specs.Part.{part, outgoing, returning}
-use Rattle.unwind.specs.Trie.{Node, nodeAt, sameFunclet}
+use Rattle.addition.specs.Lists.{keep, joined, rank}
+use Rattle.addition.specs.Blocks.{blockOf}
+use Rattle.addition.specs.Part.{part, outgoing, returning}
+use Rattle.addition.specs.Trie.{Node, nodeAt, sameFunclet}
 
 -- the entry and the part of the funclet that a node entered; the root of a route has none
 unfoldable pub entryBlock : Graph → Option ℕ → ℕ

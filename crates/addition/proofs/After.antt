@@ -24,17 +24,17 @@ use Rattle.graph.specs.Graph.{Graph, block as blockAt}
 use Rattle.graph.specs.Fold.{flat, sum}
 use Rattle.graph.specs.Flow.{Kind}
 use Rattle.graph.specs.WellFormed.{filled, isBuilt}
-use Rattle.unwind.specs.Lists.{joined, rank}
-use Rattle.unwind.specs.Blocks.{firstOf, lastOf}
-use Rattle.unwind.specs.Part.{funclets, outgoing}
-use Rattle.unwind.specs.Trie.{Node}
-use Rattle.unwind.specs.Instance.{blocksOf, later, copied, base, place, moved, cloneBlocks, cloneEdge, cloneEdges}
-use Rattle.unwind.specs.Ways.{HopEnd, block, leave, Leap, leap, Way, wanted, routeEdge, edgeTo, routeEdges}
-use Rattle.unwind.specs.Add.{extended}
-use Rattle.unwind.specs.Walk.{_∈_, Built}
-use Rattle.unwind.proofs.Lists.{at, none-in, or-either, mem-keep, keep-mem, mem-joined, joined-mem, mem-map, map-mem, mem-flat, flat-mem, at-map, at-getD, at-rank, at-flat}
-use Rattle.unwind.proofs.Sound.{Sound}
-use Rattle.unwind.proofs.Instance.{first-or-later, blocks-lt, place-first, place-later, copied-later, mem-copied, place-apart, clone-owner, later-above, moved-first}
+use Rattle.addition.specs.Lists.{joined, rank}
+use Rattle.addition.specs.Blocks.{firstOf, lastOf}
+use Rattle.addition.specs.Part.{funclets, outgoing}
+use Rattle.addition.specs.Trie.{Node}
+use Rattle.addition.specs.Instance.{blocksOf, later, copied, base, place, moved, cloneBlocks, cloneEdge, cloneEdges}
+use Rattle.addition.specs.Ways.{HopEnd, block, leave, Leap, leap, Way, wanted, routeEdge, edgeTo, routeEdges}
+use Rattle.addition.specs.Add.{extended}
+use Rattle.addition.specs.Walk.{_∈_, Built}
+use Rattle.addition.proofs.Lists.{at, none-in, or-either, mem-keep, keep-mem, mem-joined, joined-mem, mem-map, map-mem, mem-flat, flat-mem, at-map, at-getD, at-rank, at-flat}
+use Rattle.addition.proofs.Sound.{Sound}
+use Rattle.addition.proofs.Instance.{first-or-later, blocks-lt, place-first, place-later, copied-later, mem-copied, place-apart, clone-owner, later-above, moved-first}
 
 -- ---- built blocks
 

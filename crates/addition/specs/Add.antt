@@ -16,13 +16,13 @@ use Rattle.graph.specs.Fold.{checks}
 use Rattle.graph.specs.Table.{entryAt, rangeCheck}
 use Rattle.graph.specs.Route.{routeAt, resumesLate}
 use Rattle.graph.specs.WellFormed.{wellFormed}
-use Rattle.unwind.specs.Lists.{joined}
-use Rattle.unwind.specs.Order.{tagged}
-use Rattle.unwind.specs.Blocks.{Leading, leads, inside, absent, leading, within}
-use Rattle.unwind.specs.Part.{funclets}
-use Rattle.unwind.specs.Trie.{Node, nodeAt, tries}
-use Rattle.unwind.specs.Instance.{cloneBlocks, cloneEdges}
-use Rattle.unwind.specs.Ways.{Hop, ways, hopsOf, routeEdges}
+use Rattle.addition.specs.Lists.{joined}
+use Rattle.addition.specs.Order.{tagged}
+use Rattle.addition.specs.Blocks.{Leading, leads, inside, absent, leading, within}
+use Rattle.addition.specs.Part.{funclets}
+use Rattle.addition.specs.Trie.{Node, nodeAt, tries}
+use Rattle.addition.specs.Instance.{cloneBlocks, cloneEdges}
+use Rattle.addition.specs.Ways.{Hop, ways, hopsOf, routeEdges}
 
 -- '14 MissingRouteEntry', '17 RouteAddressNotBlockStart'
 unfoldable pub leadFound : ℕ → Leading → Check

@@ -19,15 +19,15 @@ use Rattle.graph.specs.declared.record.TableEntry.{TableEntry}
 use Rattle.graph.specs.declared.record.Edge.{Edge}
 use Rattle.graph.specs.Graph.{Graph}
 use Rattle.graph.specs.Flow.{Kind}
-use Rattle.unwind.specs.Blocks.{firstOf, lastOf, blockOf}
-use Rattle.unwind.specs.Part.{funclets}
-use Rattle.unwind.specs.Trie.{Node, nodeAt}
-use Rattle.unwind.specs.Instance.{entryBlock, blocksOf, later, place, moved, entryOf, returnsOf, cloneBlocks, cloneEdges}
-use Rattle.unwind.specs.Walk.{_∈_, Built, Begins, Other, Reach, start, step, Returning, by-return, by-jump}
-use Rattle.unwind.proofs.Sound.{Sound}
-use Rattle.unwind.proofs.Closure.{part-reach, reach-part}
-use Rattle.unwind.proofs.Instance.{first-or-later, blocks-part, place-first, later-above, moved-in, moved-either, mem-returns, returns-mem}
-use Rattle.unwind.proofs.After.{built-up, built-down, old-block, same-first, same-last, after, image-block, out-forth, out-back}
+use Rattle.addition.specs.Blocks.{firstOf, lastOf, blockOf}
+use Rattle.addition.specs.Part.{funclets}
+use Rattle.addition.specs.Trie.{Node, nodeAt}
+use Rattle.addition.specs.Instance.{entryBlock, blocksOf, later, place, moved, entryOf, returnsOf, cloneBlocks, cloneEdges}
+use Rattle.addition.specs.Walk.{_∈_, Built, Begins, Other, Reach, start, step, Returning, by-return, by-jump}
+use Rattle.addition.proofs.Sound.{Sound}
+use Rattle.addition.proofs.Closure.{part-reach, reach-part}
+use Rattle.addition.proofs.Instance.{first-or-later, blocks-part, place-first, later-above, moved-in, moved-either, mem-returns, returns-mem}
+use Rattle.addition.proofs.After.{built-up, built-down, old-block, same-first, same-last, after, image-block, out-forth, out-back}
 
 module _ (g : Graph) (rs : List UnwindRoute) (z : List Node) (new : List Edge) (unwinds : (d : Edge) → d ∈ new → d .kind ≡ Kind.exceptionUnwind) (sound : Sound g) where
   abbrev fs : List ℕ

@@ -22,13 +22,13 @@ use Rattle.graph.specs.Graph.{Graph}
 use Rattle.graph.specs.Fold.{checks}
 use Rattle.graph.specs.Table.{isStart}
 use Rattle.graph.specs.WellFormed.{isBuilt}
-use Rattle.unwind.specs.Lists.{keep, upto, head}
-use Rattle.unwind.specs.Order.{Tagged, tagged}
-use Rattle.unwind.specs.Blocks.{builtBlocks, firstOf, leadingBy, leading, blockIn, blockOf, within, keepsEdge, guarded}
-use Rattle.unwind.specs.Trie.{Node}
-use Rattle.unwind.specs.Add.{leadFound, leadCheck, funcletCheck, endCheck, nodeCheck}
-use Rattle.unwind.specs.Walk.{_∈_, Built, Begins, Covers}
-use Rattle.unwind.proofs.Lists.{at, and-both, and-true, mem-keep, keep-mem, mem-upto, upto-mem, mem-at, at-lt, at-getD}
+use Rattle.addition.specs.Lists.{keep, upto, head}
+use Rattle.addition.specs.Order.{Tagged, tagged}
+use Rattle.addition.specs.Blocks.{builtBlocks, firstOf, leadingBy, leading, blockIn, blockOf, within, keepsEdge, guarded}
+use Rattle.addition.specs.Trie.{Node}
+use Rattle.addition.specs.Add.{leadFound, leadCheck, funcletCheck, endCheck, nodeCheck}
+use Rattle.addition.specs.Walk.{_∈_, Built, Begins, Covers}
+use Rattle.addition.proofs.Lists.{at, and-both, and-true, mem-keep, keep-mem, mem-upto, upto-mem, mem-at, at-lt, at-getD}
 
 -- ---- checks
 

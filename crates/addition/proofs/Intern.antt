@@ -15,13 +15,13 @@ use native.Mathlib.Omega.{arith}
 use borrow.Author.Tests.{eqb-true}
 use lib.ListN.{length, length-append}
 use Rattle.image.specs.Deal.{funclet, call, UnwindEnd, handler, UnwindPath, UnwindRoute}
-use Rattle.unwind.specs.Order.{Tagged, tagged, compareTagged, compareEnds, sorted, same}
-use Rattle.unwind.specs.Trie.{Node, enters, groups, rest, sameFunclet, sameNode, placeOf, Interned, created, create, Children, internEach, nodeOf, intern, longest, Tries, internRoutes, tries}
-use Rattle.unwind.specs.Walk.{_∈_, Funclet, Handler}
-use Rattle.unwind.proofs.Lists.{at, and-both, none-in, at-lt, lt-at, at-append, at-last}
-use Rattle.unwind.proofs.Order.{sorted-mem, same-eq}
-use Rattle.unwind.proofs.Trie.{_⊑_, ⊑-refl, ⊑-trans, Spelled, Says, Child, child-up, Leads, node-says}
-use Rattle.unwind.proofs.Paths.{path, exact-key, exact-end, ends-mem, rest-mem, groups-mem}
+use Rattle.addition.specs.Order.{Tagged, tagged, compareTagged, compareEnds, sorted, same}
+use Rattle.addition.specs.Trie.{Node, enters, groups, rest, sameFunclet, sameNode, placeOf, Interned, created, create, Children, internEach, nodeOf, intern, longest, Tries, internRoutes, tries}
+use Rattle.addition.specs.Walk.{_∈_, Funclet, Handler}
+use Rattle.addition.proofs.Lists.{at, and-both, none-in, at-lt, lt-at, at-append, at-last}
+use Rattle.addition.proofs.Order.{sorted-mem, same-eq}
+use Rattle.addition.proofs.Trie.{_⊑_, ⊑-refl, ⊑-trans, Spelled, Says, Child, child-up, Leads, node-says}
+use Rattle.addition.proofs.Paths.{path, exact-key, exact-end, ends-mem, rest-mem, groups-mem}
 
 -- ---- what holds of every node
 

@@ -22,24 +22,24 @@ use Rattle.graph.specs.Graph.{Graph, Held}
 use Rattle.graph.specs.Flow.{Kind}
 use Rattle.graph.specs.WellFormed.{wellFormed}
 use Rattle.graph.specs.Fold.{flat, checks}
-use Rattle.unwind.specs.Order.{Tagged}
-use Rattle.unwind.specs.Blocks.{firstOf, blockOf, guarded}
-use Rattle.unwind.specs.Part.{funclets}
-use Rattle.unwind.specs.Trie.{Node, nodeAt, tries}
-use Rattle.unwind.specs.Instance.{entryOf, returnsOf}
-use Rattle.unwind.specs.Ways.{HopEnd, Hop, ways, nodeWays, routeWays, hopsOf}
-use Rattle.unwind.specs.Add.{Addition, addition, nodeCheck, routeCheck, sizeCheck, added, refused, outcome, addRoutesTo, addRead, addRoutes}
-use Rattle.unwind.specs.Walk.{_∈_, Built, Covers, Guarded, Takes}
-use Rattle.unwind.specs.Demand.{Demand3, Demanded}
-use Rattle.unwind.proofs.Lists.{at, lt-at}
-use Rattle.unwind.proofs.Sound.{Sound, sound as well-formed}
-use Rattle.unwind.proofs.Intern.{tries-law}
-use Rattle.unwind.proofs.Parts
-use Rattle.unwind.proofs.Milder.{Milder, mild}
-use Rattle.unwind.proofs.Walks.{Turn, Fires, at-root, at-return, Root, Turned, Laws, exactly, ends}
-use Rattle.unwind.proofs.HopWays
-use Rattle.unwind.proofs.Owners
-use Rattle.unwind.proofs.Accepted.{then-clear, mem-guarded, guarded-mem}
+use Rattle.addition.specs.Order.{Tagged}
+use Rattle.addition.specs.Blocks.{firstOf, blockOf, guarded}
+use Rattle.addition.specs.Part.{funclets}
+use Rattle.addition.specs.Trie.{Node, nodeAt, tries}
+use Rattle.addition.specs.Instance.{entryOf, returnsOf}
+use Rattle.addition.specs.Ways.{HopEnd, Hop, ways, nodeWays, routeWays, hopsOf}
+use Rattle.addition.specs.Add.{Addition, addition, nodeCheck, routeCheck, sizeCheck, added, refused, outcome, addRoutesTo, addRead, addRoutes}
+use Rattle.addition.specs.Walk.{_∈_, Built, Covers, Guarded, Takes}
+use Rattle.addition.specs.Demand.{Demand3, Demanded}
+use Rattle.addition.proofs.Lists.{at, lt-at}
+use Rattle.addition.proofs.Sound.{Sound, sound as well-formed}
+use Rattle.addition.proofs.Intern.{tries-law}
+use Rattle.addition.proofs.Parts
+use Rattle.addition.proofs.Milder.{Milder, mild}
+use Rattle.addition.proofs.Walks.{Turn, Fires, at-root, at-return, Root, Turned, Laws, exactly, ends}
+use Rattle.addition.proofs.HopWays
+use Rattle.addition.proofs.Owners
+use Rattle.addition.proofs.Accepted.{then-clear, mem-guarded, guarded-mem}
 
 module _ (g : Graph) (rs : List UnwindRoute) (sound : Sound g) (milder : Milder g rs)
     (ok : checks (λ i. nodeCheck g (nodeAt (tries rs .nodes) i)) (length (tries rs .nodes)) ≡ clear) where

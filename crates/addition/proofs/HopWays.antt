@@ -15,19 +15,19 @@ use lib.ListN.{length}
 use Rattle.image.specs.Deal.{UnwindEnd, handler, propagate, resume, UnwindRoute}
 use Rattle.graph.specs.Graph.{Graph}
 use Rattle.graph.specs.Fold.{flat}
-use Rattle.unwind.specs.Lists.{joined}
-use Rattle.unwind.specs.Order.{Tagged, compareTags, sorted}
-use Rattle.unwind.specs.Blocks.{blockOf, guarded}
-use Rattle.unwind.specs.Part.{funclets}
-use Rattle.unwind.specs.Trie.{Node, nodeAt, tries}
-use Rattle.unwind.specs.Instance.{entryOf, returnsOf}
-use Rattle.unwind.specs.Ways.{HopEnd, block, Hop, Way, endAt, waysFrom, routeWays, nodeWays, ways, Leap, leap, compareLeaps, listsOf, hopsOf}
-use Rattle.unwind.specs.Walk.{_∈_, Takes}
-use Rattle.unwind.proofs.Lists.{at, none-in, mem-joined, joined-mem, mem-map, map-mem, mem-flat, flat-mem, at-lt, at-getD}
-use Rattle.unwind.proofs.Order.{exact-tags, exact-leaps, mem-sorted, sorted-mem}
-use Rattle.unwind.proofs.Trie.{Says}
-use Rattle.unwind.proofs.Intern.{Rooted, no-more, rooted}
-use Rattle.unwind.proofs.Walks.{Turn, entering, handling, leaving, resuming}
+use Rattle.addition.specs.Lists.{joined}
+use Rattle.addition.specs.Order.{Tagged, compareTags, sorted}
+use Rattle.addition.specs.Blocks.{blockOf, guarded}
+use Rattle.addition.specs.Part.{funclets}
+use Rattle.addition.specs.Trie.{Node, nodeAt, tries}
+use Rattle.addition.specs.Instance.{entryOf, returnsOf}
+use Rattle.addition.specs.Ways.{HopEnd, block, Hop, Way, endAt, waysFrom, routeWays, nodeWays, ways, Leap, leap, compareLeaps, listsOf, hopsOf}
+use Rattle.addition.specs.Walk.{_∈_, Takes}
+use Rattle.addition.proofs.Lists.{at, none-in, mem-joined, joined-mem, mem-map, map-mem, mem-flat, flat-mem, at-lt, at-getD}
+use Rattle.addition.proofs.Order.{exact-tags, exact-leaps, mem-sorted, sorted-mem}
+use Rattle.addition.proofs.Trie.{Says}
+use Rattle.addition.proofs.Intern.{Rooted, no-more, rooted}
+use Rattle.addition.proofs.Walks.{Turn, entering, handling, leaving, resuming}
 
 -- ---- hops and ways
 

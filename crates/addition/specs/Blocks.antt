@@ -10,7 +10,7 @@ use Rattle.graph.specs.declared.record.TableEntry.{TableEntry}
 use Rattle.graph.specs.Graph.{Graph, block}
 use Rattle.graph.specs.Table.{entryAt, isStart}
 use Rattle.graph.specs.WellFormed.{isBuilt}
-use Rattle.unwind.specs.Lists.{keep, upto, head}
+use Rattle.addition.specs.Lists.{keep, upto, head}
 
 -- 'built blocks cover the table in order, copies follow'
 unfoldable pub builtBlocks : Graph → List ℕ

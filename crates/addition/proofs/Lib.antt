@@ -1,0 +1,16 @@
+pub mod Lists
+pub mod Order
+pub mod Paths
+pub mod Trie
+pub mod Intern
+pub mod Sound
+pub mod Closure
+pub mod Instance
+pub mod After
+pub mod Parts
+pub mod Walks
+pub mod HopWays
+pub mod Accepted
+pub mod Milder
+pub mod Owners
+pub mod Demand

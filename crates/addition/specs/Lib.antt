@@ -1,0 +1,10 @@
+pub mod Lists
+pub mod Order
+pub mod Blocks
+pub mod Part
+pub mod Trie
+pub mod Instance
+pub mod Ways
+pub mod Add
+pub mod Walk
+pub mod Demand
