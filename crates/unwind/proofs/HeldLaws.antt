@@ -2,9 +2,8 @@
 --     held-none                    none yet
 --     held-room, held-more         the entries of one source: room for them, and what holds then
 --     held-up                      a higher bound of the sources
---     fit-front, fit-flat          room for all is room for the first
+--     fit-front                    room for all is room for the first
 --     block-own                    the entries gathered of a block that stood
---     fit-next, held-next          one source more
 --     copy-own                     the entries gathered of a copy
 --     fit-own, held-own            what they are
 --     held-below, held-then        stores behind others
@@ -99,24 +98,9 @@ fit-front hs ks f =
     let lists = ap length (joined-append (λ (h : Hop). h .calls) hs ks) ∙ length-append (joined (λ (h : Hop). h .calls) hs) (joined (λ (h : Hop). h .calls) ks) in
     record { hops = omega (arith, length-append hs ks, f .hops); lists = omega (arith, lists, f .lists) }
 
-pub fit-flat : (f : ℕ → List Hop) (k n : ℕ) → k ≤ n → HopsFit (flat f n) → HopsFit (flat f k)
-fit-flat f k n h fit =
-    let e : k + (n - k) ≡ n = omega arith in
-    fit-front (flat f k) (flat (λ j. f (k + j)) (n - k)) (rw (sym (ap (flat f) e) ∙ flat-split f k (n - k)) at fit)
-
 pub block-own : (m : RouteImage) (b : ℕ) (nodes edges ends heads landings roots guards bases returns : List ℕ) (c : Counts) (l : List ℕ) (n : ℕ) → Holds m b (blockRecords m b nodes edges ends heads landings roots guards bases returns c) l n → hopsOn [] (exitsIn m b l n) ≡ blockHops m nodes edges ends heads landings roots guards bases returns c b
 unfolding blockHops
 block-own m b nodes edges ends heads landings roots guards bases returns c l n h = ap (hopsOn []) (h .is)
-
-module _ (f : ℕ → List Hop) (b : ℕ) {own : List Hop} (is : own ≡ f b) where
-  more-is : flat f b ++ own ≡ flat f (b + 1)
-  more-is = ap (λ (t : List Hop). flat f b ++ t) is ∙ sym (flat-more f b)
-
-  pub fit-next : (n : ℕ) → b < n → HopsFit (flat f n) → HopsFit (flat f b ++ own)
-  fit-next n h fit = subst HopsFit (sym more-is) (fit-flat f (b + 1) n (omega arith) fit)
-
-  pub held-next : {m : RouteImage} {d : ℕ} {l l′ : List ℕ} → HopsHeld m d l l′ (flat f b ++ own) → HopsHeld m d l l′ (flat f (b + 1))
-  held-next {m} {d} {l} {l′} p = subst (HopsHeld m d l l′) more-is p
 
 pub copy-own : (m : RouteImage) (b : ℕ) (nodes edges ends heads landings : List ℕ) (i : ℕ) {l l′ : List ℕ} {n : ℕ} → Gathers m b l 0 (recordExits m b edges ends heads landings (recordIn nodes i)) l′ n → hopsOn [] (exitsIn m b l′ n) ≡ hopsFrom m nodes edges ends heads landings i b
 unfolding hopsFrom
