@@ -27,6 +27,8 @@ pub mod TrieKeys
 pub mod TrieRuns
 pub mod TrieLaid
 pub mod TrieNodes
+pub mod TrieEarly
+pub mod LowerLaws
 pub mod TrieFuel
 pub mod TrieGroups
 pub mod TrieIntern
@@ -46,6 +48,7 @@ pub mod LentLaws
 pub mod SizeLaws
 pub mod SlotLaws
 pub mod PlaceLaws
+pub mod LikeLaws
 pub mod CopyLaws
 pub mod AllHops
 pub mod CopiesAre
@@ -65,4 +68,6 @@ pub mod AllNodesLaws
 pub mod FindLaws
 pub mod WantLaws
 pub mod StoreLaws
+pub mod AnswerLaws
+pub mod FrameLaws
 pub mod MemberLaws

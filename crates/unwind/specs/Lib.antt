@@ -11,6 +11,7 @@ pub mod Keys
 pub mod Runs
 pub mod Laid
 pub mod Kept
+pub mod Lower
 pub mod Interns
 pub mod Routed
 pub mod Instance

@@ -50,7 +50,7 @@ fn is_ordinary(kind: u64) -> bool
 
 // The built blocks that start a funclet of the routes.
 pub fn funclet_entries(g: &Words, built: usize, s: &[u8], y: RouteLayout) -> [u64; 16]
-    requires { ⌜ Stands (heldIn (now g) .graph) × Built (heldIn (now g) .graph) built × (0 < length (heldIn (now g) .graph .table)) × AcceptedRoutes (routesIn (now s) y) ⌝ }
+    requires { ⌜ Stands (heldIn (now g) .graph) × Built (heldIn (now g) .graph) built × (0 < length (routesIn (now s) y .steps) → 0 < length (heldIn (now g) .graph .table)) × AcceptedRoutes (routesIn (now s) y) ⌝ }
     ensures { λ r. ⌜ Barriers (heldIn (now (g .entry)) .graph) (routesOf (routesIn (now (s .entry)) y)) r ⌝ }
 {
     let n = y.steps.count as usize;
