@@ -6,7 +6,7 @@
 --     adds-refused, adds-sized     the same of routes that were read, by their checks
 -- Assumes nothing.
 use mathlib.Core.Path.{_≡_, refl, sym, ap, _∙_}
-use mathlib.Core.Bool.{true, false, cond}
+use mathlib.Core.Bool.{true, false}
 use mathlib.Core.List.{List}
 use Prim.Native.Nat.{ℕ}
 use Rattle.image.specs.Refusal.{Refusal, refusal}
@@ -20,7 +20,7 @@ use Rattle.graph.specs.WellFormed.{wellFormed}
 use Rattle.graph.specs.declared.error.AddressBuildError.{AddressBuildError}
 use Rattle.unwind.specs.declared.add.AddedRoutes.{AddedRoutes}
 use Rattle.unwind.specs.declared.add.AddedRoutes.the-variants.{Stored, Refused}
-use Rattle.addition.specs.Add.{addition, added, refused, outcome, sizeCheck, addRoutesTo, addRead, addRoutes}
+use Rattle.addition.specs.Add.{addition, refused, outcome, sizeCheck, addRoutesTo, addRead, addRoutes}
 use Rattle.unwind.specs.Answers.{additionIn, answerOf, imageOf, addAnswer, AddLeaves, Spells, Adds, Sized}
 use Rattle.addition.proofs.Demand.{demand3}
 

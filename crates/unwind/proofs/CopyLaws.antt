@@ -1,13 +1,11 @@
 -- The hops out of copies.
 --     record-length                how many exits a node has
---     few-from, few-in, few-out    those of a node, if it returns there
+--     few-from                     those of a node
 --     node-none, node-some         those of a node's copies, if it has any
---     copy-first, copy-next        the number of a copy
-use mathlib.Core.Path.{_≡_, refl, sym, _∙_, ap, subst}
-use mathlib.Core.Bool.{Bool, true, false, cond}
-use mathlib.Core.List.{List, []}
-use Prim.Native.Nat.{ℕ, _+_, _≤_, _<_}
-use native.Mathlib.Numerals.{add-one}
+--     copy-first                   the number of the first copy
+use mathlib.Core.Path.{_≡_, refl, sym, _∙_}
+use mathlib.Core.List.{List}
+use Prim.Native.Nat.{ℕ, _+_, _<_}
 use native.Mathlib.Omega.{arith}
 use borrow.Author.Tests.{eq-eqb, ne-eqb}
 use lib.ListN.{length, getD, length-append}
@@ -18,9 +16,9 @@ use Rattle.unwind.specs.declared.emit.count.Sizes.{Sizes}
 use Rattle.unwind.specs.declared.tries.store.NodeRecord.{NodeRecord}
 use Rattle.addition.specs.Lists.{keep, joined}
 use Rattle.unwind.specs.Nodes.{recordIn}
-use Rattle.unwind.specs.Gather.{edgeExits, endExits, recordExits, Gathers, inSet}
+use Rattle.unwind.specs.Gather.{edgeExits, endExits, recordExits, Gathers}
 use Rattle.unwind.specs.Sizes.{SizesOf}
-use Rattle.unwind.specs.Copies.{copyNumber, hopsFrom, hopsIf, copyHops, FewHops, SumSize, nodeHops}
+use Rattle.unwind.specs.Copies.{copyNumber, hopsFrom, copyHops, FewHops, SumSize, nodeHops}
 use Rattle.unwind.proofs.LentLaws.{held-from}
 
 module _ (m : RouteImage) (b : ℕ) (nodes edges ends heads landings : List ℕ) where
@@ -39,17 +37,6 @@ module _ (m : RouteImage) (b : ℕ) (nodes edges ends heads landings : List ℕ)
         blocks = let h = s .blocks-most in omega arith;
       }
 
-  module _ (returns : List ℕ) (i o : ℕ) where
-    pub few-in : {l l′ : List ℕ} {r : Sizes} → true ≡ inSet returns i o → FewHops (hopsFrom m nodes edges ends heads landings i b) l l′ r → FewHops (hopsIf m nodes edges ends heads landings returns i o b) l l′ r
-    unfolding hopsIf
-    few-in {l} {l′} {r} e s = subst (λ (t : Bool). FewHops (cond t (hopsFrom m nodes edges ends heads landings i b) []) l l′ r) e s
-
-    pub few-out : (l : List ℕ) → false ≡ inSet returns i o → FewHops (hopsIf m nodes edges ends heads landings returns i o b) l l (record { hops = 0; lists = 0; blocks = 0 })
-    unfolding hopsIf keep joined
-    few-out l e =
-        subst (λ (t : Bool). FewHops (cond t (hopsFrom m nodes edges ends heads landings i b) []) l l (record { hops = 0; lists = 0; blocks = 0 })) e
-        (record { long = refl; of = record { hops = refl; lists = refl; blocks = refl }; hops = omega arith; lists = omega arith; blocks = omega arith })
-
 module _ (m : RouteImage) (nodes edges ends heads landings bases parts returns : List ℕ) (blocks i : ℕ) where
   pub node-none : (l : List ℕ) → getD bases i 0 ≡ 0 → SumSize (nodeHops m nodes edges ends heads landings bases parts returns blocks i) l l (record { hops = 0; lists = 0; blocks = 0 })
   unfolding nodeHops keep joined
@@ -62,14 +49,3 @@ module _ (m : RouteImage) (nodes edges ends heads landings bases parts returns :
 pub copy-first : (parts : List ℕ) (i base : ℕ) → base ≡ copyNumber parts i base 0
 unfolding copyNumber
 copy-first parts i base = refl
-
-pub copy-next : (parts : List ℕ) (i base o b : ℕ) → b ≡ copyNumber parts i base o → b + cond (inSet parts i o) 1 0 ≡ copyNumber parts i base (o + 1)
-unfolding copyNumber
-copy-next parts i base o b e = rw (add-one o) (ap (λ (n : ℕ). n + cond (inSet parts i o) 1 0) e)
-
-pub copy-most : (parts : List ℕ) (i o b : ℕ) → b + cond (inSet parts i o) 1 0 ≤ b + 1
-copy-most parts i o b = go (inSet parts i o)
-  where
-    go : (t : Bool) → b + cond t 1 0 ≤ b + 1
-    go true = omega arith
-    go false = omega arith

@@ -4,7 +4,7 @@
 --     nodes-checked                the checks of the nodes in scratch
 --     placements, at-hand          the instances, and then the sides
 -- Assumes nothing.
-use mathlib.Core.Path.{_≡_, refl, sym, ap, _∙_}
+use mathlib.Core.Path.{_≡_, sym, ap, _∙_}
 use mathlib.Core.List.{List}
 use Prim.Native.Nat.{ℕ, _+_, _*_, _≤_, _<_}
 use native.Mathlib.Omega.{arith}
@@ -59,18 +59,6 @@ pub frame-room : {g : Graph} {m : RouteImage} {starts nodes edges ends stack roo
     → length nodes′ ≡ length nodes → length edges′ ≡ length edges → length ends′ ≡ length ends
     → Room g m edges′ ends′ head next bases heads parts returns guards landings exits c
 frame-room f t nodes-long edges-long ends-long =
-    let s = t .stored in
-    let nodes-fit = s .nodes-fit in
-    let ends-fit = s .ends-fit in
-    let bases-fit = f .bases-fit in
-    let heads-fit = f .heads-fit in
-    let parts-fit = f .parts-fit in
-    let returns-fit = f .returns-fit in
-    let landings-fit = f .landings-fit in
-    let x = f .exits-fit in
-    let edges-few = x .edges-few in
-    let ends-few = x .ends-few in
-    let room = x .room in
     record {
       links = f .links;
       unlinked = f .unlinked;
@@ -120,7 +108,6 @@ module _ (h : Held) (n : ℕ) (m : RouteImage) (checked : RoutesChecked h n m) (
       → GuardsIn g m guards′ (length (m .routes)) → length guards′ ≡ length guards → Lands g m ends landings′ (c .ends)
       → AtHand h m nodes edges ends roots head next bases heads parts returns guards′ landings′ exits c
   at-hand p guarded long landed =
-      let fits = p .guards-fit in
       record {
         graphed = checked .graphed;
         accepted = checked .accepted;

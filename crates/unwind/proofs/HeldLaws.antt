@@ -2,19 +2,16 @@
 --     held-none                    none yet
 --     held-room, held-more         the entries of one source: room for them, and what holds then
 --     held-up                      a higher bound of the sources
---     fit-front, fit-flat          room for all is room for the first
+--     fit-front                    room for all is room for the first
 --     block-own                    the entries gathered of a block that stood
---     fit-next, held-next          one source more
 --     copy-own                     the entries gathered of a copy
 --     fit-own, held-own            what they are
 --     held-below, held-then        stores behind others
 --     step-is, fit-step            one source more behind hops that there were
---     fit-in, held-in, held-out    those of a copy, if the node returns there
 -- Assumes nothing.
 use mathlib.Core.Path.{_≡_, refl, sym, ap, _∙_, subst}
 use mathlib.Core.Logic.{_⊎_, inl, inr}
-use mathlib.Core.Bool.{Bool, true, false, cond}
-use mathlib.Core.List.{List, [], _∷_, _++_, append-nil, append-assoc, List·Memᴰ·append-cases, List·Memᴰ·eq-of-singleton}
+use mathlib.Core.List.{List, [], _∷_, _++_, append-assoc, List·Memᴰ·append-cases, List·Memᴰ·eq-of-singleton}
 use Prim.Native.Nat.{ℕ, zero, suc, _+_, _-_, _≤_, _<_}
 use native.Mathlib.Omega.{arith}
 use lib.ListN.{length, length-append}
@@ -28,8 +25,8 @@ use Rattle.addition.specs.Ways.{Hop}
 use Rattle.unwind.specs.Sources.{Exit, hopsOn}
 use Rattle.unwind.specs.Entries.{exitIn, exitsIn}
 use Rattle.unwind.specs.Lent.{blockRecords, Holds, blockHops}
-use Rattle.unwind.specs.Gather.{recordExits, Gathers, inSet}
-use Rattle.unwind.specs.Copies.{hopsFrom, hopsIf}
+use Rattle.unwind.specs.Gather.{recordExits, Gathers}
+use Rattle.unwind.specs.Copies.{hopsFrom}
 use Rattle.addition.specs.Walk.{_∈_}
 use Rattle.unwind.specs.HopWords.{Rows, rowsIn, hopsIn, rowHops, noRows, rowsOn, Consecutive, InOrder, HopsStored, HopsHeld, HopsFit, HopsBelow}
 use Rattle.addition.proofs.Lists.{none-in}
@@ -101,24 +98,9 @@ fit-front hs ks f =
     let lists = ap length (joined-append (λ (h : Hop). h .calls) hs ks) ∙ length-append (joined (λ (h : Hop). h .calls) hs) (joined (λ (h : Hop). h .calls) ks) in
     record { hops = omega (arith, length-append hs ks, f .hops); lists = omega (arith, lists, f .lists) }
 
-pub fit-flat : (f : ℕ → List Hop) (k n : ℕ) → k ≤ n → HopsFit (flat f n) → HopsFit (flat f k)
-fit-flat f k n h fit =
-    let e : k + (n - k) ≡ n = omega arith in
-    fit-front (flat f k) (flat (λ j. f (k + j)) (n - k)) (rw (sym (ap (flat f) e) ∙ flat-split f k (n - k)) at fit)
-
 pub block-own : (m : RouteImage) (b : ℕ) (nodes edges ends heads landings roots guards bases returns : List ℕ) (c : Counts) (l : List ℕ) (n : ℕ) → Holds m b (blockRecords m b nodes edges ends heads landings roots guards bases returns c) l n → hopsOn [] (exitsIn m b l n) ≡ blockHops m nodes edges ends heads landings roots guards bases returns c b
 unfolding blockHops
 block-own m b nodes edges ends heads landings roots guards bases returns c l n h = ap (hopsOn []) (h .is)
-
-module _ (f : ℕ → List Hop) (b : ℕ) {own : List Hop} (is : own ≡ f b) where
-  more-is : flat f b ++ own ≡ flat f (b + 1)
-  more-is = ap (λ (t : List Hop). flat f b ++ t) is ∙ sym (flat-more f b)
-
-  pub fit-next : (n : ℕ) → b < n → HopsFit (flat f n) → HopsFit (flat f b ++ own)
-  fit-next n h fit = subst HopsFit (sym more-is) (fit-flat f (b + 1) n (omega arith) fit)
-
-  pub held-next : {m : RouteImage} {d : ℕ} {l l′ : List ℕ} → HopsHeld m d l l′ (flat f b ++ own) → HopsHeld m d l l′ (flat f (b + 1))
-  held-next {m} {d} {l} {l′} p = subst (HopsHeld m d l l′) more-is p
 
 pub copy-own : (m : RouteImage) (b : ℕ) (nodes edges ends heads landings : List ℕ) (i : ℕ) {l l′ : List ℕ} {n : ℕ} → Gathers m b l 0 (recordExits m b edges ends heads landings (recordIn nodes i)) l′ n → hopsOn [] (exitsIn m b l′ n) ≡ hopsFrom m nodes edges ends heads landings i b
 unfolding hopsFrom
@@ -137,27 +119,6 @@ pub held-then : (m : RouteImage) (l₁ : List ℕ) (hs ks : List Hop) {b d : ℕ
 held-then m l₁ hs ks {d = d} {l₂ = l₂} p q =
     let r = subst (λ (t : List Hop). HopsHeld m d l₁ l₂ (t ++ ks)) (p .holds) q in
     record { holds = r .holds; order = r .order; below = r .below; uses = λ k u. p .uses k (r .uses k u); kept = λ k u. r .kept k u ∙ p .kept k (r .uses k u) }
-
-module _ (m : RouteImage) (nodes edges ends heads landings returns : List ℕ) (i o b : ℕ) (hs : List Hop) where
-  abbrev from : List Hop
-  from = hopsFrom m nodes edges ends heads landings i b
-
-  abbrev if-returns : List Hop
-  if-returns = hopsIf m nodes edges ends heads landings returns i o b
-
-  pub fit-in : true ≡ inSet returns i o → HopsFit (hs ++ if-returns) → HopsFit (hs ++ from)
-  unfolding hopsIf
-  fit-in e f = subst (λ (t : Bool). HopsFit (hs ++ cond t from [])) (sym e) f
-
-  pub held-in : {l l′ : List ℕ} → true ≡ inSet returns i o → HopsHeld m (b + 1) l l′ (hs ++ from) → HopsHeld m (b + cond (inSet returns i o) 1 0) l l′ (hs ++ if-returns)
-  unfolding hopsIf
-  held-in {l} {l′} e p = subst (λ (t : Bool). HopsHeld m (b + cond t 1 0) l l′ (hs ++ cond t from [])) e p
-
-  pub held-out : {l l′ : List ℕ} → false ≡ inSet returns i o → HopsHeld m b l l′ hs → HopsHeld m (b + cond (inSet returns i o) 1 0) l l′ (hs ++ if-returns)
-  unfolding hopsIf
-  held-out {l} {l′} e p =
-      subst (λ (t : Bool). HopsHeld m (b + cond t 1 0) l l′ (hs ++ cond t from [])) e
-      (subst (HopsHeld m (b + 0) l l′) (sym (append-nil hs)) (held-up (b + 0) p (omega arith)))
 
 pub step-is : (hs : List Hop) (f : ℕ → List Hop) (o : ℕ) → hs ++ flat f o ++ f o ≡ hs ++ flat f (o + 1)
 step-is hs f o = append-assoc hs (flat f o) (f o) ∙ ap (λ (t : List Hop). hs ++ t) (sym (flat-more f o))

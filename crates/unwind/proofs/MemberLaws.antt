@@ -7,11 +7,15 @@
 --     copy-rank, copy-rises, copy-more     the number of a copy by the members below
 --     copy-here, copy-quiet        the hops out of a copy, and of a block from which the node does not return
 --     sets-quiet, sets-below, sets-few, sets-number, sets-here, sets-more     the same by the sets of a node
---     nodes-sets                   the sets of nodes that are placed
+--     joins-none, joins-more, joins-skip     one set more
+--     returns-own, returns-not     the set of a node, if it has the original blocks
+--     busy-joined                  the blocks that have a way out
+--     busy-quiet, busy-below       no hop goes out of the others, and they stood
+--     nodes-sets, block-sets       the sets of nodes that are placed, and of routes
 -- Assumes nothing.
 use mathlib.Core.Path.{_≡_, refl, sym, ap, _∙_, subst}
-use mathlib.Core.Logic.{⊎-elim}
-use mathlib.Core.Bool.{Bool, true, false, cond, false≢true}
+use mathlib.Core.Logic.{_⊎_, inl, inr, ⊎-elim}
+use mathlib.Core.Bool.{Bool, true, false, cond, _||_, or-false, false≢true}
 use mathlib.Core.List.{List, [], _++_, append-nil}
 use Prim.Native.Nat.{ℕ, zero, suc, _+_, _*_, _≤_, _<_}
 use native.Mathlib.Nat.{not-suc-le-zero}
@@ -19,27 +23,33 @@ use native.Mathlib.Numerals.{add-one}
 use native.Mathlib.Decide.{ℕ-discrete, decLt}
 use native.Mathlib.Omega.{arith}
 use borrow.Author.Tests.{eq-eqb, ne-eqb}
+use lib.Dec.{eqb}
 use lib.ListN.{length, getD}
 use Rattle.image.specs.Image.{RouteImage}
 use Rattle.image.specs.Deal.{routesOf}
 use Rattle.graph.specs.Graph.{Graph}
-use Rattle.graph.specs.Fold.{flat, count}
-use Rattle.graph.specs.BlockSet.{member, excluding}
-use Rattle.graph.proofs.FoldLaws.{decided, count-yes, count-no, length-table}
-use Rattle.graph.proofs.BlockLaws.{member-excluding, length-excluding}
+use Rattle.graph.specs.Fold.{flat, some, count}
+use Rattle.graph.specs.Route.{routeAt}
+use Rattle.graph.specs.BlockSet.{member, none, excluding, Union}
+use Rattle.graph.proofs.FoldLaws.{decided, some-none, some-where, flat-none, count-yes, count-no, length-table}
+use Rattle.graph.proofs.BlockLaws.{member-none, member-excluding, length-excluding}
 use Rattle.unwind.specs.declared.emit.count.Sizes.{Sizes}
 use Rattle.unwind.specs.declared.tries.store.Counts.{Counts}
+use Rattle.addition.specs.Order.{sorted}
 use Rattle.addition.specs.Part.{returning}
 use Rattle.addition.specs.Trie.{tries}
+use Rattle.unwind.specs.Nodes.{recordIn}
 use Rattle.addition.specs.Ways.{Hop}
+use Rattle.unwind.specs.Sources.{Exit, compareExits, hopsOn}
 use Rattle.unwind.specs.Placed.{setAt}
-use Rattle.unwind.specs.Gather.{inSet}
-use Rattle.unwind.specs.Lent.{Sides}
+use Rattle.unwind.specs.Gather.{inSet, recordExits, routeRecords, nodeRecords}
+use Rattle.unwind.specs.Lent.{Sides, blockRecords, blockHops}
 use Rattle.unwind.specs.Sizes.{HopsSize, sizesBoth}
 use Rattle.unwind.specs.Copies.{copyNumber, hopsFrom, hopsIf, copyHops, SumSize}
 use Rattle.unwind.specs.HopWords.{HopsHeld, HopsFit, ReturnsWithin}
-use Rattle.unwind.specs.Members.{NodeSets, NodesSets}
-use Rattle.addition.proofs.Lists.{keep-mem, among-mem}
+use Rattle.unwind.specs.Members.{NodeSets, NodesSets, originalReturns, Joins, Busy, BlockSets}
+use Rattle.addition.proofs.Lists.{and-both, keep-mem, among-mem}
+use Rattle.addition.proofs.Accepted.{guarded-mem}
 use Rattle.addition.proofs.Instance.{blocks-lt}
 use Rattle.unwind.proofs.SizeLaws.{Summed, summed-none, summed-more}
 use Rattle.unwind.proofs.SlotLaws.{set-run}
@@ -251,6 +261,76 @@ module _ (m : RouteImage) (nodes edges ends heads landings parts returns : List 
     pub sets-more : ReturnsWithin parts returns i → member (setAt returns i) o ≡ true → base + r + 1 ≤ copyNumber parts i base (o + 1)
     sets-more k e = omega (arith, sets-number, copy-more parts i base o (k .within o (in-set returns i o (sets .returns-fit) ∙ e)))
 
+-- ---- blocks that have a way out
+
+module _ (f : ℕ → ℕ → Bool) where
+  pub joins-none : Joins f 0 none
+  unfolding some
+  joins-none = record { has = member-none }
+
+  module _ {w : List ℕ} {n : ℕ} (p : Joins f n w) where
+    pub joins-more : (v : List ℕ) → ((b : ℕ) → f n b ≡ member v b) → {w′ : List ℕ} → Union w v w′ → Joins f (n + 1) w′
+    unfolding some
+    joins-more v is u = record { has = λ b. u b ∙ (λ t. p .has b t || sym (is b) t) ∙ ap (some (λ i. f i b)) (sym (add-one n)) }
+
+    pub joins-skip : ((b : ℕ) → f n b ≡ false) → Joins f (n + 1) w
+    unfolding some
+    joins-skip lacks =
+        record { has = λ b. p .has b ∙ sym (or-false (some (λ i. f i b) n)) ∙ ap (λ (t : Bool). some (λ i. f i b) n || t) (sym (lacks b)) ∙ ap (some (λ i. f i b)) (sym (add-one n)) }
+
+pub busy-joined : (guards : List ℕ) (routes : ℕ) (bases returns : List ℕ) (n : ℕ) {u v w : List ℕ} → Joins (λ r b. inSet guards r b) routes u → Joins (originalReturns bases returns) n v → Union u v w → length w ≡ 16 → Busy guards routes bases returns n w
+busy-joined guards routes bases returns n p q both long = record { long = long; has = λ b. both b ∙ (λ t. p .has b t || q .has b t) }
+
+module _ (bases returns : List ℕ) (i : ℕ) where
+  pub returns-own : getD bases i 0 ≡ 0 → 16 * i + 16 ≤ length returns → (b : ℕ) → originalReturns bases returns i b ≡ member (setAt returns i) b
+  unfolding originalReturns
+  returns-own e fit b = rw (eq-eqb (getD bases i 0) 0 e) (in-set returns i b fit)
+
+  pub returns-not : (getD bases i 0 ≡ 0 → ⊥) → (b : ℕ) → originalReturns bases returns i b ≡ false
+  unfolding originalReturns
+  returns-not n b = rw (ne-eqb (getD bases i 0) 0 n)
+
+neither : (x y : Bool) → (x || y) ≡ false → (x ≡ false) × (y ≡ false)
+neither true y e = absurd (false≢true (sym e))
+neither false y e = (refl, e)
+
+either : (x y : Bool) → (x || y) ≡ true → (x ≡ true) ⊎ (y ≡ true)
+either true y e = inl refl
+either false y e = inr e
+
+module _ (m : RouteImage) (nodes edges ends heads landings roots guards bases returns : List ℕ) (c : Counts) (routes : ℕ) (is : length (m .routes) ≡ routes) (w : List ℕ) (busy : Busy guards routes bases returns (c .nodes) w) where
+  module _ (b : ℕ) (out : member w b ≡ false) where
+    none-of : (some (λ r. inSet guards r b) routes ≡ false) × (some (λ i. originalReturns bases returns i b) (c .nodes) ≡ false)
+    none-of = neither _ _ (sym (busy .has b) ∙ out)
+
+    route-quiet : (r : ℕ) → r < length (m .routes) → routeRecords m b edges ends heads landings nodes roots guards r ≡ []
+    unfolding routeRecords
+    route-quiet r h =
+        ap (λ (t : Bool). cond t (recordExits m b edges ends heads landings (recordIn nodes (getD roots r 0))) []) (some-none (λ r. inSet guards r b) routes (none-of .0) r (omega (arith, h, is)))
+
+    node-quiet : (i : ℕ) → i < c .nodes → nodeRecords m b edges ends heads landings nodes bases returns i ≡ []
+    unfolding nodeRecords originalReturns
+    node-quiet i h =
+        ap (λ (t : Bool). cond t (recordExits m b edges ends heads landings (recordIn nodes i)) []) (some-none (λ i. originalReturns bases returns i b) (c .nodes) (none-of .1) i h)
+
+    records-quiet : blockRecords m b nodes edges ends heads landings roots guards bases returns c ≡ []
+    unfolding blockRecords
+    records-quiet =
+        (λ t. flat-none (routeRecords m b edges ends heads landings nodes roots guards) (length (m .routes)) route-quiet t
+        ++ flat-none (nodeRecords m b edges ends heads landings nodes bases returns) (c .nodes) node-quiet t)
+
+    pub busy-quiet : blockHops m nodes edges ends heads landings roots guards bases returns c b ≡ []
+    unfolding blockHops hopsOn sorted
+    busy-quiet = ap (λ (xs : List Exit). hopsOn [] (sorted compareExits xs)) records-quiet
+
+  pub busy-below : (blocks : ℕ) → BlockSets guards returns blocks (length (m .routes)) (c .nodes) → (b : ℕ) → member w b ≡ true → b < blocks
+  unfolding originalReturns
+  busy-below blocks sets b e =
+      ⊎-elim
+      (λ g. let x = some-where (λ r. inSet guards r b) routes g in sets .guards-below (x .0) b (omega (arith, x .1, is)) (x .2))
+      (λ g. let x = some-where (λ i. originalReturns bases returns i b) (c .nodes) g in sets .returns-below (x .0) b (x .1) (and-both (eqb (getD bases (x .0) 0) 0) (inSet returns (x .0) b) (x .2) .1))
+      (either _ _ (sym (busy .has b) ∙ e))
+
 -- ---- nodes that are placed
 
 pub nodes-sets : (g : Graph) (m : RouteImage) (guards bases parts returns : List ℕ) (c : Counts) → Sides g m guards bases returns c → 16 * c .nodes ≤ length parts → 16 * c .nodes ≤ length returns → NodesSets parts returns (length (g .blocks)) (c .nodes)
@@ -262,4 +342,13 @@ nodes-sets g m guards bases parts returns c k p r =
             returns-fit = omega arith;
             below = λ o e. blocks-lt g (routesOf m) (tries (routesOf m) .nodes) i o (keep-mem (returning g) _ (among-mem _ o (sym (k .returns-are i o h) ∙ e)) .0);
           };
+    }
+
+pub block-sets : (g : Graph) (m : RouteImage) (guards bases returns : List ℕ) (c : Counts) → Sides g m guards bases returns c → 16 * length (m .routes) ≤ length guards → 16 * c .nodes ≤ length returns → BlockSets guards returns (length (g .blocks)) (length (m .routes)) (c .nodes)
+block-sets g m guards bases returns c k p r =
+    record {
+      guards-fit = p;
+      returns-fit = r;
+      guards-below = λ i o h e. guarded-mem g (routeAt (routesOf m) i) o (among-mem _ o (sym (k .guards-are i o h) ∙ e)) .0 .exists;
+      returns-below = λ i o h e. blocks-lt g (routesOf m) (tries (routesOf m) .nodes) i o (keep-mem (returning g) _ (among-mem _ o (sym (k .returns-are i o h) ∙ e)) .0);
     }

@@ -1,9 +1,12 @@
 -- The sets of blocks that hops are gathered from, read as sixteen words each.
 use mathlib.Core.Path.{_≡_}
-use mathlib.Core.Bool.{true}
+use mathlib.Core.Bool.{Bool, true, _&&_, _||_}
 use mathlib.Core.List.{List}
 use Prim.Native.Nat.{ℕ, _+_, _*_, _≤_, _<_}
-use lib.ListN.{length}
+use lib.Dec.{eqb}
+use lib.ListN.{length, getD}
+use Rattle.graph.specs.Fold.{some}
+use Rattle.graph.specs.BlockSet.{member}
 use Rattle.unwind.specs.Gather.{inSet}
 
 -- the sets of node i stand in the slices, and it returns from the first `blocks` blocks alone
@@ -15,3 +18,25 @@ pub record NodeSets (parts returns : List ℕ) (blocks i : ℕ) : Type 0 where
 -- so it is with each of the first n nodes
 pub record NodesSets (parts returns : List ℕ) (blocks n : ℕ) : Type 0 where
   pub each : (i : ℕ) → i < n → NodeSets parts returns blocks i
+
+-- ---- the blocks that have a way out
+
+-- node i has the original blocks and returns from b
+unfoldable pub originalReturns : List ℕ → List ℕ → ℕ → ℕ → Bool
+originalReturns bases returns i b = eqb (getD bases i 0) 0 && inSet returns i b
+
+-- w has the blocks of each of the first n sets
+pub record Joins (f : ℕ → ℕ → Bool) (n : ℕ) (w : List ℕ) : Type 0 where
+  pub has : (b : ℕ) → member w b ≡ some (λ i. f i b) n
+
+-- w has the blocks that one of the routes guards, or that one of the first n nodes returns from, on the original blocks
+pub record Busy (guards : List ℕ) (routes : ℕ) (bases returns : List ℕ) (n : ℕ) (w : List ℕ) : Type 0 where
+  pub long : length w ≡ 16
+  pub has : (b : ℕ) → member w b ≡ (some (λ r. inSet guards r b) routes || some (λ i. originalReturns bases returns i b) n)
+
+-- the sets of the routes and of the first n nodes stand in the slices, and have the first `blocks` blocks alone
+pub record BlockSets (guards returns : List ℕ) (blocks routes n : ℕ) : Type 0 where
+  pub guards-fit : 16 * routes ≤ length guards
+  pub returns-fit : 16 * n ≤ length returns
+  pub guards-below : (r o : ℕ) → r < routes → inSet guards r o ≡ true → o < blocks
+  pub returns-below : (i o : ℕ) → i < n → inSet returns i o ≡ true → o < blocks

@@ -2,6 +2,7 @@
 pub mod all;
 pub mod append;
 mod block;
+mod busy;
 pub mod cloned;
 mod copies;
 pub mod count;

@@ -1,8 +1,12 @@
 // The sizes of what is added, before any of it is stored.
 use crate::emit::block::gather_block;
+use crate::emit::busy::busy_blocks;
 use crate::emit::entries::LEAVE;
 use crate::tries::store::Counts;
 use crate::tries::store::branch_at;
+use graph::blockset::Lowest;
+use graph::blockset::lowest_in;
+use graph::blockset::take_from;
 use image::section::RouteLayout;
 ghost use mathlib.Core.Path.{_≡_};
 ghost use Prim.Native.Nat.{_*_, _≤_, _<_};
@@ -14,6 +18,7 @@ ghost use Rattle.unwind.specs.Routed.{TriesIn};
 ghost use Rattle.unwind.specs.Lent.{Roomy, blockHops};
 ghost use Rattle.unwind.specs.Sizes.{SizesOf, sizesThen, sizesBoth};
 ghost use Rattle.unwind.specs.Copies.{SumSize};
+ghost use Rattle.unwind.specs.Members.{BlockSets};
 
 // Hops, the lists that they have, and the hops that end at a block: one route edge each.
 pub struct Sizes {
@@ -25,7 +30,7 @@ pub struct Sizes {
 // No end: what stands before the first entry.
 const NOWHERE: usize = 65536;
 
-// Those of the hops out of the first `blocks` blocks, which stood before.
+// Those of the hops out of the first `blocks` blocks, which stood before: of each that has a way out.
 pub fn count_blocks(
     s: &[u8],
     y: RouteLayout,
@@ -42,15 +47,26 @@ pub fn count_blocks(
     blocks: usize,
     exits: &mut [u16],
 ) -> Sizes
-    requires { ⌜ AcceptedRoutes (routesIn (now s) y) × TriesIn (routesIn (now s) y) (now nodes) (now edges) (now ends) (now roots) stored × (blocks ≤ 1024) × Roomy (now edges) (now ends) (now exits) ⌝ }
+    requires { ⌜ AcceptedRoutes (routesIn (now s) y) × TriesIn (routesIn (now s) y) (now nodes) (now edges) (now ends) (now roots) stored × (blocks ≤ 1024) × Roomy (now edges) (now ends) (now exits) × BlockSets (now guards) (now returns) blocks (length (routesIn (now s) y .routes)) (stored .nodes) ⌝ }
     ensures { λ r. ⌜ SumSize (flat (blockHops (routesIn (now (s .entry)) y) (now (nodes .entry)) (now (edges .entry)) (now (ends .entry)) (now (heads .entry)) (now (landings .entry)) (now (roots .entry)) (now (guards .entry)) (now (bases .entry)) (now (returns .entry)) stored) blocks) (now (exits .entry)) (now (exits .exit)) r ⌝ }
 {
+    let mut left = busy_blocks(
+        guards,
+        y.routes.count as usize,
+        bases,
+        returns,
+        stored.nodes,
+    );
     let mut sizes = Sizes {
         hops: 0,
         lists: 0,
         blocks: 0,
     };
-    for b in 0..blocks {
+    loop {
+        let Lowest::At(b) = lowest_in(&left) else {
+            return sizes;
+        };
+        take_from(&mut left, b);
         let n = gather_block(
             s,
             y,
@@ -70,7 +86,6 @@ pub fn count_blocks(
         let more = sizes_of(exits, n);
         sizes = sizes_both(sizes, more);
     }
-    sizes
 }
 
 pub fn sizes_both(p: Sizes, q: Sizes) -> Sizes

@@ -1,8 +1,12 @@
 // The hops out of the blocks that stood before, stored.
 use crate::emit::append::add_exits;
 use crate::emit::block::gather_block;
+use crate::emit::busy::busy_blocks;
 use crate::hops::Hops;
 use crate::tries::store::Counts;
+use graph::blockset::Lowest;
+use graph::blockset::lowest_in;
+use graph::blockset::take_from;
 use image::section::RouteLayout;
 ghost use mathlib.Core.Path.{_≡_};
 ghost use Prim.Native.Nat.{_≤_};
@@ -13,8 +17,9 @@ ghost use Rattle.graph.specs.Fold.{flat};
 ghost use Rattle.unwind.specs.Routed.{TriesIn};
 ghost use Rattle.unwind.specs.Lent.{Roomy, blockHops};
 ghost use Rattle.unwind.specs.HopWords.{rowsIn, noRows, HopsHeld, HopsFit};
+ghost use Rattle.unwind.specs.Members.{BlockSets};
 
-// Those of the first `blocks` blocks, into words that hold none.
+// Those of the first `blocks` blocks, of each that has a way out, into words that hold none.
 pub fn add_blocks(
     h: &mut Hops,
     s: &[u8],
@@ -32,10 +37,21 @@ pub fn add_blocks(
     blocks: usize,
     exits: &mut [u16],
 )
-    requires { ⌜ AcceptedRoutes (routesIn (now s) y) × TriesIn (routesIn (now s) y) (now nodes) (now edges) (now ends) (now roots) stored × (blocks ≤ 1024) × Roomy (now edges) (now ends) (now exits) × (rowsIn (now h) ≡ noRows) × HopsFit (flat (blockHops (routesIn (now s) y) (now nodes) (now edges) (now ends) (now heads) (now landings) (now roots) (now guards) (now bases) (now returns) stored) blocks) ⌝ }
+    requires { ⌜ AcceptedRoutes (routesIn (now s) y) × TriesIn (routesIn (now s) y) (now nodes) (now edges) (now ends) (now roots) stored × (blocks ≤ 1024) × Roomy (now edges) (now ends) (now exits) × (rowsIn (now h) ≡ noRows) × HopsFit (flat (blockHops (routesIn (now s) y) (now nodes) (now edges) (now ends) (now heads) (now landings) (now roots) (now guards) (now bases) (now returns) stored) blocks) × BlockSets (now guards) (now returns) blocks (length (routesIn (now s) y .routes)) (stored .nodes) ⌝ }
     ensures { λ _. ⌜ HopsHeld (routesIn (now (s .entry)) y) blocks (now (h .entry)) (now (h .exit)) (flat (blockHops (routesIn (now (s .entry)) y) (now (nodes .entry)) (now (edges .entry)) (now (ends .entry)) (now (heads .entry)) (now (landings .entry)) (now (roots .entry)) (now (guards .entry)) (now (bases .entry)) (now (returns .entry)) stored) blocks) × (length (now (exits .exit)) ≡ length (now (exits .entry))) ⌝ }
 {
-    for b in 0..blocks {
+    let mut left = busy_blocks(
+        guards,
+        y.routes.count as usize,
+        bases,
+        returns,
+        stored.nodes,
+    );
+    loop {
+        let Lowest::At(b) = lowest_in(&left) else {
+            return;
+        };
+        take_from(&mut left, b);
         let n = gather_block(
             s,
             y,

@@ -5,7 +5,7 @@ use Rattle.image.specs.Image.{routesIn}
 use Rattle.graph.specs.Words.{heldIn}
 use Rattle.unwind.proofs.LentLaws.{node-fits}
 use Rattle.unwind.proofs.HeldLaws.{held-below}
-use Rattle.unwind.proofs.MemberLaws.{nodes-sets}
+use Rattle.unwind.proofs.MemberLaws.{nodes-sets, block-sets}
 use Rattle.unwind.proofs.AllNodesLaws.{fit-stood, fit-others, all-rise, all-laid}
 use Rattle.unwind.proofs.emit.all.add_hops.Statement.{statement}
 use Rattle.unwind.proofs.emit.all.add_hops.Tie as tie
@@ -21,6 +21,7 @@ add-blocks-requires c κs =
       start .pre .7,
       c .before .before .empty-hops .ensures .holds,
       fit-stood (heldIn (a .g .now) .graph) m (a .nodes .now) (a .edges .now) (a .ends .now) (a .roots .now) (a .heads .now) (a .landings .now) (a .guards .now) (a .bases .now) (a .parts .now) (a .returns .now) (a .stored) (start .pre .1) (start .pre .2) (start .pre .3) (start .pre .4) (start .pre .6) (c .before .before .before .before .block-count .result) (c .before .before .before .before .block-count .ensures) (start .pre .8),
+      rw (c .before .before .before .before .block-count .ensures) (block-sets (heldIn (a .g .now) .graph) (routesIn (a .s .now) (a .y)) (a .guards .now) (a .bases .now) (a .returns .now) (a .stored) (start .pre .3) (start .pre .11) (start .pre .10)),
     )
 
 add-nodes-requires : tie.Need-add-nodes-requires

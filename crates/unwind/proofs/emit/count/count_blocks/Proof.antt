@@ -1,84 +1,97 @@
--- `count_blocks` meets its contract. The invariant: the hops of the blocks passed are counted. Assumes nothing.
+-- `count_blocks` meets its contract. The invariant: the hops of the blocks taken out are counted. Assumes nothing.
 use mathlib.Core.Path.{_≡_, refl, _∙_}
-use Prim.Native.Nat.{_-_, _≤_, _<_}
+use Prim.Native.Nat.{_<_}
 use native.Mathlib.Omega.{arith}
 use lib.ListN.{length}
+use Rattle.image.specs.Record.{routeFrom}
 use Rattle.image.specs.Image.{routesIn}
+use Rattle.image.proofs.Tables.{length-records}
+use Rattle.graph.specs.BlockSet.{sizeOf}
+use Rattle.graph.proofs.BlockLaws.{size-excluding}
 use Rattle.unwind.specs.Lent.{blockHops}
-use Rattle.unwind.proofs.SizeLaws.{Summed, summed-none, summed-more}
 use Rattle.unwind.proofs.LentLaws.{block-size}
+use Rattle.unwind.proofs.MemberLaws.{SetCounting, counting-start, counting-few, counting-next, counting-end, busy-quiet, busy-below}
 use borrow.Author.Needs.{needs}
 use Rattle.unwind.proofs.emit.count.count_blocks.Statement.{statement}
 use Rattle.unwind.proofs.emit.count.count_blocks.Tie as tie
 
 abbrev Inv-loop : tie.InvT-loop
-Inv-loop s y nodes edges ends heads landings roots guards bases returns stored blocks exits₀ sizes₀ b₀ exits sizes b =
-    (b ≤ blocks) × (length exits ≡ length exits₀) × Summed (blockHops (routesIn s y) nodes edges ends heads landings roots guards bases returns stored) b 65536 sizes
+Inv-loop s y nodes edges ends heads landings roots guards bases returns stored blocks exits₀ left₀ sizes₀ exits left sizes =
+    (length exits ≡ length exits₀) × SetCounting (blockHops (routesIn s y) nodes edges ends heads landings roots guards bases returns stored) left₀ blocks left sizes
 
 abbrev μ-loop : tie.MeasureT-loop
-μ-loop s y nodes edges ends heads landings roots guards bases returns stored blocks exits₀ sizes₀ b₀ exits sizes b = blocks - b
+μ-loop s y nodes edges ends heads landings roots guards bases returns stored blocks exits₀ left₀ sizes₀ exits left sizes = sizeOf left
 
-loop-holds : tie.Need-loop-holds Inv-loop μ-loop
-loop-holds c =
-    let a = c .before .before .before .before .before .before .before .before .before .before .before .args in
-    (omega arith, refl, summed-none (blockHops (routesIn (a .s .now) (a .y)) (a .nodes .now) (a .edges .now) (a .ends .now) (a .heads .now) (a .landings .now) (a .roots .now) (a .guards .now) (a .bases .now) (a .returns .now) (a .stored)) 65536)
+busy-blocks-requires : tie.Need-busy-blocks-requires Inv-loop μ-loop
+busy-blocks-requires c κs =
+    let start = c .before .before .before .before .before .before .before .before .before .before .before .before in
+    let count = length-records routeFrom (start .args .s .now) (start .args .y .routes) in
+    (omega (arith, count, start .pre .4 .guards-fit), start .pre .4 .returns-fit)
+
+same-length : tie.Need-same-length Inv-loop μ-loop
+same-length c = c .before .before .before .before .loop .inv .0
 
 gather-block-requires : tie.Need-gather-block-requires Inv-loop μ-loop
 gather-block-requires c κs =
-    let start = c .before .before .before .before .before .before .before .before .before .before .before .before .before .before in
-    let top = c .before .before .loop in
-    (start .pre .0, start .pre .1, omega (arith, start .pre .2, c .before .loop-test .taken), omega (arith, start .pre .3 .room, top .inv .1))
+    let start = c .before .before .before .before .before .before .before .before .before .before .before .before .before .before .before .before .before .before .before .before .before .before in
+    let top = c .before .before .before .before .before .before .before .before .loop in
+    let low = rw (c .before .before .before .before .b .given .1) at (c .before .before .before .before .before .before .lowest-in .ensures) in
+    (start .pre .0, start .pre .1, omega (arith, low .0), omega (arith, start .pre .3 .room, top .inv .0))
+
+loop-less : tie.Need-loop-less Inv-loop μ-loop
+loop-less c =
+    let top = c .before .before .before .before .before .before .before .before .before .before .before .before .before .before .loop in
+    let low = rw (c .before .before .before .before .before .before .before .before .before .before .b .given .1) at (c .before .before .before .before .before .before .before .before .before .before .before .before .lowest-in .ensures) in
+    rw (c .before .before .before .before .before .before .before .take-from .ensures) (omega (arith, size-excluding (top .left) (top .inv .1 .walked .long) _ (low .0) (low .1)))
+
+loop-holds : tie.Need-loop-holds Inv-loop μ-loop
+loop-holds c =
+    let start = c .before .before .before .before .before .before .before .before .before .before .before .before .before in
+    let a = start .args in
+    let m = routesIn (a .s .now) (a .y) in
+    let busy = c .busy-blocks in
+    (refl, counting-start (blockHops m (a .nodes .now) (a .edges .now) (a .ends .now) (a .heads .now) (a .landings .now) (a .roots .now) (a .guards .now) (a .bases .now) (a .returns .now) (a .stored)) (busy .result) (a .blocks) (busy .ensures .long) (busy-below m (a .nodes .now) (a .edges .now) (a .ends .now) (a .heads .now) (a .landings .now) (a .roots .now) (a .guards .now) (a .bases .now) (a .returns .now) (a .stored) (a .y .routes .count) (length-records routeFrom (a .s .now) (a .y .routes)) (busy .result) (busy .ensures) (a .blocks) (start .pre .4)))
+
+returns : tie.Need-returns Inv-loop μ-loop
+returns c =
+    let start = c .before .before .before .before .before .before .before .before .before .before .before .before .before .before .before .before .before .before in
+    let a = start .args in
+    let m = routesIn (a .s .now) (a .y) in
+    let busy = c .before .before .before .before .before .busy-blocks in
+    let top = c .before .before .before .before .loop in
+    counting-end (blockHops m (a .nodes .now) (a .edges .now) (a .ends .now) (a .heads .now) (a .landings .now) (a .roots .now) (a .guards .now) (a .bases .now) (a .returns .now) (a .stored)) (busy .result) (busy-quiet m (a .nodes .now) (a .edges .now) (a .ends .now) (a .heads .now) (a .landings .now) (a .roots .now) (a .guards .now) (a .bases .now) (a .returns .now) (a .stored) (a .y .routes .count) (length-records routeFrom (a .s .now) (a .y .routes)) (busy .result) (busy .ensures)) (top .inv .1) (rw (c .enum-told .given .1) at (c .before .before .lowest-in .ensures)) (start .pre .2) (a .exits .now) (top .exits) (top .inv .0)
 
 sizes-of-requires : tie.Need-sizes-of-requires Inv-loop μ-loop
 sizes-of-requires c κs =
-    let start = c .before .before .before .before .before .before .before .before .before .before .before .before .before .before .before .before .before .before in
+    let start = c .before .before .before .before .before .before .before .before .before .before .before .before .before .before .before .before .before .before .before .before .before .before .before .before .before .before in
     let held = c .before .before .before .gather-block .ensures in
     (held .holds .ordered .fit, omega (arith, held .most, start .pre .3 .edges-few, start .pre .3 .ends-few))
 
 sizes-both-requires : tie.Need-sizes-both-requires Inv-loop μ-loop
 sizes-both-requires c κs =
-    let start = c .before .before .before .before .before .before .before .before .before .before .before .before .before .before .before .before .before .before .before in
-    let top = c .before .before .before .before .before .before .before .loop in
+    let start = c .before .before .before .before .before .before .before .before .before .before .before .before .before .before .before .before .before .before .before .before .before .before .before .before .before .before .before in
+    let was = counting-few (c .before .before .before .before .before .before .before .before .before .before .before .before .before .loop .inv .1) (start .pre .2) in
     let held = c .before .before .before .before .gather-block .ensures in
     let more = c .sizes-of .ensures in
-    let test = c .before .before .before .before .before .before .loop-test .taken in
     let few : c .before .before .before .before .gather-block .result < 65536 = omega (arith, held .most, start .pre .3 .edges-few, start .pre .3 .ends-few) in
-    let all = start .pre .2 in (
-      omega (arith, top .inv .2 .hops),
-      omega (arith, top .inv .2 .lists),
-      omega (arith, top .inv .2 .blocks),
-      omega (arith, more .hops-most),
-      omega (arith, more .lists-most),
-      omega (arith, more .blocks-most),
-    )
+    (omega (arith, was .0), omega (arith, was .1), omega (arith, was .2), omega (arith, more .hops-most, few), omega (arith, more .lists-most, few), omega (arith, more .blocks-most, few))
 
 loop-again : tie.Need-loop-again Inv-loop μ-loop
 loop-again c =
-    let start = c .before .before .before .before .before .before .before .before .before .before .before .before .before .before .before .before .before .before .before .before in
+    let start = c .before .before .before .before .before .before .before .before .before .before .before .before .before .before .before .before .before .before .before .before .before .before .before .before .before .before .before .before in
     let a = start .args in
-    let top = c .before .before .before .before .before .before .before .before .loop in
+    let m = routesIn (a .s .now) (a .y) in
+    let busy = c .before .before .before .before .before .before .before .before .before .before .before .before .before .before .before .busy-blocks in
+    let top = c .before .before .before .before .before .before .before .before .before .before .before .before .before .before .loop in
+    let low = rw (c .before .before .before .before .before .before .before .before .before .before .b .given .1) at (c .before .before .before .before .before .before .before .before .before .before .before .before .lowest-in .ensures) in
     let held = c .before .before .before .before .before .gather-block .ensures in
     let more = c .before .sizes-of .ensures in
-    let next = c .sizes-both .ensures in
     let few : c .before .before .before .before .before .gather-block .result < 65536 = omega (arith, held .most, start .pre .3 .edges-few, start .pre .3 .ends-few) in
-    let was = top .inv .2 in (
-      omega (arith, c .before .before .before .before .before .before .before .loop-test .taken),
-      held .long ∙ top .inv .1,
-      rw next
-          (summed-more (blockHops (routesIn (a .s .now) (a .y)) (a .nodes .now) (a .edges .now) (a .ends .now) (a .heads .now) (a .landings .now) (a .roots .now) (a .guards .now) (a .bases .now) (a .returns .now) (a .stored)) (top .b) 65536 (top .sizes) (c .before .sizes-of .result) was
-          (block-size (routesIn (a .s .now) (a .y)) (top .b) (a .nodes .now) (a .edges .now) (a .ends .now) (a .heads .now) (a .landings .now) (a .roots .now) (a .guards .now) (a .bases .now) (a .returns .now) (a .stored) (held .holds) more) (omega (arith, more .hops-most, few)) (omega (arith, more .lists-most, few)) (omega (arith, more .blocks-most, few))),
+    let size = block-size m _ (a .nodes .now) (a .edges .now) (a .ends .now) (a .heads .now) (a .landings .now) (a .roots .now) (a .guards .now) (a .bases .now) (a .returns .now) (a .stored) (held .holds) more in
+    rw (c .before .before .before .before .before .before .before .take-from .ensures, c .sizes-both .ensures) (
+      held .long ∙ top .inv .0,
+      counting-next (blockHops m (a .nodes .now) (a .edges .now) (a .ends .now) (a .heads .now) (a .landings .now) (a .roots .now) (a .guards .now) (a .bases .now) (a .returns .now) (a .stored)) (busy .result) (busy-quiet m (a .nodes .now) (a .edges .now) (a .ends .now) (a .heads .now) (a .landings .now) (a .roots .now) (a .guards .now) (a .bases .now) (a .returns .now) (a .stored) (a .y .routes .count) (length-records routeFrom (a .s .now) (a .y .routes)) (busy .result) (busy .ensures)) (top .inv .1) _ low (c .before .sizes-of .result) size (omega (arith, more .hops-most, few)) (omega (arith, more .lists-most, few)) (omega (arith, more .blocks-most, few)),
     )
-
-same-length : tie.Need-same-length Inv-loop μ-loop
-same-length c = c .before .loop .inv .1
-
-returns : tie.Need-returns Inv-loop μ-loop
-returns c =
-    let start = c .before .before .before .before .before .before .before .before .before .before .before .before .before in
-    let all : c .before .loop .b ≡ start .args .blocks = omega (arith, c .before .loop .inv .0) in
-    let end = c .before .loop .inv .2 in
-    let most = start .pre .2 in
-    record { long = c .before .loop .inv .1; of = rw all at (end .of); hops = omega (arith, end .hops); lists = omega (arith, end .lists); blocks = omega (arith, end .blocks) }
 
 pub count-blocks-spec : {M : Type 1} → statement M
 count-blocks-spec =
@@ -86,12 +99,17 @@ count-blocks-spec =
     (tie.spec
     Inv-loop
     μ-loop
+    (λ c. search needs)
+    busy-blocks-requires
     loop-holds
+    (λ c κs. search needs)
+    (λ c. search needs)
+    (λ c. search needs)
+    same-length
+    returns
+    (λ c κs. search needs)
     gather-block-requires
     sizes-of-requires
     sizes-both-requires
-    (λ c. search needs)
-    (λ c. search needs)
-    loop-again
-    same-length
-    returns)
+    loop-less
+    loop-again)

@@ -4,10 +4,22 @@ use Rattle.image.specs.Image.{routesIn}
 use Rattle.graph.specs.Words.{heldIn}
 use Rattle.unwind.proofs.LentLaws.{node-fits}
 use Rattle.unwind.proofs.CopiesAre.{counted-all}
-use Rattle.unwind.proofs.MemberLaws.{nodes-sets}
+use Rattle.unwind.proofs.MemberLaws.{nodes-sets, block-sets}
 use borrow.Author.Needs.{needs}
 use Rattle.unwind.proofs.emit.total.count_hops.Statement.{statement}
 use Rattle.unwind.proofs.emit.total.count_hops.Tie as tie
+
+count-blocks-requires : tie.Need-count-blocks-requires
+count-blocks-requires c κs =
+    let start = c .before .before .before .before .before .before .before .before .before .before .before .before .before .before in
+    let a = start .args in
+    let blocks = c .before .block-count .ensures in (
+      start .pre .0,
+      start .pre .1,
+      omega (arith, blocks, start .pre .6 .few),
+      start .pre .7,
+      rw blocks (block-sets (heldIn (a .g .now) .graph) (routesIn (a .s .now) (a .y)) (a .guards .now) (a .bases .now) (a .returns .now) (a .stored) (start .pre .3) (start .pre .10) (start .pre .9)),
+    )
 
 count-nodes-requires : tie.Need-count-nodes-requires
 count-nodes-requires c κs =
@@ -33,4 +45,4 @@ returns c =
     (c .before .before .before .before .before .before .before .count-blocks .ensures .of) (c .before .before .before .count-nodes .ensures .of))
 
 pub count-hops-spec : {M : Type 1} → statement M
-count-hops-spec = tie.close (tie.spec (λ c κs. search needs) (λ c κs. search needs) count-nodes-requires (λ c κs. search needs) (λ c. search needs) returns)
+count-hops-spec = tie.close (tie.spec (λ c κs. search needs) count-blocks-requires count-nodes-requires (λ c κs. search needs) (λ c. search needs) returns)

@@ -1,0 +1,55 @@
+// The blocks that have a way out: the others need not be looked at.
+use crate::slots::set_at;
+use crate::tries::store::number_at;
+use graph::blockset::add_all;
+use graph::blockset::sixteen;
+ghost use Prim.Native.Nat.{_*_, _≤_};
+ghost use lib.ListN.{length};
+ghost use Rattle.unwind.specs.Gather.{inSet};
+ghost use Rattle.unwind.specs.Members.{originalReturns, Joins, Busy};
+
+// Those that one of the routes guards, or that one of the first n nodes returns from, on the original blocks.
+pub fn busy_blocks(
+    guards: &[u64],
+    routes: usize,
+    bases: &[u16],
+    returns: &[u64],
+    n: usize,
+) -> [u64; 16]
+    requires { ⌜ (16 * routes ≤ length (now guards)) × (16 * n ≤ length (now returns)) ⌝ }
+    ensures { λ w. ⌜ Busy (now (guards .entry)) routes (now (bases .entry)) (now (returns .entry)) n w ⌝ }
+{
+    let mut busy = guarded_blocks(guards, routes);
+    let returned = returned_blocks(bases, returns, n);
+    add_all(&mut busy, &returned);
+    sixteen(&busy);
+    busy
+}
+
+// Those that one of the routes guards.
+fn guarded_blocks(guards: &[u64], routes: usize) -> [u64; 16]
+    requires { ⌜ 16 * routes ≤ length (now guards) ⌝ }
+    ensures { λ w. ⌜ Joins (λ r b. inSet (now (guards .entry)) r b) routes w ⌝ }
+{
+    let mut all = [0u64; 16];
+    for r in 0..routes {
+        let set = set_at(guards, r);
+        add_all(&mut all, &set);
+    }
+    all
+}
+
+// Those that one of the first n nodes returns from, on the original blocks.
+fn returned_blocks(bases: &[u16], returns: &[u64], n: usize) -> [u64; 16]
+    requires { ⌜ 16 * n ≤ length (now returns) ⌝ }
+    ensures { λ w. ⌜ Joins (originalReturns (now (bases .entry)) (now (returns .entry))) n w ⌝ }
+{
+    let mut all = [0u64; 16];
+    for i in 0..n {
+        if number_at(bases, i) == 0 {
+            let set = set_at(returns, i);
+            add_all(&mut all, &set);
+        }
+    }
+    all
+}
