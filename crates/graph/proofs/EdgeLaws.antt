@@ -6,6 +6,8 @@
 --     given-next, given-fits, case-next, case-fits     its given edges and its cases stand where the cursor says
 --     flow-is, flow-most, first-is, second-is          its flow under the policy, and its two slots
 --     flow-edges, given-edges              what the instruction at p gives by its flow, and where edges are given
+--     switch-count, two-count, slot-count-is     how many transfers it has, as the code counts them
+--     case-is-slot                         case k of a Switch is its transfer k + 1
 --     switch-edges, two-edges              a Switch: its default, and its cases behind it; any other flow: two slots
 --     X-unresolved                         the same of records, for X of flow, given, switch, two
 --     terminator-is                        the last instruction of a block, by the leaders' marks
@@ -130,9 +132,13 @@ module _ (m : Image) (p : ℕ) where
     flow-unresolved = rw e
 
   module _ (e : flowAt m p ≡ Flow.switch) where
-    case-is-slot : (k : ℕ) → caseAt m p k ≡ transferAt m p (suc k)
+    pub case-is-slot : (k : ℕ) → caseAt m p k ≡ transferAt m p (suc k)
     unfolding transferAt
     case-is-slot k = rw e
+
+    pub switch-count : slotCount m p ≡ suc (length (casesAt m p))
+    unfolding slotCount
+    switch-count = rw e
 
     pub switch-edges : slotEdges m p (slotCount m p) ≡ transferEdges m p (transferAt m p 0) ++ caseEdges m p (length (casesAt m p))
     unfolding slotCount
@@ -151,6 +157,10 @@ module _ (m : Image) (p : ℕ) where
         (flat-same _ _ (length (casesAt m p)) (λ k hk. ap (transferUnresolved m p) (sym (case-is-slot k)))))
 
   module _ (e : flowAt m p ≡ Flow.switch → ⊥) where
+    pub two-count : slotCount m p ≡ 2
+    unfolding slotCount
+    two-count = rw (ne-eqb (flowAt m p) Flow.switch e)
+
     pub two-edges : slotEdges m p (slotCount m p) ≡ transferEdges m p (transferAt m p 0) ++ transferEdges m p (transferAt m p 1)
     unfolding slotCount flat
     two-edges = rw (ne-eqb (flowAt m p) Flow.switch e)
@@ -172,6 +182,10 @@ module _ (m : Image) (p : ℕ) where
         go : (b : Bool) → cond b Flow.next (i .flow) ≤ 12
         go true = omega arith
         go false = rw is (h .flows p)
+
+    pub slot-count-is : (n : ℕ) → n ≡ cond (eqb f Flow.switch) (suc (i .cases)) 2 → length (casesAt m p) ≡ i .cases → n ≡ slotCount m p
+    unfolding slotCount
+    slot-count-is n n-is cases = rw (n-is, flow-is, cases)
 
     module _ (x : Transfer) (z : Slot × Slot) (z-is : z ≡ slotsOf f) where
       pub first-is : x ≡ slotTransfer i (z .0) → x ≡ transferAt m p 0

@@ -14,6 +14,7 @@ pub mod DraftLaws
 pub mod RegionLaws
 pub mod ExceptionLaws
 pub mod CursorLaws
+pub mod ScanLaws
 pub mod CheckLaws
 pub mod RangeLaws
 pub mod RouteLaws

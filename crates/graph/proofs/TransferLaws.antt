@@ -1,10 +1,10 @@
 -- The table of transfers.
 --     slots-at     the code's table, by its numbers, is the definition's
---     kind-at, kind-past     the same of the kinds of roles
+--     kind-low, kind-high, kind-past     the kinds of roles, as the code counts them
 -- Assumes nothing.
 use mathlib.Core.Path.{_≡_, refl, sym, _∙_}
 use mathlib.Core.List.{List, [], _∷_}
-use Prim.Native.Nat.{ℕ, zero, suc, _<_, _≤_}
+use Prim.Native.Nat.{ℕ, zero, suc, _-_, _<_, _≤_}
 use native.Mathlib.Omega.{arith}
 use lib.ListN.{length, getD, List·getD-map, List·getD-eq-default}
 use Rattle.graph.specs.Flow.{Role, empty, slots, slotsOf, kindOf}
@@ -56,10 +56,27 @@ abbrev kinds : List ℕ
 kinds = 0 ∷ 1 ∷ 2 ∷ 3 ∷ 4 ∷ 4 ∷ 5 ∷ 6 ∷ []
 
 module _ (k : ℕ) where
-  pub kind-at : (d : ℕ) → k < 8 → getD kinds k d ≡ kindOf k
-  unfolding kindOf
-  kind-at d h = default kinds k d 7 h
-
   pub kind-past : 8 ≤ k → 7 ≡ kindOf k
   unfolding kindOf
   kind-past h = sym (List·getD-eq-default kinds 7 h)
+
+pub kind-low : (k : ℕ) → k < 5 → k ≡ kindOf k
+unfolding kindOf
+kind-low zero h = refl
+kind-low (suc zero) h = refl
+kind-low (suc (suc zero)) h = refl
+kind-low (suc (suc (suc zero))) h = refl
+kind-low (suc (suc (suc (suc zero)))) h = refl
+kind-low (suc (suc (suc (suc (suc k))))) h = absurd (omega arith)
+
+pub kind-high : (k : ℕ) → 5 ≤ k → k < 8 → k - 1 ≡ kindOf k
+unfolding kindOf
+kind-high zero l h = absurd (omega arith)
+kind-high (suc zero) l h = absurd (omega arith)
+kind-high (suc (suc zero)) l h = absurd (omega arith)
+kind-high (suc (suc (suc zero))) l h = absurd (omega arith)
+kind-high (suc (suc (suc (suc zero)))) l h = absurd (omega arith)
+kind-high (suc (suc (suc (suc (suc zero))))) l h = refl
+kind-high (suc (suc (suc (suc (suc (suc zero)))))) l h = refl
+kind-high (suc (suc (suc (suc (suc (suc (suc zero))))))) l h = refl
+kind-high (suc (suc (suc (suc (suc (suc (suc (suc k)))))))) l h = absurd (omega arith)

@@ -1,16 +1,16 @@
 // The table and its blocks, the runs between leaders: stored in order, and numbered by position. `populate_blocks`.
+use crate::lookup::record_at;
 use crate::record::Block;
 use crate::record::TableEntry;
 use crate::store::Words;
 use crate::store::blocks::add_block;
 use crate::store::table::add_entry;
-use image::access::instruction_at;
 use image::record::Instruction;
 use image::section::Section;
 ghost use mathlib.Core.Bool.{cond, not};
 ghost use mathlib.Core.Path.{_≡_};
 ghost use Prim.Native.Nat.{ℕ, suc, _+_, _≤_, _<_};
-ghost use lib.ListN.{getD};
+ghost use lib.ListN.{getD, replicate};
 ghost use Rattle.image.specs.Image.{Image};
 ghost use Rattle.graph.specs.Words.{heldIn};
 ghost use Rattle.graph.specs.Stored.{Stored};
@@ -26,7 +26,7 @@ pub fn store_table(g: &mut Words, s: &[u8], y: Section)
 {
     let n = y.count as usize;
     for p in 0..n {
-        add_entry(g, table_entry(instruction_at(s, y, p)));
+        add_entry(g, table_entry(record_at(s, y, p)));
     }
 }
 
@@ -95,18 +95,16 @@ fn same_block(marks: &[bool; 512], n: usize, p: usize) -> bool
     false
 }
 
-// The number of the block of each position.
-pub fn block_numbers(marks: &[bool; 512], n: usize) -> [u16; 512]
-    requires { ⌜ n ≤ 512 ⌝ }
-    ensures { λ r. ⌜ ((m : Image) → size m ≡ n → Leading m (now (marks .entry)) → (p : ℕ) → p < n → getD r p 0 ≡ blockOf m p) ⌝ }
+// The number of the block of each position, into an array of zeros.
+pub fn number_blocks(numbers: &mut [u16; 512], marks: &[bool; 512], n: usize)
+    requires { ⌜ (n ≤ 512) × (now numbers ≡ replicate 512 0) ⌝ }
+    ensures { λ _. ⌜ ((m : Image) → size m ≡ n → Leading m (now (marks .entry)) → (p : ℕ) → p < n → getD (now (numbers .exit)) p 0 ≡ blockOf m p) ⌝ }
 {
-    let mut numbers = [0; 512];
     let mut block: u16 = 0;
     for p in 1..n {
         block = block_behind(block, marks[p]);
         numbers[p] = block;
     }
-    numbers
 }
 
 // The number of a position's block, from that of the position before and whether it leads.

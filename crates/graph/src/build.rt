@@ -1,6 +1,6 @@
 // A build: the graph of an image, stored in the words that a caller lends, or the refusal. All is decided before the first
 // store.
-use crate::blocks::block_numbers;
+use crate::blocks::number_blocks;
 use crate::blocks::store_blocks;
 use crate::blocks::store_table;
 use crate::calls::add_calls;
@@ -15,6 +15,8 @@ use crate::error::AddressBuildError;
 use crate::error::Checked;
 use crate::exceptions::add_exception_edges;
 use crate::leaders::leaders;
+use crate::lookup::Hints;
+use crate::lookup::fill_hints;
 use crate::ranges::check_handlers;
 use crate::ranges::code_end;
 use crate::regions::add_regions;
@@ -75,62 +77,65 @@ fn build_read(s: &[u8], y: Layout, g: &mut Words) -> Built
     ensures { λ r. ⌜ (buildAnswer (now (g .exit)) r ≡ buildOf (imageIn (now (s .entry)) y)) × BuildLeaves (now (g .entry)) (now (g .exit)) r ⌝ }
 {
     let end = code_end(s, y.code.instructions);
-    if let Checked::Refused(e) = check_input(s, y, end) {
+    let mut hints = [0u16; 512];
+    fill_hints(&mut hints, s, y.code.instructions);
+    if let Checked::Refused(e) = check_input(s, y, &hints, end) {
         return Built::Refused(e);
     }
-    let marks = leaders(s, y, end);
-    if let Checked::Refused(e) = check_result(s, y, end, &marks) {
+    let marks = leaders(s, y, &hints, end);
+    if let Checked::Refused(e) = check_result(s, y, &hints, end, &marks) {
         return Built::Refused(e);
     }
-    store_graph(s, y, end, &marks, g);
+    store_graph(s, y, &hints, end, &marks, g);
     Built::Stored
 }
 
 // 3 to 15, in their order.
-fn check_input(s: &[u8], y: Layout, end: u64) -> Checked
+fn check_input(s: &[u8], y: Layout, hints: &Hints, end: u64) -> Checked
     requires { ⌜ Accepted (imageIn (now s) y) × (end ≡ codeEnd (tableOf (imageIn (now s) y))) ⌝ }
     ensures { λ r. ⌜ checkOf r ≡ inputCheck (imageIn (now (s .entry)) y) ⌝ }
 {
     if let Checked::Refused(e) = check_table(s, y.code.instructions) {
         return Checked::Refused(e);
     }
-    if let Checked::Refused(e) = check_entry(s, y) {
+    if let Checked::Refused(e) = check_entry(s, y, hints) {
         return Checked::Refused(e);
     }
-    if let Checked::Refused(e) = check_sources(s, y) {
+    if let Checked::Refused(e) = check_sources(s, y, hints) {
         return Checked::Refused(e);
     }
-    if let Checked::Refused(e) = check_given(s, y) {
+    if let Checked::Refused(e) = check_given(s, y, hints) {
         return Checked::Refused(e);
     }
-    if let Checked::Refused(e) = check_handlers(s, y, end) {
+    if let Checked::Refused(e) = check_handlers(s, y, hints, end) {
         return Checked::Refused(e);
     }
-    check_routes(s, y, end)
+    check_routes(s, y, hints, end)
 }
 
 // 16 and 19.
-fn check_result(s: &[u8], y: Layout, end: u64, marks: &[bool; 512]) -> Checked
+fn check_result(s: &[u8], y: Layout, hints: &Hints, end: u64, marks: &[bool; 512]) -> Checked
     requires { ⌜ Building (imageIn (now s) y) end (now marks) ⌝ }
     ensures { λ r. ⌜ checkOf r ≡ resultCheck (imageIn (now (s .entry)) y) ⌝ }
 {
     if let Checked::Refused(e) = check_continuations(s, y, marks) {
         return Checked::Refused(e);
     }
-    check_edge_count(s, y, end, marks)
+    check_edge_count(s, y, hints, end, marks)
 }
 
 // The graph of an image that no check refused.
-fn store_graph(s: &[u8], y: Layout, end: u64, marks: &[bool; 512], g: &mut Words)
+fn store_graph(s: &[u8], y: Layout, hints: &Hints, end: u64, marks: &[bool; 512], g: &mut Words)
     requires { ⌜ Building (imageIn (now s) y) end (now marks) × (resultCheck (imageIn (now s) y) ≡ clear) ⌝ }
     ensures { λ _. ⌜ Laid (now (g .entry)) (now (g .exit)) (graphFrom (imageIn (now (s .entry)) y)) ⌝ }
 {
     let n = y.code.instructions.count as usize;
-    let blocks = block_numbers(marks, n);
+    let mut blocks = [0u16; 512];
+    number_blocks(&mut blocks, marks, n);
     store_code(s, y, marks, g);
-    store_edges(s, y, end, marks, &blocks, g);
-    add_regions(g, s, y, end, &blocks);
-    set_entry(g, entry_block(s, y, &blocks));
+    store_edges(s, y, hints, end, marks, &blocks, g);
+    add_regions(g, s, y, hints, end, &blocks);
+    set_entry(g, entry_block(s, y, hints, &blocks));
 }
 
 // The table and its blocks, and nothing else.
@@ -148,6 +153,7 @@ fn store_code(s: &[u8], y: Layout, marks: &[bool; 512], g: &mut Words)
 fn store_edges(
     s: &[u8],
     y: Layout,
+    hints: &Hints,
     end: u64,
     marks: &[bool; 512],
     blocks: &[u16; 512],
@@ -156,19 +162,19 @@ fn store_edges(
     requires { ⌜ Building (imageIn (now s) y) end (now marks) × Numbered (imageIn (now s) y) (now blocks) ⌝ }
     ensures { λ _. ⌜ Added (now (g .entry)) (now (g .exit)) (edgesOf (imageIn (now (s .entry)) y)) (unresolvedOf (imageIn (now (s .entry)) y)) (callsOf (imageIn (now (s .entry)) y)) ⌝ }
 {
-    add_normal_edges(g, s, y, marks, blocks);
-    add_exception_edges(g, s, y, end, blocks);
+    add_normal_edges(g, s, y, hints, marks, blocks);
+    add_exception_edges(g, s, y, hints, end, blocks);
     add_calls(g, s, y);
 }
 
 // The block at which the sequence is entered.
-fn entry_block(s: &[u8], y: Layout, blocks: &[u16; 512]) -> u64
+fn entry_block(s: &[u8], y: Layout, hints: &Hints, blocks: &[u16; 512]) -> u64
     requires { ⌜ Numbered (imageIn (now s) y) (now blocks) × (entryCheck (imageIn (now s) y) ≡ clear) ⌝ }
     ensures { λ r. ⌜ r ≡ entryOf (imageIn (now (s .entry)) y) ⌝ }
 {
     let header = y.header;
     if header.has_entry {
-        return block_at(s, y, blocks, header.entry);
+        return block_at(s, y, hints, blocks, header.entry);
     }
     0
 }

@@ -2,16 +2,18 @@
 use crate::cursor::Cursor;
 use crate::cursor::Given;
 use crate::cursor::Visit;
+use crate::cursor::cursor_after;
 use crate::cursor::cursor_start;
-use crate::cursor::visit_at;
+use crate::cursor::given_at;
 use crate::error::AddressBuildError;
 use crate::error::Checked;
 use crate::lookup::Found;
+use crate::lookup::Hints;
 use crate::lookup::address_at;
 use crate::lookup::find;
+use crate::lookup::record_at;
 use crate::transfer::is_call;
 use image::access::edge_at;
-use image::access::instruction_at;
 use image::access::source_at;
 use image::record::Instruction;
 use image::section::CodeLayout;
@@ -52,7 +54,7 @@ fn check_instruction(s: &[u8], y: Section, p: usize) -> Checked
     requires { ⌜ p < y .count ⌝ }
     ensures { λ r. ⌜ checkOf r ≡ instructionCheck (entriesOf (recordsIn instructionFrom (now (s .entry)) y)) p ⌝ }
 {
-    let i = instruction_at(s, y, p);
+    let i = record_at(s, y, p);
     let address = i.address;
     if !i.has_end {
         return Checked::Refused(AddressBuildError::AddressOverflow { address });
@@ -80,7 +82,7 @@ fn check_order(s: &[u8], y: Section, p: usize) -> Checked
 }
 
 // The entry, if there is one, is a start.
-pub fn check_entry(s: &[u8], y: Layout) -> Checked
+pub fn check_entry(s: &[u8], y: Layout, hints: &Hints) -> Checked
     requires { ⌜ Rising (tableOf (imageIn (now s) y)) ⌝ }
     ensures { λ r. ⌜ checkOf r ≡ entryCheck (imageIn (now (s .entry)) y) ⌝ }
 {
@@ -89,21 +91,24 @@ pub fn check_entry(s: &[u8], y: Layout) -> Checked
         return Checked::Clear;
     }
     let address = header.entry;
-    let Found::At(_) = find(s, y.code.instructions, address) else {
+    let table = y.code.instructions;
+    let Found::At(_) = find(s, table, hints, address) else {
         return Checked::Refused(AddressBuildError::MissingEntry { address });
     };
     Checked::Clear
 }
 
 // Each given source is a start.
-pub fn check_sources(s: &[u8], y: Layout) -> Checked
+pub fn check_sources(s: &[u8], y: Layout, hints: &Hints) -> Checked
     requires { ⌜ Rising (tableOf (imageIn (now s) y)) ⌝ }
     ensures { λ r. ⌜ checkOf r ≡ checks (sourceCheck (imageIn (now (s .entry)) y)) (length (imageIn (now (s .entry)) y .sources)) ⌝ }
 {
     let n = y.code.sources.count as usize;
     for i in 0..n {
-        let address = source_at(s, y.code.sources, i).address;
-        let Found::At(_) = find(s, y.code.instructions, address) else {
+        let table = y.code.instructions;
+        let sources = y.code.sources;
+        let address = source_at(s, sources, i).address;
+        let Found::At(_) = find(s, table, hints, address) else {
             return Checked::Refused(AddressBuildError::MissingGivenSource { address });
         };
     }
@@ -111,27 +116,36 @@ pub fn check_sources(s: &[u8], y: Layout) -> Checked
 }
 
 // The targets of the given edges are starts, and where nothing is given the flow does without. The other modes give nothing.
-pub fn check_given(s: &[u8], y: Layout) -> Checked
+pub fn check_given(s: &[u8], y: Layout, hints: &Hints) -> Checked
     requires { ⌜ Sourced (imageIn (now s) y) ⌝ }
     ensures { λ r. ⌜ checkOf r ≡ checks (givenCheck (imageIn (now (s .entry)) y)) (size (imageIn (now (s .entry)) y)) ⌝ }
 {
     if y.header.mode != 2 {
         return Checked::Clear;
     }
-    let n = y.code.instructions.count as usize;
+    let table = y.code.instructions;
+    let sources = y.code.sources;
+    let n = table.count as usize;
     let mut c = cursor_start();
     while c.at < n {
-        let visit = visit_at(s, y, c);
-        let found = check_visit(s, y, c, visit);
+        let i = record_at(s, table, c.at);
+        let given = given_at(s, sources, c.source, i.address);
+        let next = cursor_after(c, i.cases, given);
+        let visit = Visit {
+            instruction: i,
+            given,
+            next,
+        };
+        let found = check_visit(s, y, hints, c, visit);
         let Checked::Clear = found else {
             return found;
         };
-        c = visit.next;
+        c = next;
     }
     Checked::Clear
 }
 
-fn check_visit(s: &[u8], y: Layout, c: Cursor, visit: Visit) -> Checked
+fn check_visit(s: &[u8], y: Layout, hints: &Hints, c: Cursor, visit: Visit) -> Checked
     requires { ⌜ Sourced (imageIn (now s) y) × (y .header .mode ≡ 2) ⌝ }
     requires { ⌜ (c ≡ cursorAt (imageIn (now s) y) (c .at)) × (c .at < y .code .instructions .count) × (visit ≡ visitAt (imageIn (now s) y) (c .at)) ⌝ }
     ensures { λ r. ⌜ checkOf r ≡ givenCheck (imageIn (now (s .entry)) y) (c .at) ⌝ }
@@ -139,19 +153,28 @@ fn check_visit(s: &[u8], y: Layout, c: Cursor, visit: Visit) -> Checked
     let instruction = visit.instruction;
     let given = visit.given;
     match given {
-        Given::Edges(n) => check_targets(s, y.code, instruction.address, c.edge, n),
+        Given::Edges(n) => check_targets(s, y.code, hints, instruction.address, c.edge, n),
         Given::Flow => check_flow(instruction),
     }
 }
 
 // The targets of n given edges, the first of which is `edge`.
-fn check_targets(s: &[u8], code: CodeLayout, source: u64, edge: usize, n: usize) -> Checked
+fn check_targets(
+    s: &[u8],
+    code: CodeLayout,
+    hints: &Hints,
+    source: u64,
+    edge: usize,
+    n: usize,
+) -> Checked
     requires { ⌜ Rising (entriesOf (recordsIn instructionFrom (now s) (code .instructions))) × (edge + n ≤ 512) ⌝ }
     ensures { λ r. ⌜ checkOf r ≡ checks (λ k. targetCheck (entriesOf (recordsIn instructionFrom (now (s .entry)) (code .instructions))) source (getD (recordsIn edgeFrom (now (s .entry)) (code .edges)) (edge + k) (edgeFrom [] 0))) n ⌝ }
 {
     for k in 0..n {
-        let target = edge_at(s, code.edges, edge + k).target;
-        let Found::At(_) = find(s, code.instructions, target) else {
+        let table = code.instructions;
+        let edges = code.edges;
+        let target = edge_at(s, edges, edge + k).target;
+        let Found::At(_) = find(s, table, hints, target) else {
             return Checked::Refused(AddressBuildError::MissingGivenTarget { source, target });
         };
     }

@@ -1,13 +1,15 @@
 // Why given edges are refused where a block runs on without one (16).
 use crate::cursor::Given;
 use crate::cursor::Visit;
+use crate::cursor::cursor_after;
 use crate::cursor::cursor_start;
-use crate::cursor::visit_at;
+use crate::cursor::given_at;
 use crate::edges::is_terminator;
 use crate::error::AddressBuildError;
 use crate::error::Checked;
 use crate::lookup::Found;
 use crate::lookup::find_near;
+use crate::lookup::record_at;
 use crate::transfer::Slot;
 use crate::transfer::falls_through;
 use crate::transfer::flow_under;
@@ -39,15 +41,24 @@ pub fn check_continuations(s: &[u8], y: Layout, marks: &[bool; 512]) -> Checked
     if y.header.mode != GIVEN_EDGES {
         return Checked::Clear;
     }
-    let n = y.code.instructions.count as usize;
+    let table = y.code.instructions;
+    let sources = y.code.sources;
+    let n = table.count as usize;
     let mut c = cursor_start();
     while c.at < n {
-        let visit = visit_at(s, y, c);
+        let i = record_at(s, table, c.at);
+        let given = given_at(s, sources, c.source, i.address);
+        let next = cursor_after(c, i.cases, given);
+        let visit = Visit {
+            instruction: i,
+            given,
+            next,
+        };
         let found = check_continuation(s, y, marks, c.at, visit);
         let Checked::Clear = found else {
             return found;
         };
-        c = visit.next;
+        c = next;
     }
     Checked::Clear
 }

@@ -1,13 +1,19 @@
 // A scan of the table: each instruction with what is given for it, and where its cases and given edges stand.
 //
 // The cursor is carried along, so that no position is counted anew.
-use image::access::instruction_at;
+use crate::lookup::record_at;
 use image::access::source_at;
+use image::little::octet;
+use image::little::quad;
+use image::record::GivenSource;
 use image::record::Instruction;
 use image::section::Layout;
 use image::section::Section;
+use image::section::place;
+ghost use mathlib.Core.List.{[]};
 ghost use mathlib.Core.Path.{_≡_};
 ghost use Prim.Native.Nat.{_+_, _<_, _≤_};
+ghost use lib.ListN.{getD};
 ghost use Rattle.image.specs.Image.{Image, recordsIn, imageIn};
 ghost use Rattle.image.specs.Record.{sourceFrom};
 ghost use Rattle.graph.specs.Cursor.{Sourced, cursorAt, givenHere, visitAt, after};
@@ -51,7 +57,7 @@ pub fn visit_at(s: &[u8], y: Layout, c: Cursor) -> Visit
 {
     let code = y.code;
     let at = c.at;
-    let instruction = instruction_at(s, code.instructions, at);
+    let instruction = record_at(s, code.instructions, at);
     let given = given_at(s, code.sources, c.source, instruction.address);
     let next = cursor_after(c, instruction.cases, given);
     Visit {
@@ -61,12 +67,12 @@ pub fn visit_at(s: &[u8], y: Layout, c: Cursor) -> Visit
     }
 }
 
-fn given_at(s: &[u8], sources: Section, i: usize, address: u64) -> Given
+pub fn given_at(s: &[u8], sources: Section, i: usize, address: u64) -> Given
     ensures { λ r. ⌜ r ≡ givenHere (recordsIn sourceFrom (now (s .entry)) sources) i address ⌝ }
 {
     let count = sources.count as usize;
     if i < count {
-        let source = source_at(s, sources, i);
+        let source = given_source(s, sources, i);
         if source.address == address {
             return Given::Edges(source.edges);
         }
@@ -74,7 +80,22 @@ fn given_at(s: &[u8], sources: Section, i: usize, address: u64) -> Given
     Given::Flow
 }
 
-fn cursor_after(c: Cursor, cases: usize, given: Given) -> Cursor
+// Source i: each field is one load, where all its bytes are there.
+fn given_source(s: &[u8], sources: Section, i: usize) -> GivenSource
+    requires { ⌜ i < sources .count ⌝ }
+    ensures { λ r. ⌜ r ≡ getD (recordsIn sourceFrom (now (s .entry)) sources) i (sourceFrom [] 0) ⌝ }
+{
+    let at = place(sources, i);
+    if s.len() < at + 12 {
+        return source_at(s, sources, i);
+    }
+    GivenSource {
+        address: octet(s, at),
+        edges: quad(s, at + 8) as usize,
+    }
+}
+
+pub fn cursor_after(c: Cursor, cases: usize, given: Given) -> Cursor
     requires { ⌜ (c .at < 512) × (c .case + cases ≤ 512) × (after c cases given .source ≤ 512) × (after c cases given .edge ≤ 512) ⌝ }
     ensures { λ r. ⌜ r ≡ after c cases given ⌝ }
 {

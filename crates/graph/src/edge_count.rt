@@ -11,6 +11,7 @@ use crate::edges::resolve;
 use crate::error::AddressBuildError;
 use crate::error::Checked;
 use crate::lookup::Found;
+use crate::lookup::Hints;
 use crate::ranges::Ranged;
 use crate::ranges::range_check;
 use crate::transfer::Transfer;
@@ -48,7 +49,13 @@ ghost use Rattle.graph.specs.EdgeCount.{Kept};
 const MOST: usize = 4096;
 
 // Whether a build gives no more edges than a graph holds. Only mode 0 can give more.
-pub fn check_edge_count(s: &[u8], y: Layout, code_end: u64, marks: &[bool; 512]) -> Checked
+pub fn check_edge_count(
+    s: &[u8],
+    y: Layout,
+    hints: &Hints,
+    code_end: u64,
+    marks: &[bool; 512],
+) -> Checked
     requires { ⌜ Passed (imageIn (now s) y) × Leading (imageIn (now s) y) (now marks) × («code_end» ≡ codeEnd (tableOf (imageIn (now s) y))) ⌝ }
     ensures { λ r. ⌜ checkOf r ≡ unless (leb (length (edgesOf (imageIn (now (s .entry)) y))) 4096) (refusal 19 0 0) ⌝ }
 {
@@ -62,7 +69,7 @@ pub fn check_edge_count(s: &[u8], y: Layout, code_end: u64, marks: &[bool; 512])
     if normal_most + handlers * instructions <= MOST {
         return Checked::Clear;
     }
-    let exceptional = exception_count(s, y, code_end);
+    let exceptional = exception_count(s, y, hints, code_end);
     if normal_most + exceptional <= MOST {
         return Checked::Clear;
     }
@@ -73,7 +80,7 @@ pub fn check_edge_count(s: &[u8], y: Layout, code_end: u64, marks: &[bool; 512])
 }
 
 // How many exception edges the handlers have, in mode 0.
-fn exception_count(s: &[u8], y: Layout, code_end: u64) -> usize
+fn exception_count(s: &[u8], y: Layout, hints: &Hints, code_end: u64) -> usize
     requires { ⌜ Passed (imageIn (now s) y) × (y .header .mode ≡ 0) × («code_end» ≡ codeEnd (tableOf (imageIn (now s) y))) ⌝ }
     ensures { λ r. ⌜ r ≡ length (exceptionEdges (imageIn (now (s .entry)) y)) ⌝ }
 {
@@ -81,7 +88,7 @@ fn exception_count(s: &[u8], y: Layout, code_end: u64) -> usize
     let n = y.code.handlers.count as usize;
     let mut edges: usize = 0;
     for h in 0..n {
-        edges += kept_by(s, y, code_end, &kept, h);
+        edges += kept_by(s, y, hints, code_end, &kept, h);
     }
     edges
 }
@@ -109,7 +116,14 @@ fn behind(kept: usize, keeps: bool) -> usize
 }
 
 // How many of the instructions that handler h protects keep their exception edge.
-fn kept_by(s: &[u8], y: Layout, code_end: u64, kept: &[usize; 513], h: usize) -> usize
+fn kept_by(
+    s: &[u8],
+    y: Layout,
+    hints: &Hints,
+    code_end: u64,
+    kept: &[usize; 513],
+    h: usize,
+) -> usize
     requires { ⌜ Ended (tableOf (imageIn (now s) y)) «code_end» × (handlerCheck (imageIn (now s) y) h ≡ clear) ⌝ }
     requires { ⌜ (size (imageIn (now s) y) ≤ 512) × Kept (imageIn (now s) y) (now kept) ⌝ }
     ensures { λ r. ⌜ r ≡ length (handlerEdges (imageIn (now (s .entry)) y) h) ⌝ }
@@ -117,7 +131,7 @@ fn kept_by(s: &[u8], y: Layout, code_end: u64, kept: &[usize; 513], h: usize) ->
     let own = handler(s, y, h);
     let start = own.start;
     let end = own.end;
-    let range = range_check(s, y.code.instructions, code_end, start, end);
+    let range = range_check(s, y.code.instructions, hints, code_end, start, end);
     let Ranged::Positions { first, past } = range else {
         return 0;
     };
@@ -184,7 +198,7 @@ fn resolves(s: &[u8], y: Layout, x: Transfer) -> usize
     requires { ⌜ Rising (tableOf (imageIn (now s) y)) ⌝ }
     ensures { λ r. ⌜ r ≡ word (resolved (imageIn (now (s .entry)) y) (transferIn x)) ⌝ }
 {
-    match resolve(s, y, 0, x) {
+    match resolve(s, y.code.instructions, 0, x) {
         Found::At(_) => 1,
         Found::Nothing => 0,
     }

@@ -2,16 +2,21 @@
 use crate::cursor::Cursor;
 use crate::cursor::Given;
 use crate::cursor::Visit;
+use crate::cursor::cursor_after;
 use crate::cursor::cursor_start;
-use crate::cursor::visit_at;
+use crate::cursor::given_at;
 use crate::lookup::Found;
+use crate::lookup::Hints;
 use crate::lookup::find;
 use crate::lookup::find_near;
+use crate::lookup::hint_of;
+use crate::lookup::record_at;
 use crate::record::Edge;
 use crate::record::UnresolvedTransfer;
 use crate::store::Words;
 use crate::store::edges::add_edge;
 use crate::store::unresolved::add_unresolved;
+use crate::transfer::Slots;
 use crate::transfer::Transfer;
 use crate::transfer::case_transfer;
 use crate::transfer::falls_through;
@@ -26,24 +31,25 @@ use image::access::case_at;
 use image::access::edge_at;
 use image::record::Instruction;
 use image::section::Layout;
+use image::section::Section;
 ghost use mathlib.Core.Bool.{true, false, _||_, cond};
 ghost use mathlib.Core.List.{[], _∷_};
 ghost use mathlib.Core.Path.{_≡_};
-ghost use Prim.Native.Nat.{_+_, _<_, _≤_};
+ghost use Prim.Native.Nat.{suc, _+_, _<_, _≤_};
 ghost use lib.Dec.{eqb};
 ghost use lib.ListN.{length, getD};
-ghost use Rattle.image.specs.Image.{imageIn};
+ghost use Rattle.image.specs.Image.{Image, imageIn};
 ghost use Rattle.image.specs.Record.{edgeFrom};
 ghost use Rattle.graph.specs.Table.{isStart};
-ghost use Rattle.graph.specs.Lookup.{Rising};
-ghost use Rattle.graph.specs.Flow.{From, fallsThrough};
-ghost use Rattle.graph.specs.Transfer.{tableOf, size, instructionAt, addressAt, slotCount, isGiven, givenAt};
-ghost use Rattle.graph.specs.Slots.{transferIn};
+ghost use Rattle.graph.specs.Lookup.{entriesIn, Rising};
+ghost use Rattle.graph.specs.Flow.{Flow, From, slotsOf, fallsThrough, flowUnder};
+ghost use Rattle.graph.specs.Transfer.{tableOf, size, instructionAt, addressAt, transferAt, slotCount, isGiven, givenAt};
+ghost use Rattle.graph.specs.Slots.{slotsIn, transferIn};
 ghost use Rattle.graph.specs.Edges.{transferEdges, transferUnresolved, givenEdge, edgesAt, unresolvedAt, normalEdges, unresolvedOf};
-ghost use Rattle.graph.specs.Cursor.{cursorAt};
+ghost use Rattle.graph.specs.Cursor.{Sourced, cursorAt};
 ghost use Rattle.graph.specs.Adding.{Added};
 ghost use Rattle.graph.specs.Marks.{Leading};
-ghost use Rattle.graph.specs.Emit.{Emitting, Visiting, Resolves, edgeBetween, unresolvedFrom, slotEdges, slotUnresolved, caseEdges, caseUnresolved};
+ghost use Rattle.graph.specs.Emit.{Emitting, Visiting, Resolves, edgeBetween, unresolvedFrom, slotEdges, slotUnresolved};
 
 pub const SWITCH: u64 = 12;
 
@@ -54,6 +60,7 @@ pub fn add_normal_edges(
     g: &mut Words,
     s: &[u8],
     y: Layout,
+    hints: &Hints,
     marks: &[bool; 512],
     blocks: &[u16; 512],
 )
@@ -61,12 +68,21 @@ pub fn add_normal_edges(
     requires { ⌜ Leading (imageIn (now s) y) (now marks) ⌝ }
     ensures { λ _. ⌜ Added (now (g .entry)) (now (g .exit)) (normalEdges (imageIn (now (s .entry)) y)) (unresolvedOf (imageIn (now (s .entry)) y)) [] ⌝ }
 {
-    let n = y.code.instructions.count as usize;
+    let table = y.code.instructions;
+    let sources = y.code.sources;
+    let n = table.count as usize;
     let mut c = cursor_start();
     for p in 0..n {
-        let visit = visit_at(s, y, c);
-        emit_if(g, s, y, blocks, c, visit, is_terminator(marks, n, p));
-        c = visit.next;
+        let i = record_at(s, table, c.at);
+        let given = given_at(s, sources, c.source, i.address);
+        let next = cursor_after(c, i.cases, given);
+        let visit = Visit {
+            instruction: i,
+            given,
+            next,
+        };
+        emit_if(g, s, y, hints, blocks, c, visit, is_terminator(marks, n, p));
+        c = next;
     }
 }
 
@@ -86,6 +102,7 @@ fn emit_if(
     g: &mut Words,
     s: &[u8],
     y: Layout,
+    hints: &Hints,
     blocks: &[u16; 512],
     c: Cursor,
     visit: Visit,
@@ -96,24 +113,40 @@ fn emit_if(
     ensures { λ _. ⌜ Added (now (g .entry)) (now (g .exit)) (cond ends (edgesAt (imageIn (now (s .entry)) y) (c .at)) []) (cond ends (unresolvedAt (imageIn (now (s .entry)) y) (c .at)) []) [] ⌝ }
 {
     if ends {
-        emit(g, s, y, blocks, c, visit);
+        emit(g, s, y, hints, blocks, c, visit);
     }
 }
 
-fn emit(g: &mut Words, s: &[u8], y: Layout, blocks: &[u16; 512], c: Cursor, visit: Visit)
+fn emit(
+    g: &mut Words,
+    s: &[u8],
+    y: Layout,
+    hints: &Hints,
+    blocks: &[u16; 512],
+    c: Cursor,
+    visit: Visit,
+)
     requires { ⌜ Emitting (imageIn (now s) y) (now blocks) ⌝ }
     requires { ⌜ Visiting (imageIn (now s) y) c visit ⌝ }
     ensures { λ _. ⌜ Added (now (g .entry)) (now (g .exit)) (edgesAt (imageIn (now (s .entry)) y) (c .at)) (unresolvedAt (imageIn (now (s .entry)) y) (c .at)) [] ⌝ }
 {
     let given = visit.given;
     match given {
-        Given::Edges(n) => add_given_edges(g, s, y, blocks, c, n),
-        Given::Flow => add_transfers(g, s, y, blocks, c, visit.instruction),
+        Given::Edges(n) => add_given_edges(g, s, y, hints, blocks, c, n),
+        Given::Flow => add_transfers(g, s, y, hints, blocks, c, visit.instruction),
     }
 }
 
 // The edges that are given for the instruction at a cursor.
-fn add_given_edges(g: &mut Words, s: &[u8], y: Layout, blocks: &[u16; 512], c: Cursor, n: usize)
+fn add_given_edges(
+    g: &mut Words,
+    s: &[u8],
+    y: Layout,
+    hints: &Hints,
+    blocks: &[u16; 512],
+    c: Cursor,
+    n: usize,
+)
     requires { ⌜ Emitting (imageIn (now s) y) (now blocks) ⌝ }
     requires { ⌜ (c ≡ cursorAt (imageIn (now s) y) (c .at)) × (c .at < size (imageIn (now s) y)) ⌝ }
     requires { ⌜ (isGiven (imageIn (now s) y) (c .at) ≡ true) × (length (givenAt (imageIn (now s) y) (c .at)) ≡ n) ⌝ }
@@ -122,20 +155,29 @@ fn add_given_edges(g: &mut Words, s: &[u8], y: Layout, blocks: &[u16; 512], c: C
     let p = c.at;
     let first = c.edge;
     for k in 0..n {
-        add_given(g, s, y, blocks, p, first + k);
+        add_given(g, s, y, hints, blocks, p, first + k);
     }
 }
 
 // Given edge e, of the instruction at p. Its target starts an instruction (8).
-fn add_given(g: &mut Words, s: &[u8], y: Layout, blocks: &[u16; 512], p: usize, e: usize)
+fn add_given(
+    g: &mut Words,
+    s: &[u8],
+    y: Layout,
+    hints: &Hints,
+    blocks: &[u16; 512],
+    p: usize,
+    e: usize,
+)
     requires { ⌜ Emitting (imageIn (now s) y) (now blocks) ⌝ }
     requires { ⌜ (p < size (imageIn (now s) y)) × (isStart (tableOf (imageIn (now s) y)) (getD (imageIn (now s) y .edges) e (edgeFrom [] 0) .target) ≡ true) ⌝ }
     ensures { λ _. ⌜ Added (now (g .entry)) (now (g .exit)) (givenEdge (imageIn (now (s .entry)) y) p (getD (imageIn (now (s .entry)) y .edges) e (edgeFrom [] 0)) ∷ []) [] [] ⌝ }
 {
-    let code = y.code;
-    let edge = edge_at(s, code.edges, e);
+    let table = y.code.instructions;
+    let edges = y.code.edges;
+    let edge = edge_at(s, edges, e);
     let target = edge.target;
-    let Found::At(to) = find(s, code.instructions, target) else {
+    let Found::At(to) = find(s, table, hints, target) else {
         return;
     };
     let record = Edge {
@@ -152,37 +194,62 @@ fn add_given(g: &mut Words, s: &[u8], y: Layout, blocks: &[u16; 512], p: usize, 
 }
 
 // The transfers of the instruction at a cursor, slot by slot.
-fn add_transfers(g: &mut Words, s: &[u8], y: Layout, blocks: &[u16; 512], c: Cursor, i: Instruction)
+fn add_transfers(
+    g: &mut Words,
+    s: &[u8],
+    y: Layout,
+    hints: &Hints,
+    blocks: &[u16; 512],
+    c: Cursor,
+    i: Instruction,
+)
     requires { ⌜ Emitting (imageIn (now s) y) (now blocks) ⌝ }
     requires { ⌜ (c ≡ cursorAt (imageIn (now s) y) (c .at)) × (c .at < size (imageIn (now s) y)) × (i ≡ instructionAt (imageIn (now s) y) (c .at)) ⌝ }
     ensures { λ _. ⌜ Added (now (g .entry)) (now (g .exit)) (slotEdges (imageIn (now (s .entry)) y) (c .at) (slotCount (imageIn (now (s .entry)) y) (c .at))) (slotUnresolved (imageIn (now (s .entry)) y) (c .at) (slotCount (imageIn (now (s .entry)) y) (c .at))) [] ⌝ }
 {
     let flow = flow_under(y.header.calls, i.flow);
     let slots = slots_of(flow);
+    let n = slot_count(flow, i.cases);
     let p = c.at;
     let source = i.address;
-    add_transfer(g, s, y, blocks, p, source, slot_transfer(i, slots.0));
-    if flow == SWITCH {
-        add_cases(g, s, y, blocks, c, i);
-    } else {
-        add_transfer(g, s, y, blocks, p, source, slot_transfer(i, slots.1));
+    for k in 0..n {
+        let x = transfer_of(s, y, c, i, flow, slots, k);
+        add_transfer(g, s, y, hints, blocks, p, source, x);
     }
 }
 
-// The cases of the Switch at a cursor.
-fn add_cases(g: &mut Words, s: &[u8], y: Layout, blocks: &[u16; 512], c: Cursor, i: Instruction)
-    requires { ⌜ Emitting (imageIn (now s) y) (now blocks) ⌝ }
-    requires { ⌜ (c ≡ cursorAt (imageIn (now s) y) (c .at)) × (c .at < size (imageIn (now s) y)) × (i ≡ instructionAt (imageIn (now s) y) (c .at)) ⌝ }
-    ensures { λ _. ⌜ Added (now (g .entry)) (now (g .exit)) (caseEdges (imageIn (now (s .entry)) y) (c .at) (i .cases)) (caseUnresolved (imageIn (now (s .entry)) y) (c .at) (i .cases)) [] ⌝ }
+// How many transfers an instruction of this flow has: a default and its cases, or two.
+fn slot_count(flow: u64, cases: usize) -> usize
+    requires { ⌜ cases ≤ 512 ⌝ }
+    ensures { λ r. ⌜ r ≡ cond (eqb flow Flow.switch) (suc cases) 2 ⌝ }
 {
-    let p = c.at;
-    let first = c.case;
-    let n = i.cases;
-    let source = i.address;
-    for k in 0..n {
-        let case = case_at(s, y.code.cases, first + k);
-        add_transfer(g, s, y, blocks, p, source, case_transfer(case, k));
+    if flow == SWITCH { cases + 1 } else { 2 }
+}
+
+// Transfer k of the instruction at a cursor: that of a slot, or a case of a Switch.
+fn transfer_of(
+    s: &[u8],
+    y: Layout,
+    c: Cursor,
+    i: Instruction,
+    flow: u64,
+    slots: Slots,
+    k: usize,
+) -> Transfer
+    requires { ⌜ Sourced (imageIn (now s) y) × (c ≡ cursorAt (imageIn (now s) y) (c .at)) × (c .at < size (imageIn (now s) y)) × (i ≡ instructionAt (imageIn (now s) y) (c .at)) ⌝ }
+    requires { ⌜ (flow ≡ flowUnder (y .header .calls) (i .flow)) × (slotsIn slots ≡ slotsOf flow) × (k < slotCount (imageIn (now s) y) (c .at)) ⌝ }
+    ensures { λ r. ⌜ transferIn r ≡ transferAt (imageIn (now (s .entry)) y) (c .at) k ⌝ }
+{
+    if k == 0 {
+        return slot_transfer(i, slots.0);
     }
+    if flow == SWITCH {
+        let cases = y.code.cases;
+        let behind = k - 1;
+        let case = case_at(s, cases, c.case + behind);
+        return case_transfer(case, behind);
+    }
+    slot_transfer(i, slots.1)
 }
 
 // The edge of a transfer of the instruction at p, whose address is `source`, or its unresolved record.
@@ -190,6 +257,7 @@ fn add_transfer(
     g: &mut Words,
     s: &[u8],
     y: Layout,
+    hints: &Hints,
     blocks: &[u16; 512],
     p: usize,
     source: u64,
@@ -199,7 +267,8 @@ fn add_transfer(
     requires { ⌜ (p < size (imageIn (now s) y)) × (source ≡ addressAt (imageIn (now s) y) p) ⌝ }
     ensures { λ _. ⌜ Added (now (g .entry)) (now (g .exit)) (transferEdges (imageIn (now (s .entry)) y) p (transferIn x)) (transferUnresolved (imageIn (now (s .entry)) y) p (transferIn x)) [] ⌝ }
 {
-    match resolve(s, y, p + 1, x) {
+    let table = y.code.instructions;
+    match resolve(s, table, hint_of(hints, x.target), x) {
         Found::At(to) => add_edge(
             g,
             edge_between(block_of(blocks, p), block_of(blocks, to), source, x),
@@ -209,12 +278,12 @@ fn add_transfer(
 }
 
 // Where a transfer leads: the position of its target, if it has one that starts an instruction. It is likely to be `near`.
-pub fn resolve(s: &[u8], y: Layout, near: usize, x: Transfer) -> Found
-    requires { ⌜ Rising (tableOf (imageIn (now s) y)) ⌝ }
-    ensures { λ r. ⌜ Resolves (imageIn (now (s .entry)) y) (transferIn x) r ⌝ }
+pub fn resolve(s: &[u8], table: Section, near: usize, x: Transfer) -> Found
+    requires { ⌜ Rising (entriesIn (now s) table) ⌝ }
+    ensures { λ r. ⌜ ((m : Image) → tableOf m ≡ entriesIn (now (s .entry)) table → Resolves m (transferIn x) r) ⌝ }
 {
     if has_target(x) {
-        return find_near(s, y.code.instructions, near, x.target);
+        return find_near(s, table, near, x.target);
     }
     Found::Nothing
 }

@@ -2,6 +2,8 @@
 use crate::drafts::handler;
 use crate::edges::block_of;
 use crate::edges::edge_between;
+use crate::lookup::Hints;
+use crate::lookup::record_at;
 use crate::ranges::Ranged;
 use crate::ranges::range_check;
 use crate::regions::block_at;
@@ -9,7 +11,6 @@ use crate::store::Words;
 use crate::store::edges::add_edge;
 use crate::transfer::Origin;
 use crate::transfer::Transfer;
-use image::access::instruction_at;
 use image::section::Layout;
 ghost use mathlib.Core.Bool.{cond, true};
 ghost use mathlib.Core.List.{[]};
@@ -31,7 +32,14 @@ ghost use Rattle.graph.specs.Adding.{Added};
 const UNWIND: u64 = 9;
 
 // The exception edges of all handlers; the other modes add none.
-pub fn add_exception_edges(g: &mut Words, s: &[u8], y: Layout, code_end: u64, blocks: &[u16; 512])
+pub fn add_exception_edges(
+    g: &mut Words,
+    s: &[u8],
+    y: Layout,
+    hints: &Hints,
+    code_end: u64,
+    blocks: &[u16; 512],
+)
     requires { ⌜ Handled (imageIn (now s) y) (now blocks) × («code_end» ≡ codeEnd (tableOf (imageIn (now s) y))) ⌝ }
     ensures { λ _. ⌜ Added (now (g .entry)) (now (g .exit)) (exceptionEdges (imageIn (now (s .entry)) y)) [] [] ⌝ }
 {
@@ -40,7 +48,7 @@ pub fn add_exception_edges(g: &mut Words, s: &[u8], y: Layout, code_end: u64, bl
     }
     let n = y.code.handlers.count as usize;
     for h in 0..n {
-        add_handler_edges(g, s, y, code_end, blocks, h);
+        add_handler_edges(g, s, y, hints, code_end, blocks, h);
     }
 }
 
@@ -49,6 +57,7 @@ fn add_handler_edges(
     g: &mut Words,
     s: &[u8],
     y: Layout,
+    hints: &Hints,
     code_end: u64,
     blocks: &[u16; 512],
     h: usize,
@@ -60,12 +69,12 @@ fn add_handler_edges(
     let own = handler(s, y, h);
     let start = own.start;
     let end = own.end;
-    let range = range_check(s, y.code.instructions, code_end, start, end);
+    let range = range_check(s, y.code.instructions, hints, code_end, start, end);
     let Ranged::Positions { first, past } = range else {
         return;
     };
     let entry = own.entry;
-    let to = block_at(s, y, blocks, entry);
+    let to = block_at(s, y, hints, blocks, entry);
     let x = unwind_transfer(h, entry);
     for p in first..past {
         add_if_kept(g, s, y, blocks, p, to, x);
@@ -99,7 +108,7 @@ fn add_if_kept(
     requires { ⌜ (resolved (imageIn (now s) y) (transferIn x) ≡ true) × (to ≡ blockAt (imageIn (now s) y) (x .target)) ⌝ }
     ensures { λ _. ⌜ Added (now (g .entry)) (now (g .exit)) (cond (instructionAt (imageIn (now (s .entry)) y) p .keeps) (transferEdges (imageIn (now (s .entry)) y) p (transferIn x)) []) [] [] ⌝ }
 {
-    let i = instruction_at(s, y.code.instructions, p);
+    let i = record_at(s, y.code.instructions, p);
     if i.keeps {
         add_edge(g, edge_between(block_of(blocks, p), to, i.address, x));
     }

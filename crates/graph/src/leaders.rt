@@ -5,13 +5,16 @@ mod flows;
 mod routes;
 
 use crate::cursor::Cursor;
+use crate::cursor::cursor_after;
 use crate::cursor::cursor_start;
-use crate::cursor::visit_at;
+use crate::cursor::given_at;
 use crate::leaders::flows::mark_lead;
 use crate::leaders::routes::mark_routes;
 use crate::lookup::Found;
+use crate::lookup::Hints;
 use crate::lookup::address_at;
 use crate::lookup::find;
+use crate::lookup::record_at;
 use crate::marks::mark_at;
 use crate::marks::mark_if;
 use crate::marks::mark_range;
@@ -40,38 +43,38 @@ const JUMP: u64 = 6;
 const EXCEPTIONAL: u64 = 9;
 
 // Which instructions of an image that passed its checks start a block; `code_end` is the greatest end of all.
-pub fn leaders(s: &[u8], y: Layout, code_end: u64) -> [bool; 512]
+pub fn leaders(s: &[u8], y: Layout, hints: &Hints, code_end: u64) -> [bool; 512]
     requires { ⌜ Passed (imageIn (now s) y) × («code_end» ≡ codeEnd (tableOf (imageIn (now s) y))) ⌝ }
     ensures { λ r. ⌜ Leading (imageIn (now (s .entry)) y) r ⌝ }
 {
     let handlers = y.code.handlers;
     let routes = y.routes.routes;
-    let marks = mark_entry([false; 512], s, y);
-    let marks = mark_instructions(marks, s, y);
+    let marks = mark_entry([false; 512], s, y, hints);
+    let marks = mark_instructions(marks, s, y, hints);
     if routes.count == 0 {
         if handlers.count == 0 {
             return marks;
         }
-        return mark_handlers(marks, s, y, code_end);
+        return mark_handlers(marks, s, y, hints, code_end);
     }
-    let marks = mark_handlers(marks, s, y, code_end);
-    mark_routes(marks, s, y, code_end)
+    let marks = mark_handlers(marks, s, y, hints, code_end);
+    mark_routes(marks, s, y, hints, code_end)
 }
 
 // The first instruction, and the entry.
-fn mark_entry(mut marks: [bool; 512], s: &[u8], y: Layout) -> [bool; 512]
+fn mark_entry(mut marks: [bool; 512], s: &[u8], y: Layout, hints: &Hints) -> [bool; 512]
     requires { ⌜ Passed (imageIn (now s) y) ⌝ }
     ensures { λ r. ⌜ Marked (y .code .instructions .count) (entryMark (imageIn (now (s .entry)) y)) marks r ⌝ }
 {
     let header = y.header;
     let table = y.code.instructions;
     mark_at(&mut marks, 0);
-    mark_target_if(&mut marks, s, table, header.has_entry, header.entry);
+    mark_target_if(&mut marks, s, table, hints, header.has_entry, header.entry);
     marks
 }
 
 // Instruction by instruction.
-fn mark_instructions(mut marks: [bool; 512], s: &[u8], y: Layout) -> [bool; 512]
+fn mark_instructions(mut marks: [bool; 512], s: &[u8], y: Layout, hints: &Hints) -> [bool; 512]
     requires { ⌜ Passed (imageIn (now s) y) ⌝ }
     ensures { λ r. ⌜ Marked (y .code .instructions .count) (instructionMark (imageIn (now (s .entry)) y)) marks r ⌝ }
 {
@@ -79,37 +82,46 @@ fn mark_instructions(mut marks: [bool; 512], s: &[u8], y: Layout) -> [bool; 512]
     let routed = y.routes.routes.count > 0;
     let mut c = cursor_start();
     for q in 0..n {
-        c = mark_visit(&mut marks, s, y, c, routed);
+        c = mark_visit(&mut marks, s, y, hints, c, routed);
     }
     marks
 }
 
 // The marks of the instruction at the cursor, and the cursor behind it. `routed` says whether there is any route.
-fn mark_visit(marks: &mut [bool; 512], s: &[u8], y: Layout, c: Cursor, routed: bool) -> Cursor
+fn mark_visit(
+    marks: &mut [bool; 512],
+    s: &[u8],
+    y: Layout,
+    hints: &Hints,
+    c: Cursor,
+    routed: bool,
+) -> Cursor
     requires { ⌜ Passed (imageIn (now s) y) × (c ≡ cursorAt (imageIn (now s) y) (c .at)) × (c .at < y .code .instructions .count) × (routed ≡ ltb 0 (length (routes (imageIn (now s) y)))) ⌝ }
     ensures { λ r. ⌜ (r ≡ cursorAt (imageIn (now (s .entry)) y) (c .at + 1)) × Marked (y .code .instructions .count) (visitMark (imageIn (now (s .entry)) y) (c .at)) (now (marks .entry)) (now (marks .exit)) ⌝ }
 {
+    let table = y.code.instructions;
+    let sources = y.code.sources;
     let q = c.at;
-    let v = visit_at(s, y, c);
-    let i = v.instruction;
-    let given = v.given;
-    mark_gap(marks, s, y, q, i);
-    mark_lead(marks, s, y, c, given, i);
+    let i = record_at(s, table, q);
+    let given = given_at(s, sources, c.source, i.address);
+    mark_gap(marks, s, y, hints, q, i);
+    mark_lead(marks, s, y, hints, c, given, i);
     mark_if(marks, i.flow == EXCEPTIONAL, q);
-    mark_funclet_end(marks, s, y, q, i, routed);
-    v.next
+    mark_funclet_end(marks, s, y, hints, q, i, routed);
+    cursor_after(c, i.cases, given)
 }
 
 // An instruction after a gap or an overlap, and the start at that end.
-fn mark_gap(marks: &mut [bool; 512], s: &[u8], y: Layout, q: usize, i: Instruction)
+fn mark_gap(marks: &mut [bool; 512], s: &[u8], y: Layout, hints: &Hints, q: usize, i: Instruction)
     requires { ⌜ Passed (imageIn (now s) y) × (q < y .code .instructions .count) × (i ≡ instructionAt (imageIn (now s) y) q) ⌝ }
     ensures { λ _. ⌜ Marked (y .code .instructions .count) (gapMark (imageIn (now (s .entry)) y) q) (now (marks .entry)) (now (marks .exit)) ⌝ }
 {
     if goes_on(s, y, q, i) {
         return;
     }
+    let table = y.code.instructions;
     mark_at(marks, q + 1);
-    mark_target(marks, s, y.code.instructions, i.end);
+    mark_target(marks, s, table, hints, i.end);
 }
 
 // Whether the next instruction starts where the one at q ends.
@@ -130,6 +142,7 @@ fn mark_funclet_end(
     marks: &mut [bool; 512],
     s: &[u8],
     y: Layout,
+    hints: &Hints,
     q: usize,
     i: Instruction,
     routed: bool,
@@ -138,13 +151,13 @@ fn mark_funclet_end(
     ensures { λ _. ⌜ Marked (y .code .instructions .count) (λ p. funcletEnd (imageIn (now (s .entry)) y) q && eqb p q) (now (marks .entry)) (now (marks .exit)) ⌝ }
 {
     if routed {
-        let ends = ends_funclet(s, y, q, i);
+        let ends = ends_funclet(s, y, hints, q, i);
         mark_if(marks, ends, q);
     }
 }
 
 // Whether a funclet may end at q: by a Return, or by a Jump to no start.
-fn ends_funclet(s: &[u8], y: Layout, q: usize, i: Instruction) -> bool
+fn ends_funclet(s: &[u8], y: Layout, hints: &Hints, q: usize, i: Instruction) -> bool
     requires { ⌜ Rising (tableOf (imageIn (now s) y)) × (i ≡ instructionAt (imageIn (now s) y) q) ⌝ }
     ensures { λ r. ⌜ r ≡ endsFunclet (imageIn (now (s .entry)) y) q ⌝ }
 {
@@ -152,7 +165,8 @@ fn ends_funclet(s: &[u8], y: Layout, q: usize, i: Instruction) -> bool
         return true;
     }
     if i.flow == JUMP {
-        return match find(s, y.code.instructions, i.target) {
+        let table = y.code.instructions;
+        return match find(s, table, hints, i.target) {
             Found::At(_) => false,
             Found::Nothing => true,
         };
@@ -161,23 +175,36 @@ fn ends_funclet(s: &[u8], y: Layout, q: usize, i: Instruction) -> bool
 }
 
 // What handlers protect, and where they are entered.
-fn mark_handlers(mut marks: [bool; 512], s: &[u8], y: Layout, code_end: u64) -> [bool; 512]
+fn mark_handlers(
+    mut marks: [bool; 512],
+    s: &[u8],
+    y: Layout,
+    hints: &Hints,
+    code_end: u64,
+) -> [bool; 512]
     requires { ⌜ Passed (imageIn (now s) y) × («code_end» ≡ codeEnd (tableOf (imageIn (now s) y))) ⌝ }
     ensures { λ r. ⌜ Marked (y .code .instructions .count) (handlerMark (imageIn (now (s .entry)) y)) marks r ⌝ }
 {
     let n = y.code.handlers.count as usize;
     for h in 0..n {
-        mark_handler(&mut marks, s, y, code_end, h);
+        mark_handler(&mut marks, s, y, hints, code_end, h);
     }
     marks
 }
 
-fn mark_handler(marks: &mut [bool; 512], s: &[u8], y: Layout, code_end: u64, h: usize)
+fn mark_handler(
+    marks: &mut [bool; 512],
+    s: &[u8],
+    y: Layout,
+    hints: &Hints,
+    code_end: u64,
+    h: usize,
+)
     requires { ⌜ Passed (imageIn (now s) y) × («code_end» ≡ codeEnd (tableOf (imageIn (now s) y))) × (h < y .code .handlers .count) ⌝ }
     ensures { λ _. ⌜ Marked (y .code .instructions .count) (protectMark (imageIn (now (s .entry)) y) h) (now (marks .entry)) (now (marks .exit)) ⌝ }
 {
     let table = y.code.instructions;
     let handler = handler_at(s, y.code.handlers, h);
-    mark_range(marks, s, table, code_end, handler.start, handler.end);
-    mark_target(marks, s, table, handler.entry);
+    mark_range(marks, s, table, hints, code_end, handler.start, handler.end);
+    mark_target(marks, s, table, hints, handler.entry);
 }

@@ -1,9 +1,18 @@
 // Address look-up: the position of the instruction that starts at an address.
+use image::access::instruction_at;
+use image::little::byte_at;
+use image::little::octet;
+use image::little::quad;
 use image::little::u64_at;
+use image::record::Instruction;
 use image::section::Section;
 use image::section::place;
+ghost use mathlib.Core.List.{[]};
 ghost use mathlib.Core.Path.{_≡_};
-ghost use Prim.Native.Nat.{_<_};
+ghost use Prim.Native.Nat.{_+_, _<_, _≤_};
+ghost use lib.ListN.{length, getD};
+ghost use Rattle.image.specs.Image.{recordsIn};
+ghost use Rattle.image.specs.Record.{instructionFrom};
 ghost use Rattle.graph.specs.Table.{entryAt};
 ghost use Rattle.graph.specs.Lookup.{entriesIn, Rising, Finds};
 
@@ -12,8 +21,44 @@ pub enum Found {
     Nothing,
 }
 
-// By halving a table whose addresses rise.
-pub fn find(s: &[u8], y: Section, a: u64) -> Found
+// Where an address is likely to stand. Whatever the hints are, an answer is the same: each is tried before it is believed.
+pub type Hints = [u16; 512];
+
+// The hints of a table: each address's position, or that of another address in the same slot.
+pub fn fill_hints(hints: &mut Hints, s: &[u8], y: Section) {
+    let n = y.count as usize;
+    for p in 0..n {
+        let slot = slot_of(address_at(s, y, p));
+        hints[slot] = (p % 65536) as u16;
+    }
+}
+
+fn slot_of(a: u64) -> usize
+    ensures { λ r. ⌜ r < 512 ⌝ }
+{
+    let mixed = a % 0x100000000 * 0x9E3779B9;
+    (mixed / 0x800000 % 512) as usize
+}
+
+pub fn hint_of(hints: &Hints, a: u64) -> usize {
+    let slot = slot_of(a);
+    wide(hints[slot])
+}
+
+fn wide(x: u16) -> usize {
+    x as usize
+}
+
+// In a table whose addresses rise: by its hint, or else by halving.
+pub fn find(s: &[u8], y: Section, hints: &Hints, a: u64) -> Found
+    requires { ⌜ Rising (entriesIn (now s) y) ⌝ }
+    ensures { λ r. ⌜ Finds (entriesIn (now (s .entry)) y) a r ⌝ }
+{
+    find_near(s, y, hint_of(hints, a), a)
+}
+
+// By halving.
+fn search(s: &[u8], y: Section, a: u64) -> Found
     requires { ⌜ Rising (entriesIn (now s) y) ⌝ }
     ensures { λ r. ⌜ Finds (entriesIn (now (s .entry)) y) a r ⌝ }
 {
@@ -34,7 +79,7 @@ pub fn find(s: &[u8], y: Section, a: u64) -> Found
     Found::Nothing
 }
 
-// The same, where the position is likely to be `near`.
+// Where the position is likely to be `near`.
 pub fn find_near(s: &[u8], y: Section, near: usize, a: u64) -> Found
     requires { ⌜ Rising (entriesIn (now s) y) ⌝ }
     ensures { λ r. ⌜ Finds (entriesIn (now (s .entry)) y) a r ⌝ }
@@ -46,7 +91,7 @@ pub fn find_near(s: &[u8], y: Section, near: usize, a: u64) -> Found
             return Found::At(near);
         }
     }
-    find(s, y, a)
+    search(s, y, a)
 }
 
 // Where the instruction at position i starts, and where it ends: of its record that alone is read.
@@ -62,4 +107,33 @@ pub fn end_at(s: &[u8], y: Section, i: usize) -> u64
     ensures { λ r. ⌜ r ≡ entryAt (entriesIn (now (s .entry)) y) i .end ⌝ }
 {
     u64_at(s, place(y, i) + 8)
+}
+
+// The instruction at position i: each field is one load, where all its bytes are there.
+pub fn record_at(s: &[u8], y: Section, i: usize) -> Instruction
+    requires { ⌜ i < y .count ⌝ }
+    ensures { λ r. ⌜ r ≡ getD (recordsIn instructionFrom (now (s .entry)) y) i (instructionFrom [] 0) ⌝ }
+{
+    let at = place(y, i);
+    if s.len() < at + 31 {
+        return instruction_at(s, y, i);
+    }
+    record_there(s, at)
+}
+
+fn record_there(s: &[u8], at: usize) -> Instruction
+    requires { ⌜ at + 31 ≤ length (now s) ⌝ }
+    ensures { λ r. ⌜ r ≡ instructionFrom (now (s .entry)) at ⌝ }
+{
+    let has_end = byte_at(s, at + 16) == 1;
+    let keeps = byte_at(s, at + 17) == 1;
+    Instruction {
+        address: octet(s, at),
+        end: octet(s, at + 8),
+        has_end,
+        keeps,
+        flow: byte_at(s, at + 18),
+        target: octet(s, at + 19),
+        cases: quad(s, at + 27) as usize,
+    }
 }

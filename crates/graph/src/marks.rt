@@ -1,5 +1,6 @@
 // Marks of positions, lent to be set: `[bool; 512]`, as many as a table may have.
 use crate::lookup::Found;
+use crate::lookup::Hints;
 use crate::lookup::find;
 use crate::ranges::Ranged;
 use crate::ranges::range_check;
@@ -21,6 +22,7 @@ pub fn mark_range(
     marks: &mut [bool; 512],
     s: &[u8],
     y: Section,
+    hints: &Hints,
     code_end: u64,
     start: u64,
     end: u64,
@@ -29,7 +31,7 @@ pub fn mark_range(
     requires { ⌜ (rangeCheck (entriesIn (now s) y) start end ≡ clear) × (y .count ≤ 512) ⌝ }
     ensures { λ _. ⌜ Marked (y .count) (λ p. leb (below (entriesIn (now (s .entry)) y) start) p && leb p (below (entriesIn (now (s .entry)) y) end)) (now (marks .entry)) (now (marks .exit)) ⌝ }
 {
-    let Ranged::Positions { first, past } = range_check(s, y, code_end, start, end) else {
+    let Ranged::Positions { first, past } = range_check(s, y, hints, code_end, start, end) else {
         return;
     };
     let behind = past + 1;
@@ -39,13 +41,20 @@ pub fn mark_range(
 }
 
 // The start at a, where `leads` holds.
-pub fn mark_target_if(marks: &mut [bool; 512], s: &[u8], y: Section, leads: bool, a: u64)
+pub fn mark_target_if(
+    marks: &mut [bool; 512],
+    s: &[u8],
+    y: Section,
+    hints: &Hints,
+    leads: bool,
+    a: u64,
+)
     requires { ⌜ Rising (entriesIn (now s) y) ⌝ }
     requires { ⌜ y .count ≤ 512 ⌝ }
     ensures { λ _. ⌜ Marked (y .count) (λ p. leads && startMark (entriesIn (now (s .entry)) y) a p) (now (marks .entry)) (now (marks .exit)) ⌝ }
 {
     if leads {
-        mark_target(marks, s, y, a);
+        mark_target(marks, s, y, hints, a);
     }
 }
 
@@ -59,12 +68,12 @@ pub fn mark_if(marks: &mut [bool; 512], leads: bool, p: usize)
 }
 
 // The start at a, if there is one.
-pub fn mark_target(marks: &mut [bool; 512], s: &[u8], y: Section, a: u64)
+pub fn mark_target(marks: &mut [bool; 512], s: &[u8], y: Section, hints: &Hints, a: u64)
     requires { ⌜ Rising (entriesIn (now s) y) ⌝ }
     requires { ⌜ y .count ≤ 512 ⌝ }
     ensures { λ _. ⌜ Marked (y .count) (startMark (entriesIn (now (s .entry)) y) a) (now (marks .entry)) (now (marks .exit)) ⌝ }
 {
-    let Found::At(k) = find(s, y, a) else {
+    let Found::At(k) = find(s, y, hints, a) else {
         return;
     };
     mark_at(marks, k);

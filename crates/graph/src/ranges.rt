@@ -2,6 +2,7 @@
 use crate::error::AddressBuildError;
 use crate::error::Checked;
 use crate::lookup::Found;
+use crate::lookup::Hints;
 use crate::lookup::end_at;
 use crate::lookup::find;
 use image::access::handler_at;
@@ -38,34 +39,41 @@ pub fn code_end(s: &[u8], y: Section) -> u64
 }
 
 // The positions of the range from `start` to `end`, in a table that ends at `code_end`.
-pub fn range_check(s: &[u8], y: Section, code_end: u64, start: u64, end: u64) -> Ranged
+pub fn range_check(
+    s: &[u8],
+    y: Section,
+    hints: &Hints,
+    code_end: u64,
+    start: u64,
+    end: u64,
+) -> Ranged
     requires { ⌜ Ended (entriesIn (now s) y) «code_end» ⌝ }
     ensures { λ r. ⌜ Ranges (entriesIn (now (s .entry)) y) start end r ⌝ }
 {
     if end <= start {
         return Ranged::Refused(AddressBuildError::EmptyProtectedRange { start, end });
     }
-    let Found::At(first) = find(s, y, start) else {
+    let Found::At(first) = find(s, y, hints, start) else {
         return Ranged::Refused(AddressBuildError::MissingRangeStart { address: start });
     };
     if end == code_end {
         let past = y.count as usize;
         return Ranged::Positions { first, past };
     }
-    let Found::At(past) = find(s, y, end) else {
+    let Found::At(past) = find(s, y, hints, end) else {
         return Ranged::Refused(AddressBuildError::MissingRangeEnd { address: end });
     };
     Ranged::Positions { first, past }
 }
 
 // The first refusal among those of the handlers.
-pub fn check_handlers(s: &[u8], y: Layout, code_end: u64) -> Checked
+pub fn check_handlers(s: &[u8], y: Layout, hints: &Hints, code_end: u64) -> Checked
     requires { ⌜ Ended (tableOf (imageIn (now s) y)) «code_end» ⌝ }
     ensures { λ r. ⌜ checkOf r ≡ handlersCheck (imageIn (now (s .entry)) y) ⌝ }
 {
     let n = y.code.handlers.count as usize;
     for h in 0..n {
-        let found = check_handler(s, y, code_end, h);
+        let found = check_handler(s, y, hints, code_end, h);
         let Checked::Clear = found else {
             return found;
         };
@@ -73,7 +81,7 @@ pub fn check_handlers(s: &[u8], y: Layout, code_end: u64) -> Checked
     Checked::Clear
 }
 
-fn check_handler(s: &[u8], y: Layout, code_end: u64, h: usize) -> Checked
+fn check_handler(s: &[u8], y: Layout, hints: &Hints, code_end: u64, h: usize) -> Checked
     requires { ⌜ Ended (tableOf (imageIn (now s) y)) «code_end» ⌝ }
     ensures { λ r. ⌜ checkOf r ≡ handlerCheck (imageIn (now (s .entry)) y) h ⌝ }
 {
@@ -82,11 +90,11 @@ fn check_handler(s: &[u8], y: Layout, code_end: u64, h: usize) -> Checked
     let handler = handler_at(s, code.handlers, h);
     let start = handler.start;
     let end = handler.end;
-    if let Ranged::Refused(e) = range_check(s, instructions, code_end, start, end) {
+    if let Ranged::Refused(e) = range_check(s, instructions, hints, code_end, start, end) {
         return Checked::Refused(e);
     }
     let entry = handler.entry;
-    let Found::At(_) = find(s, instructions, entry) else {
+    let Found::At(_) = find(s, instructions, hints, entry) else {
         return Checked::Refused(AddressBuildError::MissingHandlerEntry { address: entry });
     };
     Checked::Clear

@@ -7,6 +7,7 @@ use crate::drafts::same_range;
 use crate::drafts::span;
 use crate::edges::block_of;
 use crate::lookup::Found;
+use crate::lookup::Hints;
 use crate::lookup::find;
 use crate::ranges::Ranged;
 use crate::ranges::range_check;
@@ -42,7 +43,14 @@ pub enum Parent {
 }
 
 // The regions and the handlers of the image, in a graph that has none.
-pub fn add_regions(g: &mut Words, s: &[u8], y: Layout, code_end: u64, blocks: &[u16; 512])
+pub fn add_regions(
+    g: &mut Words,
+    s: &[u8],
+    y: Layout,
+    hints: &Hints,
+    code_end: u64,
+    blocks: &[u16; 512],
+)
     requires { ⌜ Handled (imageIn (now s) y) (now blocks) × («code_end» ≡ codeEnd (tableOf (imageIn (now s) y))) ⌝ }
     requires { ⌜ Whole (now g) × (heldIn (now g) .graph .regions ≡ []) × (heldIn (now g) .graph .handlers ≡ []) ⌝ }
     ensures { λ _. ⌜ Stored (now (g .entry)) (now (g .exit)) (held (withHandlers (withRegions (heldIn (now (g .entry)) .graph) (regionsOf (imageIn (now (s .entry)) y))) (handlersOf (imageIn (now (s .entry)) y)))) ⌝ }
@@ -56,14 +64,26 @@ pub fn add_regions(g: &mut Words, s: &[u8], y: Layout, code_end: u64, blocks: &[
     read_ranges(&mut starts, &mut ends, s, y);
     let mut list = [0usize; 32];
     let count = drafts_of(&mut list, &starts, &ends, n);
-    store_regions(g, s, y, code_end, blocks, &starts, &ends, &list, count);
-    store_handlers(g, s, y, blocks, &starts, &ends, &list, count);
+    store_regions(
+        g,
+        s,
+        y,
+        hints,
+        code_end,
+        blocks,
+        &starts,
+        &ends,
+        &list,
+        count,
+    );
+    store_handlers(g, s, y, hints, blocks, &starts, &ends, &list, count);
 }
 
 fn store_regions(
     g: &mut Words,
     s: &[u8],
     y: Layout,
+    hints: &Hints,
     code_end: u64,
     blocks: &[u16; 512],
     starts: &[u64; 32],
@@ -79,7 +99,7 @@ fn store_regions(
     for r in 0..count {
         add_region(
             g,
-            region_of(s, y, code_end, blocks, starts, ends, list, count, r),
+            region_of(s, y, hints, code_end, blocks, starts, ends, list, count, r),
         );
     }
 }
@@ -88,6 +108,7 @@ fn store_handlers(
     g: &mut Words,
     s: &[u8],
     y: Layout,
+    hints: &Hints,
     blocks: &[u16; 512],
     starts: &[u64; 32],
     ends: &[u64; 32],
@@ -103,7 +124,7 @@ fn store_handlers(
     for h in 0..n {
         add_handler(
             g,
-            handler_record(s, y, blocks, starts, ends, list, count, h),
+            handler_record(s, y, hints, blocks, starts, ends, list, count, h),
         );
     }
 }
@@ -111,6 +132,7 @@ fn store_handlers(
 fn region_of(
     s: &[u8],
     y: Layout,
+    hints: &Hints,
     code_end: u64,
     blocks: &[u16; 512],
     starts: &[u64; 32],
@@ -135,7 +157,7 @@ fn region_of(
         start,
         end,
         handlers: same_ranges(starts, ends, h, n),
-        protected: protected_by(s, y, code_end, blocks, h),
+        protected: protected_by(s, y, hints, code_end, blocks, h),
     }
 }
 
@@ -218,7 +240,14 @@ fn same_ranges(starts: &[u64; 32], ends: &[u64; 32], h: usize, n: usize) -> u64
 }
 
 // The blocks that handler h protects.
-fn protected_by(s: &[u8], y: Layout, code_end: u64, blocks: &[u16; 512], h: usize) -> [u64; 16]
+fn protected_by(
+    s: &[u8],
+    y: Layout,
+    hints: &Hints,
+    code_end: u64,
+    blocks: &[u16; 512],
+    h: usize,
+) -> [u64; 16]
     requires { ⌜ Handled (imageIn (now s) y) (now blocks) × («code_end» ≡ codeEnd (tableOf (imageIn (now s) y))) ⌝ }
     requires { ⌜ handlerCheck (imageIn (now s) y) h ≡ clear ⌝ }
     ensures { λ r. ⌜ r ≡ setBelow (λ i. blockOf (imageIn (now (s .entry)) y) (rangeFirst (imageIn (now (s .entry)) y) h + i)) (rangeSize (imageIn (now (s .entry)) y) h) ⌝ }
@@ -226,7 +255,7 @@ fn protected_by(s: &[u8], y: Layout, code_end: u64, blocks: &[u16; 512], h: usiz
     let own = handler(s, y, h);
     let start = own.start;
     let end = own.end;
-    let range = range_check(s, y.code.instructions, code_end, start, end);
+    let range = range_check(s, y.code.instructions, hints, code_end, start, end);
     let Ranged::Positions { first, past } = range else {
         return [0; 16];
     };
@@ -248,6 +277,7 @@ fn blocks_between(blocks: &[u16; 512], first: usize, past: usize) -> [u64; 16]
 fn handler_record(
     s: &[u8],
     y: Layout,
+    hints: &Hints,
     blocks: &[u16; 512],
     starts: &[u64; 32],
     ends: &[u64; 32],
@@ -263,7 +293,7 @@ fn handler_record(
     HandlerRecord {
         region: region_in(starts, ends, list, count, h),
         place: same_ranges(starts, ends, h, h),
-        entry: block_at(s, y, blocks, own.entry),
+        entry: block_at(s, y, hints, blocks, own.entry),
         kind: own.kind,
         filter: own.filter,
     }
@@ -289,11 +319,11 @@ fn region_in(
 }
 
 // The block of the instruction that starts at a.
-pub fn block_at(s: &[u8], y: Layout, blocks: &[u16; 512], a: u64) -> u64
+pub fn block_at(s: &[u8], y: Layout, hints: &Hints, blocks: &[u16; 512], a: u64) -> u64
     requires { ⌜ Numbered (imageIn (now s) y) (now blocks) × (isStart (tableOf (imageIn (now s) y)) a ≡ true) ⌝ }
     ensures { λ r. ⌜ r ≡ blockAt (imageIn (now (s .entry)) y) a ⌝ }
 {
-    let Found::At(p) = find(s, y.code.instructions, a) else {
+    let Found::At(p) = find(s, y.code.instructions, hints, a) else {
         return 0;
     };
     block_of(blocks, p)

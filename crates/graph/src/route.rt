@@ -2,6 +2,7 @@
 use crate::error::AddressBuildError;
 use crate::error::Checked;
 use crate::lookup::Found;
+use crate::lookup::Hints;
 use crate::lookup::find;
 use crate::ranges::Ranged;
 use crate::ranges::range_check;
@@ -34,7 +35,7 @@ pub enum Entered {
 }
 
 // The first refusal among those of the routes. The scan carries along where a route's paths and their steps start.
-pub fn check_routes(s: &[u8], y: Layout, code_end: u64) -> Checked
+pub fn check_routes(s: &[u8], y: Layout, hints: &Hints, code_end: u64) -> Checked
     requires { ⌜ Accepted (imageIn (now s) y) × Ended (tableOf (imageIn (now s) y)) «code_end» ⌝ }
     ensures { λ r. ⌜ checkOf r ≡ routesCheck (imageIn (now (s .entry)) y) ⌝ }
 {
@@ -45,7 +46,7 @@ pub fn check_routes(s: &[u8], y: Layout, code_end: u64) -> Checked
     let mut path = 0;
     let mut step = 0;
     for r in 0..n {
-        step = match check_route(s, instructions, layout, code_end, r, path, step) {
+        step = match check_route(s, instructions, hints, layout, code_end, r, path, step) {
             Entered::Refused(e) => return Checked::Refused(e),
             Entered::Next(next) => next,
         };
@@ -58,6 +59,7 @@ pub fn check_routes(s: &[u8], y: Layout, code_end: u64) -> Checked
 fn check_route(
     s: &[u8],
     t: Section,
+    hints: &Hints,
     y: RouteLayout,
     code_end: u64,
     r: usize,
@@ -70,19 +72,20 @@ fn check_route(
     let route = route_at(s, y.routes, r);
     let start = route.start;
     let end = route.end;
-    if let Ranged::Refused(e) = range_check(s, t, code_end, start, end) {
+    if let Ranged::Refused(e) = range_check(s, t, hints, code_end, start, end) {
         return Entered::Refused(e);
     }
     if resumes_late(s, y, r, path, step) {
         return Entered::Refused(AddressBuildError::ResumeAfterFunclet { route: r });
     }
-    check_entries(s, t, y, path, route.paths, step)
+    check_entries(s, t, hints, y, path, route.paths, step)
 }
 
 // The entries of the n paths from `path` on, whose steps start at `step`.
 fn check_entries(
     s: &[u8],
     t: Section,
+    hints: &Hints,
     y: RouteLayout,
     path: usize,
     n: usize,
@@ -93,7 +96,7 @@ fn check_entries(
 {
     let mut next = step;
     for k in 0..n {
-        next = match check_path(s, t, y, path + k, next) {
+        next = match check_path(s, t, hints, y, path + k, next) {
             Entered::Refused(e) => return Entered::Refused(e),
             Entered::Next(behind) => behind,
         };
@@ -102,7 +105,7 @@ fn check_entries(
 }
 
 // The entries of path p, whose steps start at `step`: its funclets in order, then its handler.
-fn check_path(s: &[u8], t: Section, y: RouteLayout, p: usize, step: usize) -> Entered
+fn check_path(s: &[u8], t: Section, hints: &Hints, y: RouteLayout, p: usize, step: usize) -> Entered
     requires { ⌜ AcceptedRoutes (routesIn (now s) y) × Rising (entriesIn (now s) t) × (p < length (routesIn (now s) y .paths)) × (step ≡ stepsBefore (routesIn (now s) y) p) ⌝ }
     ensures { λ e. ⌜ Enters (routesIn (now (s .entry)) y) (pathCheck (entriesIn (now (s .entry)) t) (pathIn (routesIn (now (s .entry)) y) p)) (p + 1) e ⌝ }
 {
@@ -111,24 +114,24 @@ fn check_path(s: &[u8], t: Section, y: RouteLayout, p: usize, step: usize) -> En
     for j in 0..size {
         let x = step_at(s, y.steps, step + j);
         if x.code == FUNCLET {
-            if let Checked::Refused(e) = check_entry(s, t, x.value) {
+            if let Checked::Refused(e) = check_entry(s, t, hints, x.value) {
                 return Entered::Refused(e);
             }
         }
     }
     if path.end == HANDLER {
-        if let Checked::Refused(e) = check_entry(s, t, path.handler) {
+        if let Checked::Refused(e) = check_entry(s, t, hints, path.handler) {
             return Entered::Refused(e);
         }
     }
     Entered::Next(step + size)
 }
 
-fn check_entry(s: &[u8], t: Section, a: u64) -> Checked
+fn check_entry(s: &[u8], t: Section, hints: &Hints, a: u64) -> Checked
     requires { ⌜ Rising (entriesIn (now s) t) ⌝ }
     ensures { λ r. ⌜ checkOf r ≡ namedCheck (entriesIn (now (s .entry)) t) a ⌝ }
 {
-    let Found::At(_) = find(s, t, a) else {
+    let Found::At(_) = find(s, t, hints, a) else {
         return Checked::Refused(AddressBuildError::MissingRouteEntry { address: a });
     };
     Checked::Clear

@@ -74,9 +74,6 @@ const SLOTS: [Slots; 13] = [
     Slots(Slot(SWITCH_DEFAULT, Origin::Named), EMPTY), // Switch
 ];
 
-// The kind of each role's edge; an exception's for the roles behind them.
-const KINDS: [u64; 8] = [0, 1, 2, 3, 4, 4, 5, 6];
-
 // Both slots of a flow.
 pub fn slots_of(flow: u64) -> Slots
     requires { ⌜ flow ≤ 12 ⌝ }
@@ -153,13 +150,15 @@ pub fn is_empty(x: Transfer) -> bool
     }
 }
 
-// `EdgeRole::kind`
+// `EdgeRole::kind`: both switch roles have one, and an exception's is that of the roles behind the last.
 pub fn kind_of(role: u64) -> u64
     ensures { λ r. ⌜ r ≡ kindOf role ⌝ }
 {
+    if role < 5 {
+        return role;
+    }
     if role < 8 {
-        let at = role as usize;
-        return KINDS[at];
+        return role - 1;
     }
     7
 }

@@ -1,4 +1,5 @@
 // Marks of the routes: what they protect, and the funclets and handlers that their paths name.
+use crate::lookup::Hints;
 use crate::marks::mark_range;
 use crate::marks::mark_target_if;
 use image::access::path_at;
@@ -17,27 +18,46 @@ const FUNCLET: u64 = 0;
 
 const HANDLER: u64 = 0;
 
-pub fn mark_routes(marks: [bool; 512], s: &[u8], y: Layout, code_end: u64) -> [bool; 512]
+pub fn mark_routes(
+    marks: [bool; 512],
+    s: &[u8],
+    y: Layout,
+    hints: &Hints,
+    code_end: u64,
+) -> [bool; 512]
     requires { ⌜ Passed (imageIn (now s) y) × («code_end» ≡ codeEnd (tableOf (imageIn (now s) y))) ⌝ }
     ensures { λ r. ⌜ Marked (y .code .instructions .count) (routeMark (imageIn (now (s .entry)) y)) marks r ⌝ }
 {
-    let marks = mark_route_ranges(marks, s, y, code_end);
-    let marks = mark_funclets(marks, s, y);
-    mark_path_ends(marks, s, y)
+    let marks = mark_route_ranges(marks, s, y, hints, code_end);
+    let marks = mark_funclets(marks, s, y, hints);
+    mark_path_ends(marks, s, y, hints)
 }
 
-fn mark_route_ranges(mut marks: [bool; 512], s: &[u8], y: Layout, code_end: u64) -> [bool; 512]
+fn mark_route_ranges(
+    mut marks: [bool; 512],
+    s: &[u8],
+    y: Layout,
+    hints: &Hints,
+    code_end: u64,
+) -> [bool; 512]
     requires { ⌜ Passed (imageIn (now s) y) × («code_end» ≡ codeEnd (tableOf (imageIn (now s) y))) ⌝ }
     ensures { λ r. ⌜ Marked (y .code .instructions .count) (routeRangeMark (imageIn (now (s .entry)) y)) marks r ⌝ }
 {
     let n = y.routes.routes.count as usize;
     for r in 0..n {
-        mark_route_range(&mut marks, s, y, code_end, r);
+        mark_route_range(&mut marks, s, y, hints, code_end, r);
     }
     marks
 }
 
-fn mark_route_range(marks: &mut [bool; 512], s: &[u8], y: Layout, code_end: u64, r: usize)
+fn mark_route_range(
+    marks: &mut [bool; 512],
+    s: &[u8],
+    y: Layout,
+    hints: &Hints,
+    code_end: u64,
+    r: usize,
+)
     requires { ⌜ Passed (imageIn (now s) y) × («code_end» ≡ codeEnd (tableOf (imageIn (now s) y))) × (r < y .routes .routes .count) ⌝ }
     ensures { λ _. ⌜ Marked (y .code .instructions .count) (routeRange (imageIn (now (s .entry)) y) r) (now (marks .entry)) (now (marks .exit)) ⌝ }
 {
@@ -46,6 +66,7 @@ fn mark_route_range(marks: &mut [bool; 512], s: &[u8], y: Layout, code_end: u64,
         marks,
         s,
         y.code.instructions,
+        hints,
         code_end,
         route.start,
         route.end,
@@ -53,18 +74,18 @@ fn mark_route_range(marks: &mut [bool; 512], s: &[u8], y: Layout, code_end: u64,
 }
 
 // The funclets that the routes' paths enter.
-fn mark_funclets(mut marks: [bool; 512], s: &[u8], y: Layout) -> [bool; 512]
+fn mark_funclets(mut marks: [bool; 512], s: &[u8], y: Layout, hints: &Hints) -> [bool; 512]
     requires { ⌜ Passed (imageIn (now s) y) ⌝ }
     ensures { λ r. ⌜ Marked (y .code .instructions .count) (funcletMark (imageIn (now (s .entry)) y)) marks r ⌝ }
 {
     let n = y.routes.steps.count as usize;
     for k in 0..n {
-        mark_funclet(&mut marks, s, y, k);
+        mark_funclet(&mut marks, s, y, hints, k);
     }
     marks
 }
 
-fn mark_funclet(marks: &mut [bool; 512], s: &[u8], y: Layout, k: usize)
+fn mark_funclet(marks: &mut [bool; 512], s: &[u8], y: Layout, hints: &Hints, k: usize)
     requires { ⌜ Passed (imageIn (now s) y) ⌝ }
     ensures { λ _. ⌜ Marked (y .code .instructions .count) (stepMark (imageIn (now (s .entry)) y) k) (now (marks .entry)) (now (marks .exit)) ⌝ }
 {
@@ -73,24 +94,25 @@ fn mark_funclet(marks: &mut [bool; 512], s: &[u8], y: Layout, k: usize)
         marks,
         s,
         y.code.instructions,
+        hints,
         step.code == FUNCLET,
         step.value,
     );
 }
 
 // The handlers at which they end.
-fn mark_path_ends(mut marks: [bool; 512], s: &[u8], y: Layout) -> [bool; 512]
+fn mark_path_ends(mut marks: [bool; 512], s: &[u8], y: Layout, hints: &Hints) -> [bool; 512]
     requires { ⌜ Passed (imageIn (now s) y) ⌝ }
     ensures { λ r. ⌜ Marked (y .code .instructions .count) (pathEndMark (imageIn (now (s .entry)) y)) marks r ⌝ }
 {
     let n = y.routes.paths.count as usize;
     for k in 0..n {
-        mark_path_end(&mut marks, s, y, k);
+        mark_path_end(&mut marks, s, y, hints, k);
     }
     marks
 }
 
-fn mark_path_end(marks: &mut [bool; 512], s: &[u8], y: Layout, k: usize)
+fn mark_path_end(marks: &mut [bool; 512], s: &[u8], y: Layout, hints: &Hints, k: usize)
     requires { ⌜ Passed (imageIn (now s) y) ⌝ }
     ensures { λ _. ⌜ Marked (y .code .instructions .count) (pathMark (imageIn (now (s .entry)) y) k) (now (marks .entry)) (now (marks .exit)) ⌝ }
 {
@@ -99,6 +121,7 @@ fn mark_path_end(marks: &mut [bool; 512], s: &[u8], y: Layout, k: usize)
         marks,
         s,
         y.code.instructions,
+        hints,
         path.end == HANDLER,
         path.handler,
     );

@@ -30,8 +30,8 @@ cast-n c = search needs
 loop-holds : tie.Need-loop-holds Inv-loop μ-loop
 loop-holds c = (search needs, table-none _)
 
-instruction-at-requires : tie.Need-instruction-at-requires Inv-loop μ-loop
-instruction-at-requires c κs = search needs
+record-at-requires : tie.Need-record-at-requires Inv-loop μ-loop
+record-at-requires c κs = search needs
 
 table-entry-requires : tie.Need-table-entry-requires Inv-loop μ-loop
 table-entry-requires c κs = search needs
@@ -50,7 +50,7 @@ loop-again c =
     let top = c .before .before .before .before .before .loop in
     let a = c .before .before .before .before .before .before .before .before .args in
     let is = recordsIn instructionFrom (a .s .now) (a .y) in
-    let entry = c .before .table-entry .ensures ∙ ap tableEntry (c .before .before .instruction-at .ensures) in
+    let entry = c .before .table-entry .ensures ∙ ap tableEntry (c .before .before .record-at .ensures) in
     (search needs, rw (table-next is (top .p) (rw (length-records instructionFrom (a .s .now) (a .y)) (c .before .before .before .before .loop-test .taken)), ← entry) (table-more _ _ (top .inv .1) (c .add-entry .ensures)))
 
 returns : tie.Need-returns Inv-loop μ-loop
@@ -67,7 +67,7 @@ store-table-spec =
     μ-loop
     cast-n
     loop-holds
-    instruction-at-requires
+    record-at-requires
     table-entry-requires
     add-entry-requires
     add-p

@@ -1,5 +1,5 @@
 -- The table and the blocks, the edges, the regions, the entry. Assumes nothing.
-use mathlib.Core.Path.{_≡_}
+use mathlib.Core.Path.{_≡_, refl}
 use Prim.Native.Nat.{ℕ, _<_}
 use lib.ListN.{getD}
 use Rattle.image.specs.Record.{instructionFrom}
@@ -13,48 +13,48 @@ use borrow.Author.Needs.{needs}
 use Rattle.graph.proofs.build.store_graph.Statement.{statement}
 use Rattle.graph.proofs.build.store_graph.Tie as tie
 
-block-numbers-requires : tie.Need-block-numbers-requires
-block-numbers-requires c κs =
-    let start = c .before .before in
-    omega (arith, start .pre .0 .accepted .instructions-most, length-records instructionFrom (start .args .s .now) (start .args .y .code .instructions))
+number-blocks-requires : tie.Need-number-blocks-requires
+number-blocks-requires c κs =
+    let start = c .before .before .before in
+    (omega (arith, start .pre .0 .accepted .instructions-most, length-records instructionFrom (start .args .s .now) (start .args .y .code .instructions)), refl)
 
 store-code-requires : tie.Need-store-code-requires
-store-code-requires c κs = let start = c .before .before .before .before in (start .pre .0 .accepted .instructions-most, start .pre .0 .leading)
+store-code-requires c κs = let start = c .before .before .before .before .before in (start .pre .0 .accepted .instructions-most, start .pre .0 .leading)
 
 store-edges-requires : tie.Need-store-edges-requires
 store-edges-requires c κs =
-    let start = c .before .before .before .before .before .before .before in
+    let start = c .before .before .before .before .before .before .before .before in
     let a = start .args in
     let m = imageIn (a .s .now) (a .y) in
     let b = start .pre .0 in
     let n = length-records instructionFrom (a .s .now) (a .y .code .instructions) in
-    (b, numbered m (b .accepted) (parts m (b .passed)) _ (λ q h. c .before .before .before .before .block-numbers .ensures m n (b .leading) q (omega arith)))
+    (b, numbered m (b .accepted) (parts m (b .passed)) _ (λ q h. c .before .before .before .before .number-blocks .ensures m n (b .leading) q (omega arith)))
 
 add-regions-requires : tie.Need-add-regions-requires
 add-regions-requires c κs =
-    let start = c .before .before .before .before .before .before .before .before .before .before in
+    let start = c .before .before .before .before .before .before .before .before .before .before .before in
     let a = start .args in
     let m = imageIn (a .s .now) (a .y) in
     let b = start .pre .0 in
     let p = parts m (b .passed) in
     let n = length-records instructionFrom (a .s .now) (a .y .code .instructions) in (
-      (handled m (b .accepted) p _ (numbered m (b .accepted) p _ (λ q h. c .before .before .before .before .before .before .before .block-numbers .ensures m n (b .leading) q (omega arith))), b .ended),
+      (handled m (b .accepted) p _ (numbered m (b .accepted) p _ (λ q h. c .before .before .before .before .before .before .before .number-blocks .ensures m n (b .leading) q (omega arith))), b .ended),
       ready m (b .accepted) p (start .pre .1) (c .before .before .before .before .before .store-code .ensures) (c .before .before .store-edges .ensures),
     )
 
 entry-block-requires : tie.Need-entry-block-requires
 entry-block-requires c κs =
-    let start = c .before .before .before .before .before .before .before .before .before .before .before .before .before in
+    let start = c .before .before .before .before .before .before .before .before .before .before .before .before .before .before in
     let a = start .args in
     let m = imageIn (a .s .now) (a .y) in
     let b = start .pre .0 in
     let p = parts m (b .passed) in
     let n = length-records instructionFrom (a .s .now) (a .y .code .instructions) in
-    (numbered m (b .accepted) p _ (λ q h. c .before .before .before .before .before .before .before .before .before .before .block-numbers .ensures m n (b .leading) q (omega arith)), p .entry)
+    (numbered m (b .accepted) p _ (λ q h. c .before .before .before .before .before .before .before .before .before .before .number-blocks .ensures m n (b .leading) q (omega arith)), p .entry)
 
 returns : tie.Need-returns
 returns c =
-    let start = c .before .before .before .before .before .before .before .before .before .before .before .before .before .before .before in
+    let start = c .before .before .before .before .before .before .before .before .before .before .before .before .before .before .before .before in
     let m = imageIn (start .args .s .now) (start .args .y) in
     let b = start .pre .0 in
     graph-laid m (b .accepted) (parts m (b .passed)) (start .pre .1) (c .before .before .before .before .before .before .before .before .before .before .store-code .ensures) (c .before .before .before .before .before .before .before .store-edges .ensures) (c .before .before .before .before .add-regions .ensures) (c .before .entry-block .ensures) (c .set-entry .ensures)
@@ -64,7 +64,7 @@ store-graph-spec =
     tie.close
     (tie.spec
     (λ c. search needs)
-    block-numbers-requires
+    number-blocks-requires
     store-code-requires
     store-edges-requires
     add-regions-requires

@@ -10,22 +10,22 @@ use borrow.Author.Needs.{needs}
 use Rattle.graph.proofs.checks.check_instruction.Statement.{statement}
 use Rattle.graph.proofs.checks.check_instruction.Tie as tie
 
-instruction-at-requires : tie.Need-instruction-at-requires
-instruction-at-requires c κs = search needs
+record-at-requires : tie.Need-record-at-requires
+record-at-requires c κs = search needs
 
 returns : tie.Need-returns
 unfolding instructionCheck tableEntry
 returns c =
     let a = c .before .before .before .before .args in
-    let here = entry-is (recordsIn instructionFrom (a .s .now) (a .y)) (a .p) ∙ ap tableEntry (sym (c .before .before .instruction-at .ensures)) in
-    rw (here, not-true (c .before .before .instruction-at .result .«has_end») (c .if1 .taken))
+    let here = entry-is (recordsIn instructionFrom (a .s .now) (a .y)) (a .p) ∙ ap tableEntry (sym (c .before .before .record-at .ensures)) in
+    rw (here, not-true (c .before .before .record-at .result .«has_end») (c .if1 .taken))
 
 returns-2 : tie.Need-returns-2
 unfolding instructionCheck tableEntry
 returns-2 c =
     let a = c .before .before .before .before .before .before .args in
-    let here = entry-is (recordsIn instructionFrom (a .s .now) (a .y)) (a .p) ∙ ap tableEntry (sym (c .before .before .before .before .instruction-at .ensures)) in
-    rw (here, not-false (c .before .before .before .before .instruction-at .result .«has_end») (c .before .before .if1 .left), le-ltb _ _ (c .if2 .taken))
+    let here = entry-is (recordsIn instructionFrom (a .s .now) (a .y)) (a .p) ∙ ap tableEntry (sym (c .before .before .before .before .record-at .ensures)) in
+    rw (here, not-false (c .before .before .before .before .record-at .result .«has_end») (c .before .before .if1 .left), le-ltb _ _ (c .if2 .taken))
 
 check-order-requires : tie.Need-check-order-requires
 check-order-requires c κs = search needs
@@ -34,9 +34,9 @@ returns-3 : tie.Need-returns-3
 unfolding instructionCheck tableEntry
 returns-3 c =
     let a = c .before .before .before .before .before .before .before .args in
-    let here = entry-is (recordsIn instructionFrom (a .s .now) (a .y)) (a .p) ∙ ap tableEntry (sym (c .before .before .before .before .before .instruction-at .ensures)) in
-    rw (here, not-false (c .before .before .before .before .before .instruction-at .result .«has_end») (c .before .before .before .if1 .left), lt-ltb _ _ (c .before .if2 .left)) (c .check-order .ensures)
+    let here = entry-is (recordsIn instructionFrom (a .s .now) (a .y)) (a .p) ∙ ap tableEntry (sym (c .before .before .before .before .before .record-at .ensures)) in
+    rw (here, not-false (c .before .before .before .before .before .record-at .result .«has_end») (c .before .before .before .if1 .left), lt-ltb _ _ (c .before .if2 .left)) (c .check-order .ensures)
 
 pub check-instruction-spec : {M : Type 1} → statement M
 check-instruction-spec =
-    tie.close (tie.spec instruction-at-requires returns returns-2 check-order-requires returns-3)
+    tie.close (tie.spec record-at-requires returns returns-2 check-order-requires returns-3)

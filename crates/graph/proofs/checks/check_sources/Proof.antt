@@ -16,10 +16,10 @@ use Rattle.graph.proofs.checks.check_sources.Statement.{statement}
 use Rattle.graph.proofs.checks.check_sources.Tie as tie
 
 abbrev Inv-loop : tie.InvT-loop
-Inv-loop s y n i₀ i = (i ≤ y .code .sources .count) × (checks (sourceCheck (imageIn s y)) i ≡ clear)
+Inv-loop s y hints n i₀ i = (i ≤ y .code .sources .count) × (checks (sourceCheck (imageIn s y)) i ≡ clear)
 
 abbrev μ-loop : tie.MeasureT-loop
-μ-loop s y n i₀ i = y .code .sources .count - i
+μ-loop s y hints n i₀ i = y .code .sources .count - i
 
 cast-n : tie.Need-cast-n Inv-loop μ-loop
 cast-n c = search needs
@@ -32,7 +32,7 @@ source-at-requires : tie.Need-source-at-requires Inv-loop μ-loop
 source-at-requires c κs = search needs
 
 find-requires : tie.Need-find-requires Inv-loop μ-loop
-find-requires c κs = c .before .before .before .before .before .pre
+find-requires c κs = c .before .before .before .before .before .before .before .pre
 
 enum-told : tie.Need-enum-told Inv-loop μ-loop
 enum-told c = search needs
@@ -43,8 +43,8 @@ enum-told-2 c = search needs
 returns : tie.Need-returns Inv-loop μ-loop
 unfolding sourceCheck sourceAt
 returns c =
-    let top = c .before .before .before .before .before .loop in
-    let a = c .before .before .before .before .before .before .before .before .args in
+    let top = c .before .before .before .before .before .before .before .loop in
+    let a = c .before .before .before .before .before .before .before .before .before .before .args in
     let m = imageIn (a .s .now) (a .y) in
     let within : top .i < length (m .sources) = rw (length-records sourceFrom (a .s .now) (a .y .code .sources)) (omega arith) in
     let none = rw (c .enum-told2 .given .1) at (c .before .before .find .ensures) in
@@ -52,7 +52,7 @@ returns c =
     sym (checks-stop (sourceCheck m) (top .i) _ _ within (top .inv .1) (rw (← read, none)))
 
 add-i : tie.Need-add-i Inv-loop μ-loop
-add-i c = omega (arith, c .before .before .before .before .before .before .struct-known .given)
+add-i c = omega (arith, c .before .before .before .before .before .before .before .before .struct-known .given)
 
 loop-less : tie.Need-loop-less Inv-loop μ-loop
 loop-less c = search needs
@@ -60,8 +60,8 @@ loop-less c = search needs
 loop-again : tie.Need-loop-again Inv-loop μ-loop
 unfolding sourceCheck sourceAt
 loop-again c =
-    let top = c .before .before .before .before .before .loop in
-    let a = c .before .before .before .before .before .before .before .before .args in
+    let top = c .before .before .before .before .before .before .before .loop in
+    let a = c .before .before .before .before .before .before .before .before .before .before .args in
     let starts = rw (c .enum-told .given .1) at (c .before .before .find .ensures) in
     let read = c .before .before .before .source-at .ensures in
     (search needs, checks-more (sourceCheck (imageIn (a .s .now) (a .y))) (top .i) (top .inv .1) ∙ rw (← read, starts .0))

@@ -22,10 +22,10 @@ target s code source edge k =
     targetCheck (entriesOf (recordsIn instructionFrom s (code .instructions))) source (getD (recordsIn edgeFrom s (code .edges)) (edge + k) (edgeFrom [] 0))
 
 abbrev Inv-loop : tie.InvT-loop
-Inv-loop s code source edge n k₀ k = (k ≤ n) × (checks (target s code source edge) k ≡ clear)
+Inv-loop s code hints source edge n k₀ k = (k ≤ n) × (checks (target s code source edge) k ≡ clear)
 
 abbrev μ-loop : tie.MeasureT-loop
-μ-loop s code source edge n k₀ k = n - k
+μ-loop s code hints source edge n k₀ k = n - k
 
 loop-holds : tie.Need-loop-holds Inv-loop μ-loop
 unfolding checks
@@ -38,7 +38,7 @@ edge-at-requires : tie.Need-edge-at-requires Inv-loop μ-loop
 edge-at-requires c κs = search needs
 
 find-requires : tie.Need-find-requires Inv-loop μ-loop
-find-requires c κs = c .before .before .before .before .pre .0
+find-requires c κs = c .before .before .before .before .before .before .pre .0
 
 enum-told : tie.Need-enum-told Inv-loop μ-loop
 enum-told c = search needs
@@ -48,8 +48,8 @@ enum-told-2 c = search needs
 
 returns : tie.Need-returns Inv-loop μ-loop
 returns c =
-    let top = c .before .before .before .before .before .loop in
-    let a = c .before .before .before .before .before .before .before .args in
+    let top = c .before .before .before .before .before .before .before .loop in
+    let a = c .before .before .before .before .before .before .before .before .before .args in
     let none = rw (c .enum-told2 .given .1) at (c .before .before .find .ensures) in
     let read = c .before .before .before .edge-at .ensures in
     sym (checks-stop (target (a .s .now) (a .code) (a .source) (a .edge)) (top .k) (a .n) _ (search needs) (top .inv .1) (rw (← read, none)))
@@ -62,8 +62,8 @@ loop-less c = search needs
 
 loop-again : tie.Need-loop-again Inv-loop μ-loop
 loop-again c =
-    let top = c .before .before .before .before .before .loop in
-    let a = c .before .before .before .before .before .before .before .args in
+    let top = c .before .before .before .before .before .before .before .loop in
+    let a = c .before .before .before .before .before .before .before .before .before .args in
     let starts = rw (c .enum-told .given .1) at (c .before .before .find .ensures) in
     let read = c .before .before .before .edge-at .ensures in
     (search needs, checks-more (target (a .s .now) (a .code) (a .source) (a .edge)) (top .k) (top .inv .1) ∙ rw (← read, starts .0))

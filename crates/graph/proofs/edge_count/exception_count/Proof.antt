@@ -17,10 +17,10 @@ use Rattle.graph.proofs.edge_count.exception_count.Statement.{statement
 use Rattle.graph.proofs.edge_count.exception_count.Tie as tie
 
 abbrev Inv-loop : tie.InvT-loop
-Inv-loop s y code-end kept n edges₀ h₀ edges h = (h ≤ n) × (n ≤ 32) × (edges ≡ length (flat (λ k. handlerEdges (imageIn s y) k) h))
+Inv-loop s y hints code-end kept n edges₀ h₀ edges h = (h ≤ n) × (n ≤ 32) × (edges ≡ length (flat (λ k. handlerEdges (imageIn s y) k) h))
 
 abbrev μ-loop : tie.MeasureT-loop
-μ-loop s y code-end kept n edges₀ h₀ edges h = n - h
+μ-loop s y hints code-end kept n edges₀ h₀ edges h = n - h
 
 kept-before-requires : tie.Need-kept-before-requires Inv-loop μ-loop
 kept-before-requires c κs = c .before .pre .0 .sourced .accepted .instructions-most

@@ -16,10 +16,10 @@ use Rattle.graph.proofs.edges.add_given_edges.Statement.{statement}
 use Rattle.graph.proofs.edges.add_given_edges.Tie as tie
 
 abbrev Inv-loop : tie.InvT-loop
-Inv-loop g₀ s y blocks n p first k₀ g k = (k ≤ n) × Added g₀ g (flat (λ i. givenEdge (imageIn s y) p (given (imageIn s y) p i) ∷ []) k) [] []
+Inv-loop g₀ s y hints blocks n p first k₀ g k = (k ≤ n) × Added g₀ g (flat (λ i. givenEdge (imageIn s y) p (given (imageIn s y) p i) ∷ []) k) [] []
 
 abbrev μ-loop : tie.MeasureT-loop
-μ-loop g₀ s y blocks n p first k₀ g k = n - k
+μ-loop g₀ s y hints blocks n p first k₀ g k = n - k
 
 loop-holds : tie.Need-loop-holds Inv-loop μ-loop
 unfolding flat

@@ -2,7 +2,7 @@
 use mathlib.Core.Path.{_≡_, sym, ap, _∙_}
 use mathlib.Core.Bool.{false, cond, _||_}
 use mathlib.Core.List.{[]}
-use Prim.Native.Nat.{ℕ, _+_, _-_, _≤_}
+use Prim.Native.Nat.{ℕ, _+_, _-_, _<_, _≤_}
 use lib.Dec.{eqb}
 use lib.ListN.{getD}
 use Rattle.image.specs.Image.{imageIn}
@@ -15,9 +15,8 @@ use Rattle.graph.specs.Edges.{edgesAt, unresolvedAt, normalEdges, unreso
 use Rattle.graph.specs.Adding.{Added}
 use Rattle.graph.specs.Cursor.{cursorAt}
 use Rattle.graph.specs.declared.cursor.Cursor.{Cursor}
-use Rattle.graph.specs.declared.cursor.Visit.{Visit}
-use Rattle.graph.proofs.TableLaws.{size-is}
 use Rattle.graph.proofs.AddingLaws.{added-none, flow-more}
+use Rattle.graph.proofs.ScanLaws.{scan-fits, scan-next, scan-visit}
 use Rattle.graph.proofs.EdgeLaws.{terminator-is}
 use native.Mathlib.Omega.{arith}
 use borrow.Author.Needs.{needs}
@@ -25,64 +24,79 @@ use Rattle.graph.proofs.edges.add_normal_edges.Statement.{statement}
 use Rattle.graph.proofs.edges.add_normal_edges.Tie as tie
 
 abbrev Inv-loop : tie.InvT-loop
-Inv-loop g₀ s y marks blocks n c₀ p₀ g c p = (p ≤ n) × (c ≡ cursorAt (imageIn s y) p) × Added g₀ g (flat (λ q. cond (isTerminator (imageIn s y) q) (edgesAt (imageIn s y) q) []) p) (flat (λ q. cond (isTerminator (imageIn s y) q) (unresolvedAt (imageIn s y) q) []) p) []
+Inv-loop g₀ s y hints marks blocks table sources n c₀ p₀ g c p = (p ≤ n) × (c ≡ cursorAt (imageIn s y) p) × Added g₀ g (flat (λ q. cond (isTerminator (imageIn s y) q) (edgesAt (imageIn s y) q) []) p) (flat (λ q. cond (isTerminator (imageIn s y) q) (unresolvedAt (imageIn s y) q) []) p) []
 
 abbrev μ-loop : tie.MeasureT-loop
-μ-loop g₀ s y marks blocks n c₀ p₀ g c p = n - p
+μ-loop g₀ s y hints marks blocks table sources n c₀ p₀ g c p = n - p
 
 loop-holds : tie.Need-loop-holds Inv-loop μ-loop
 unfolding flat
 loop-holds c = (search needs, c .cursor-start .ensures _, added-none _)
 
-visit-at-requires : tie.Need-visit-at-requires Inv-loop μ-loop
-visit-at-requires c κs =
-    let start = c .before .before .before .before .before in
-    let m = imageIn (start .args .s .now) (start .args .y) in
-    let top = c .before .loop in
+record-at-requires : tie.Need-record-at-requires Inv-loop μ-loop
+record-at-requires c κs = omega (arith, ap (λ (x : Cursor). x .at) (c .before .loop .inv .1), c .loop-test .taken)
+
+cursor-after-requires : tie.Need-cursor-after-requires Inv-loop μ-loop
+cursor-after-requires c κs =
+    let start = c .before .before .before .before .before .before .before .before .before in
+    let a = start .args in
+    let top = c .before .before .before .loop in
     let at = ap (λ (x : Cursor). x .at) (top .inv .1) in
-    (start .pre .0 .sourced, top .inv .1 ∙ ap (cursorAt m) (sym at), omega arith)
+    let within : top .c .at < a .y .code .instructions .count = omega (arith, at, c .before .before .loop-test .taken) in
+    scan-fits (a .s .now) (a .y) (start .pre .0 .sourced) (top .c) (top .inv .1 ∙ ap (cursorAt (imageIn (a .s .now) (a .y))) (sym at)) within (c .before .record-at .result) (c .before .record-at .ensures) (c .given-at .result) (c .given-at .ensures)
 
 is-terminator-requires : tie.Need-is-terminator-requires Inv-loop μ-loop
 is-terminator-requires c κs =
-    let start = c .before .before .before .before .before .before .before in
+    let start = c .before .before .before .before .before .before .before .before .before .before .before in
     omega (arith, length-records instructionFrom (start .args .s .now) (start .args .y .code .instructions), start .pre .0 .sourced .accepted .instructions-most)
 
 emit-if-requires : tie.Need-emit-if-requires Inv-loop μ-loop
 emit-if-requires c κs =
-    let start = c .before .before .before .before .before .before .before .before in
-    let m = imageIn (start .args .s .now) (start .args .y) in
-    let top = c .before .before .before .before .loop in
-    let at = ap (λ (x : Cursor). x .at) (top .inv .1) in
-    let size-is = length-records instructionFrom (start .args .s .now) (start .args .y .code .instructions) in
-    (start .pre .0, record { here = top .inv .1 ∙ ap (cursorAt m) (sym at); within = omega arith; is = c .before .before .visit-at .ensures })
-
-add-p : tie.Need-add-p Inv-loop μ-loop
-add-p c =
-    let start = c .before .before .before .before .before .before .before .before .before .before in
-    omega (arith, length-records instructionFrom (start .args .s .now) (start .args .y .code .instructions), start .pre .0 .sourced .accepted .instructions-most)
-
-loop-again : tie.Need-loop-again Inv-loop μ-loop
-loop-again c =
-    let start = c .before .before .before .before .before .before .before .before .before .before in
+    let start = c .before .before .before .before .before .before .before .before .before .before .before .before in
     let a = start .args in
     let m = imageIn (a .s .now) (a .y) in
     let top = c .before .before .before .before .before .before .loop in
     let at = ap (λ (x : Cursor). x .at) (top .inv .1) in
+    let here = top .inv .1 ∙ ap (cursorAt m) (sym at) in
     let size-is = length-records instructionFrom (a .s .now) (a .y .code .instructions) in
+    let within : top .c .at < a .y .code .instructions .count = omega (arith, at, c .before .before .before .before .before .loop-test .taken) in (
+      start .pre .0,
+      record {
+        here = here;
+        within = omega arith;
+        is = scan-visit (a .s .now) (a .y) (start .pre .0 .sourced) (top .c) here within (c .before .before .before .before .record-at .result) (c .before .before .before .before .record-at .ensures) (c .before .before .before .given-at .result) (c .before .before .before .given-at .ensures) _ (c .before .before .cursor-after .ensures);
+      },
+    )
+
+add-p : tie.Need-add-p Inv-loop μ-loop
+add-p c =
+    let start = c .before .before .before .before .before .before .before .before .before .before .before .before .before in
+    omega (arith, length-records instructionFrom (start .args .s .now) (start .args .y .code .instructions), start .pre .0 .sourced .accepted .instructions-most)
+
+loop-again : tie.Need-loop-again Inv-loop μ-loop
+loop-again c =
+    let start = c .before .before .before .before .before .before .before .before .before .before .before .before .before in
+    let a = start .args in
+    let m = imageIn (a .s .now) (a .y) in
+    let top = c .before .before .before .before .before .before .before .loop in
+    let at = ap (λ (x : Cursor). x .at) (top .inv .1) in
+    let size-is = length-records instructionFrom (a .s .now) (a .y .code .instructions) in
+    let within : top .c .at < a .y .code .instructions .count = omega (arith, at, c .before .before .before .before .before .before .loop-test .taken) in
+    let next = scan-next (a .s .now) (a .y) (start .pre .0 .sourced) (top .c) (top .inv .1 ∙ ap (cursorAt m) (sym at)) within (c .before .before .before .before .before .record-at .result) (c .before .before .before .before .before .record-at .ensures) (c .before .before .before .before .given-at .result) (c .before .before .before .before .given-at .ensures) _ (c .before .before .before .cursor-after .ensures) in
     let ends =
-    c .before .before .is-terminator .ensures
+    c .before .is-terminator .ensures
     ∙ ap (λ (n : ℕ). eqb (top .p + 1) n || getD (a .marks .now) (top .p + 1) false) (sym size-is)
     ∙ terminator-is m (top .p) (a .marks .now) (start .pre .1) (omega arith) in (
       search needs,
-      ap (λ (x : Visit). x .next) (c .before .before .before .before .visit-at .ensures) ∙ ap (λ (i : ℕ). cursorAt m (i + 1)) at,
+      next ∙ ap (λ (i : ℕ). cursorAt m (i + 1)) at,
       flow-more (λ q. cond (isTerminator m q) (edgesAt m q) []) (λ q. cond (isTerminator m q) (unresolvedAt m q) []) (top .p) (top .inv .2)
-          (rw (ends, at) at (c .before .emit-if .ensures)),
+          (rw (ends, at) at (c .emit-if .ensures)),
     )
 
 returns : tie.Need-returns Inv-loop μ-loop
 unfolding normalEdges unresolvedOf
 returns c =
-    let a = c .before .before .before .before .before .args in
+    let a = c .before .before .before .before .before .before .before .args in
     let all : c .before .loop .p ≡ size (imageIn (a .s .now) (a .y)) = omega (arith, length-records instructionFrom (a .s .now) (a .y .code .instructions)) in
     rw (← all) (c .before .loop .inv .2)
 
@@ -95,7 +109,9 @@ add-normal-edges-spec =
     (λ c. search needs)
     (λ c κs. search needs)
     loop-holds
-    visit-at-requires
+    record-at-requires
+    (λ c κs. search needs)
+    cursor-after-requires
     is-terminator-requires
     emit-if-requires
     add-p

@@ -1,7 +1,6 @@
 -- By the look-up, where there is a target. Assumes nothing.
 use mathlib.Core.Path.{sym, _∙_}
 use Prim.Native.Nat.{_-_}
-use Rattle.image.specs.Image.{imageIn}
 use Rattle.graph.specs.Slots.{transferIn}
 use Rattle.graph.proofs.EdgeLaws.{resolves, resolved-not}
 use borrow.Author.Needs.{needs}
@@ -9,14 +8,16 @@ use Rattle.graph.proofs.edges.resolve.Statement.{statement}
 use Rattle.graph.proofs.edges.resolve.Tie as tie
 
 returns : tie.Need-returns
-returns c =
-    let a = c .before .before .before .before .args in
-    resolves (imageIn (a .s .now) (a .y)) (transferIn (a .x)) (c .find-near .result) (sym (c .before .before .has-target .ensures) ∙ c .before .if1 .taken) (c .find-near .ensures)
+returns c = λ m same. resolves m (transferIn (c .before .before .before .before .args .x)) (c .find-near .result) (sym (c .before .before .has-target .ensures) ∙ c .before .if1 .taken) (rw same (c .find-near .ensures))
 
 returns-2 : tie.Need-returns-2
-returns-2 c =
-    let a = c .before .before .before .args in
-    resolved-not (imageIn (a .s .now) (a .y)) (transferIn (a .x)) (sym (c .before .has-target .ensures) ∙ c .if1 .left)
+returns-2 c = λ m same. resolved-not m (transferIn (c .before .before .before .args .x)) (sym (c .before .has-target .ensures) ∙ c .if1 .left)
 
 pub resolve-spec : {M : Type 1} → statement M
-resolve-spec = tie.close (tie.spec (λ c κs. search needs) (λ c κs. search needs) returns returns-2)
+resolve-spec =
+    tie.close
+    (tie.spec
+    (λ c κs. search needs)
+    (λ c κs. search needs)
+    returns
+    returns-2)

@@ -19,11 +19,11 @@ use Rattle.graph.proofs.exceptions.add_exception_edges.Statement.{state
 use Rattle.graph.proofs.exceptions.add_exception_edges.Tie as tie
 
 abbrev Inv-loop : tie.InvT-loop
-Inv-loop g₀ s y code-end blocks n h₀ g h =
+Inv-loop g₀ s y hints code-end blocks n h₀ g h =
     (h ≤ n) × (n ≤ 32) × Added g₀ g (flat (λ k. handlerEdges (imageIn s y) k) h) [] []
 
 abbrev μ-loop : tie.MeasureT-loop
-μ-loop g₀ s y code-end blocks n h₀ g h = n - h
+μ-loop g₀ s y hints code-end blocks n h₀ g h = n - h
 
 returns : tie.Need-returns Inv-loop μ-loop
 returns c =

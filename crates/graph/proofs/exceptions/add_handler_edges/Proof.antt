@@ -18,11 +18,11 @@ use Rattle.graph.proofs.exceptions.add_handler_edges.Statement.{stateme
 use Rattle.graph.proofs.exceptions.add_handler_edges.Tie as tie
 
 abbrev Inv-loop : tie.InvT-loop
-Inv-loop g₀ s y code-end blocks h start end first past entry to x p₀ g p =
+Inv-loop g₀ s y hints code-end blocks h start end first past entry to x p₀ g p =
     (first ≤ p) × (p ≤ past) × Added g₀ g (flat (λ i. unwindEdges (imageIn s y) h (first + i)) (p - first)) [] []
 
 abbrev μ-loop : tie.MeasureT-loop
-μ-loop g₀ s y code-end blocks h start end first past entry to x p₀ g p = past - p
+μ-loop g₀ s y hints code-end blocks h start end first past entry to x p₀ g p = past - p
 
 returns : tie.Need-returns Inv-loop μ-loop
 returns c =

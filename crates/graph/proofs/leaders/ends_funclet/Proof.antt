@@ -22,11 +22,11 @@ returns-2 : tie.Need-returns-2
 unfolding endsFunclet
 returns-2 c =
     let told = rw (c .enum-told .given .1) at (c .before .before .find .ensures) in
-    rw (← c .before .before .before .before .before .before .before .before .pre .1, ne-eqb _ 1 (c .before .before .before .before .before .if1 .left), eq-eqb _ 6 (c .before .before .before .if2 .taken), told .0)
+    rw (← c .before .before .before .before .before .before .before .before .before .pre .1, ne-eqb _ 1 (c .before .before .before .before .before .before .if1 .left), eq-eqb _ 6 (c .before .before .before .before .if2 .taken), told .0)
 
 returns-3 : tie.Need-returns-3
 unfolding endsFunclet
-returns-3 c = rw (← c .before .before .before .before .before .before .before .before .pre .1, ne-eqb _ 1 (c .before .before .before .before .before .if1 .left), eq-eqb _ 6 (c .before .before .before .if2 .taken), rw (c .enum-told2 .given .1) at (c .before .before .find .ensures))
+returns-3 c = rw (← c .before .before .before .before .before .before .before .before .before .pre .1, ne-eqb _ 1 (c .before .before .before .before .before .before .if1 .left), eq-eqb _ 6 (c .before .before .before .before .if2 .taken), rw (c .enum-told2 .given .1) at (c .before .before .find .ensures))
 
 returns-4 : tie.Need-returns-4
 unfolding endsFunclet

@@ -17,11 +17,11 @@ use Rattle.graph.proofs.leaders.mark_instructions.Statement.{statement}
 use Rattle.graph.proofs.leaders.mark_instructions.Tie as tie
 
 abbrev Inv-loop : tie.InvT-loop
-Inv-loop s y marks₀ n routed c₀ q₀ marks c q =
+Inv-loop s y hints marks₀ n routed c₀ q₀ marks c q =
     (q ≤ n) × (c ≡ cursorAt (imageIn s y) q) × Marked (y .code .instructions .count) (λ p. some (λ i. visitMark (imageIn s y) i p) q) marks₀ marks
 
 abbrev μ-loop : tie.MeasureT-loop
-μ-loop s y marks₀ n routed c₀ q₀ marks c q = n - q
+μ-loop s y hints marks₀ n routed c₀ q₀ marks c q = n - q
 
 cast-n : tie.Need-cast-n Inv-loop μ-loop
 cast-n c = search needs

@@ -26,4 +26,4 @@ find-near-spec =
     (λ c κs. search needs)
     returns
     (λ c κs. search needs)
-    (λ c. c .find .ensures))
+    (λ c. c .search .ensures))

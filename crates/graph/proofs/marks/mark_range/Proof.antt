@@ -14,11 +14,11 @@ use Rattle.graph.proofs.marks.mark_range.Statement.{statement}
 use Rattle.graph.proofs.marks.mark_range.Tie as tie
 
 abbrev Inv-loop : tie.InvT-loop
-Inv-loop marks₀ s code-end start end first past behind p₀ marks p =
+Inv-loop marks₀ s hints code-end start end first past behind p₀ marks p =
     (first ≤ p) × (p ≤ behind) × (behind ≤ 513) × Marked 512 (λ q. leb first q && ltb q p) marks₀ marks
 
 abbrev μ-loop : tie.MeasureT-loop
-μ-loop marks₀ s code-end start end first past behind p₀ marks p = behind - p
+μ-loop marks₀ s hints code-end start end first past behind p₀ marks p = behind - p
 
 range-check-requires : tie.Need-range-check-requires Inv-loop μ-loop
 range-check-requires c κs = search needs

@@ -16,10 +16,10 @@ use Rattle.graph.proofs.ranges.check_handlers.Statement.{statement}
 use Rattle.graph.proofs.ranges.check_handlers.Tie as tie
 
 abbrev Inv-loop : tie.InvT-loop
-Inv-loop s y code-end n h₀ h = (h ≤ y .code .handlers .count) × (checks (handlerCheck (imageIn s y)) h ≡ clear)
+Inv-loop s y hints code-end n h₀ h = (h ≤ y .code .handlers .count) × (checks (handlerCheck (imageIn s y)) h ≡ clear)
 
 abbrev μ-loop : tie.MeasureT-loop
-μ-loop s y code-end n h₀ h = y .code .handlers .count - h
+μ-loop s y hints code-end n h₀ h = y .code .handlers .count - h
 
 loop-holds : tie.Need-loop-holds Inv-loop μ-loop
 unfolding checks
@@ -59,7 +59,7 @@ check-handlers-spec =
     (tie.spec
     Inv-loop
     μ-loop
-    (λ c. search needs)
+    (λ c. omega (arith, c .struct-known .given))
     loop-holds
     check-handler-requires
     (λ c. search needs)

@@ -20,10 +20,10 @@ use Rattle.graph.proofs.regions.store_handlers.Statement.{statement}
 use Rattle.graph.proofs.regions.store_handlers.Tie as tie
 
 abbrev Inv-loop : tie.InvT-loop
-Inv-loop g₀ s y blocks starts ends list count n h₀ g h = (h ≤ n) × (n ≤ 32) × Stored g₀ g (held (withHandlers (heldIn g₀ .graph) (table (handlerRecord (imageIn s y)) h)))
+Inv-loop g₀ s y hints blocks starts ends list count n h₀ g h = (h ≤ n) × (n ≤ 32) × Stored g₀ g (held (withHandlers (heldIn g₀ .graph) (table (handlerRecord (imageIn s y)) h)))
 
 abbrev μ-loop : tie.MeasureT-loop
-μ-loop g₀ s y blocks starts ends list count n h₀ g h = n - h
+μ-loop g₀ s y hints blocks starts ends list count n h₀ g h = n - h
 
 cast-n : tie.Need-cast-n Inv-loop μ-loop
 cast-n c = let a = c .before .before .args in omega (arith, length-records handlerFrom (a .s .now) (a .y .code .handlers))

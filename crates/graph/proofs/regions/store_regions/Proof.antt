@@ -17,10 +17,10 @@ use Rattle.graph.proofs.regions.store_regions.Statement.{statement}
 use Rattle.graph.proofs.regions.store_regions.Tie as tie
 
 abbrev Inv-loop : tie.InvT-loop
-Inv-loop g₀ s y code-end blocks starts ends list count r₀ g r = (r ≤ count) × Stored g₀ g (held (withRegions (heldIn g₀ .graph) (table (regionAt (imageIn s y)) r)))
+Inv-loop g₀ s y hints code-end blocks starts ends list count r₀ g r = (r ≤ count) × Stored g₀ g (held (withRegions (heldIn g₀ .graph) (table (regionAt (imageIn s y)) r)))
 
 abbrev μ-loop : tie.MeasureT-loop
-μ-loop g₀ s y code-end blocks starts ends list count r₀ g r = count - r
+μ-loop g₀ s y hints code-end blocks starts ends list count r₀ g r = count - r
 
 loop-holds : tie.Need-loop-holds Inv-loop μ-loop
 unfolding table

@@ -13,11 +13,11 @@ use Rattle.graph.proofs.route.check_entries.Statement.{statement}
 use Rattle.graph.proofs.route.check_entries.Tie as tie
 
 abbrev Inv-loop : tie.InvT-loop
-Inv-loop s t y path n step next₀ k₀ next k =
+Inv-loop s t hints y path n step next₀ k₀ next k =
     (k ≤ n) × (next ≡ stepsBefore (routesIn s y) (path + k)) × (checks (λ (i : ℕ). pathCheck (entriesIn s t) (pathIn (routesIn s y) (path + i))) k ≡ clear)
 
 abbrev μ-loop : tie.MeasureT-loop
-μ-loop s t y path n step next₀ k₀ next k = n - k
+μ-loop s t hints y path n step next₀ k₀ next k = n - k
 
 loop-holds : tie.Need-loop-holds Inv-loop μ-loop
 unfolding checks

@@ -19,11 +19,11 @@ use Rattle.graph.proofs.route.check_path.Statement.{statement}
 use Rattle.graph.proofs.route.check_path.Tie as tie
 
 abbrev Inv-loop : tie.InvT-loop
-Inv-loop s t y p step path size j₀ j =
+Inv-loop s t hints y p step path size j₀ j =
     (j ≤ size) × (checks (λ (i : ℕ). stepCheck (entriesIn s t) (getD (recordsIn stepFrom s (y .steps)) (step + i) (stepFrom [] 0))) j ≡ clear)
 
 abbrev μ-loop : tie.MeasureT-loop
-μ-loop s t y p step path size j₀ j = size - j
+μ-loop s t hints y p step path size j₀ j = size - j
 
 -- the path's steps stand among all
 among : (c : tie.After-path-at Inv-loop μ-loop) → c .before .before .args .step + c .path-at .result .steps ≤ 512
@@ -92,8 +92,8 @@ returns-2 c =
     ∙ ap (λ (x : Check). x then endCheck t (getD (m .paths) (start .args .p) (pathFrom [] 0))) (passed (c .before .before .before .before .before .before))
     ∙ here
 
-add-t17 : tie.Need-add-t17 Inv-loop μ-loop
-add-t17 c = omega (arith, among (c .before .before .before .before))
+add-t18 : tie.Need-add-t18 Inv-loop μ-loop
+add-t18 c = omega (arith, among (c .before .before .before .before))
 
 returns-3 : tie.Need-returns-3 Inv-loop μ-loop
 returns-3 c =
@@ -133,5 +133,5 @@ check-path-spec =
     (λ c. search needs)
     returns-2
     (λ c. search needs)
-    add-t17
+    add-t18
     returns-3)

@@ -19,11 +19,11 @@ use Rattle.graph.proofs.route.check_routes.Statement.{statement}
 use Rattle.graph.proofs.route.check_routes.Tie as tie
 
 abbrev Inv-loop : tie.InvT-loop
-Inv-loop s code-end instructions layout all n path₀ step₀ r₀ path step r =
+Inv-loop s hints code-end instructions layout all n path₀ step₀ r₀ path step r =
     (r ≤ layout .routes .count) × (path ≡ pathsBefore (routesIn s layout) r) × (step ≡ stepsBefore (routesIn s layout) path) × (checks (routeCheck (entriesIn s instructions) (routesOf (routesIn s layout))) r ≡ clear)
 
 abbrev μ-loop : tie.MeasureT-loop
-μ-loop s code-end instructions layout all n path₀ step₀ r₀ path step r = layout .routes .count - r
+μ-loop s hints code-end instructions layout all n path₀ step₀ r₀ path step r = layout .routes .count - r
 
 loop-holds : tie.Need-loop-holds Inv-loop μ-loop
 unfolding checks pathsBefore stepsBefore total

@@ -11,11 +11,11 @@ use Rattle.graph.proofs.leaders.flows.mark_edges.Statement.{statement}
 use Rattle.graph.proofs.leaders.flows.mark_edges.Tie as tie
 
 abbrev Inv-loop : tie.InvT-loop
-Inv-loop marks₀ s y first n k₀ marks k =
+Inv-loop marks₀ s y hints first n k₀ marks k =
     (k ≤ n) × Marked (y .code .instructions .count) (λ p. some (λ j. edgeTarget (imageIn s y) (first + j) p) k) marks₀ marks
 
 abbrev μ-loop : tie.MeasureT-loop
-μ-loop marks₀ s y first n k₀ marks k = n - k
+μ-loop marks₀ s y hints first n k₀ marks k = n - k
 
 loop-holds : tie.Need-loop-holds Inv-loop μ-loop
 loop-holds c = (search needs, marks-none (λ j p. edgeTarget (imageIn _ _) (_ + j) p))

@@ -14,11 +14,11 @@ use Rattle.graph.proofs.leaders.routes.mark_path_ends.Statement.{statem
 use Rattle.graph.proofs.leaders.routes.mark_path_ends.Tie as tie
 
 abbrev Inv-loop : tie.InvT-loop
-Inv-loop s y marks₀ n k₀ marks k =
+Inv-loop s y hints marks₀ n k₀ marks k =
     (k ≤ n) × Marked (y .code .instructions .count) (λ p. some (λ i. pathMark (imageIn s y) i p) k) marks₀ marks
 
 abbrev μ-loop : tie.MeasureT-loop
-μ-loop s y marks₀ n k₀ marks k = n - k
+μ-loop s y hints marks₀ n k₀ marks k = n - k
 
 cast-n : tie.Need-cast-n Inv-loop μ-loop
 cast-n c = search needs
@@ -30,7 +30,7 @@ mark-path-end-requires : tie.Need-mark-path-end-requires Inv-loop μ-loop
 mark-path-end-requires c κs = search needs
 
 add-k : tie.Need-add-k Inv-loop μ-loop
-add-k c = search needs
+add-k c = omega (arith, c .before .before, c .before .before .before .before .struct-known)
 
 loop-less : tie.Need-loop-less Inv-loop μ-loop
 loop-less c = search needs

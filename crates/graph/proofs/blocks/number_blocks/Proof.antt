@@ -11,19 +11,19 @@ use Rattle.graph.specs.Marks.{Leading}
 use Rattle.graph.proofs.LaidLaws.{number-is, numbers-more, one-more}
 use native.Mathlib.Omega.{arith}
 use borrow.Author.Needs.{needs}
-use Rattle.graph.proofs.blocks.block_numbers.Statement.{statement}
-use Rattle.graph.proofs.blocks.block_numbers.Tie as tie
+use Rattle.graph.proofs.blocks.number_blocks.Statement.{statement}
+use Rattle.graph.proofs.blocks.number_blocks.Tie as tie
 
 abbrev Inv-loop : tie.InvT-loop
-Inv-loop marks n numbers₀ block₀ p₀ numbers block p =
+Inv-loop numbers₀ marks n block₀ p₀ numbers block p =
     (1 ≤ p) × (p ≤ max 1 n) × (block < p) × (length numbers ≡ 512) × ((m : Image) → size m ≡ n → Leading m marks → (block ≡ blockOf m (p - 1)) × ((q : ℕ) → q < p → getD numbers q 0 ≡ blockOf m q))
 
 abbrev μ-loop : tie.MeasureT-loop
-μ-loop marks n numbers₀ block₀ p₀ numbers block p = n - p
+μ-loop numbers₀ marks n block₀ p₀ numbers block p = n - p
 
 loop-holds : tie.Need-loop-holds Inv-loop μ-loop
 unfolding blockOf count
-loop-holds c = (search needs, search needs, search needs, refl, λ m sized leading. (refl, λ q h. let e : q ≡ 0 = omega arith in rw e))
+loop-holds c = (search needs, search needs, search needs, rw (c .pre .1), λ m sized leading. (refl, λ q h. let e : q ≡ 0 = omega arith in rw (e, c .pre .1)))
 
 element-copy-out-block-behind : tie.Need-element-copy-out-block-behind Inv-loop μ-loop
 element-copy-out-block-behind c = search needs
@@ -34,8 +34,8 @@ block-behind-requires c κs = search needs
 mul-numbers : tie.Need-mul-numbers Inv-loop μ-loop
 mul-numbers c = search needs
 
-array-write-numbers : tie.Need-array-write-numbers Inv-loop μ-loop
-array-write-numbers c = search needs
+element-write-numbers : tie.Need-element-write-numbers Inv-loop μ-loop
+element-write-numbers c = search needs
 
 add-p : tie.Need-add-p Inv-loop μ-loop
 add-p c = search needs
@@ -61,8 +61,8 @@ loop-again c =
 returns : tie.Need-returns Inv-loop μ-loop
 returns c = λ m sized leading p h. c .before .loop .inv .4 m sized leading .1 p (omega arith)
 
-pub block-numbers-spec : {M : Type 1} → statement M
-block-numbers-spec =
+pub number-blocks-spec : {M : Type 1} → statement M
+number-blocks-spec =
     tie.close
     (tie.spec
     Inv-loop
@@ -71,7 +71,7 @@ block-numbers-spec =
     element-copy-out-block-behind
     block-behind-requires
     mul-numbers
-    array-write-numbers
+    element-write-numbers
     add-p
     loop-less
     loop-again

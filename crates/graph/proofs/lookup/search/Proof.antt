@@ -8,8 +8,8 @@ use Rattle.graph.specs.Transfer.{entriesOf}
 use Rattle.graph.proofs.TableLaws.{size-is, start-at, start-none, below-at, Between, go-left, go-right}
 use native.Mathlib.Omega.{arith}
 use borrow.Author.Needs.{needs}
-use Rattle.graph.proofs.lookup.find.Statement.{statement}
-use Rattle.graph.proofs.lookup.find.Tie as tie
+use Rattle.graph.proofs.lookup.search.Statement.{statement}
+use Rattle.graph.proofs.lookup.search.Tie as tie
 
 abbrev Inv-loop : tie.InvT-loop
 Inv-loop s y a lo₀ hi₀ lo hi = (lo ≤ hi) × (hi ≤ y .count) × Between (entriesOf (recordsIn instructionFrom s y)) a lo hi
@@ -77,8 +77,8 @@ returns-2 c =
     start-none (entriesOf (recordsIn instructionFrom (start .args .s .now) (start .args .y))) (start .args .a)
     (λ k h e. let b = c .before .loop .inv .2 k h e in omega arith)
 
-pub find-spec : {M : Type 1} → statement M
-find-spec =
+pub search-spec : {M : Type 1} → statement M
+search-spec =
     tie.close
     (tie.spec
     Inv-loop

@@ -1,0 +1,26 @@
+-- Field by field. Assumes nothing.
+use borrow.Author.Needs.{needs}
+use Rattle.graph.proofs.lookup.record_there.Statement.{statement}
+use Rattle.graph.proofs.lookup.record_there.Tie as tie
+
+returns : tie.Need-returns
+returns c = rw (c .before .before .before .before .before .before .byte-at .ensures .0, c .before .before .before .before .before .byte-at2 .ensures .0, c .before .before .before .before .octet .ensures, c .before .before .before .octet2 .ensures, c .before .before .byte-at3 .ensures .0, c .before .octet3 .ensures, c .quad .ensures .0)
+
+pub record-there-spec : {M : Type 1} → statement M
+record-there-spec =
+    tie.close
+    (tie.spec
+    (λ c. search needs)
+    (λ c κs. search needs)
+    (λ c. search needs)
+    (λ c κs. search needs)
+    (λ c κs. search needs)
+    (λ c. search needs)
+    (λ c κs. search needs)
+    (λ c. search needs)
+    (λ c κs. search needs)
+    (λ c. search needs)
+    (λ c κs. search needs)
+    (λ c. search needs)
+    (λ c κs. search needs)
+    returns)
