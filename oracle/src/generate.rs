@@ -8,6 +8,7 @@ mod given;
 mod graphs;
 mod limits;
 mod mistakes;
+mod mutated;
 mod program;
 mod random;
 mod ranges;
@@ -19,6 +20,7 @@ use crate::image::{Image, Route};
 use program::{program, Plan};
 
 pub use damaged::damage;
+pub use mutated::{mutate, mutate_routes};
 pub use random::Random;
 
 /// A family of images.
