@@ -130,9 +130,14 @@ fn low_address(random: &mut Random, words: &mut Words) -> Option<()> {
 fn protects_none(random: &mut Random, words: &mut Words) -> Option<()> {
     let at = row(random, words, &REGIONS)?;
     let blocks = BLOCKS.rows(words);
-    let any = random.between(blocks, BLOCKS.most);
-    let block = random.pick(&[blocks, any, BLOCKS.most - 1]);
-    (block < BLOCKS.most).then(|| words[at + 5 + block / 64] |= 1 << (block % 64))
+    let last = BLOCKS.most - 1;
+    if blocks > last {
+        return None;
+    }
+    let any = random.between(blocks, last);
+    let block = random.pick(&[blocks, any, last]);
+    words[at + 5 + block / 64] |= 1 << (block % 64);
+    Some(())
 }
 
 fn lost_parent(random: &mut Random, words: &mut Words) -> Option<()> {
@@ -168,9 +173,15 @@ fn built(words: &Words) -> usize {
     words::read(words).built_blocks()
 }
 
+/// A built run that begins behind the one before it ends, or runs past the
+/// table.
 fn other_run(random: &mut Random, words: &mut Words) -> Option<()> {
-    let at = BLOCKS.at(random.below(built(words))) + random.below(2);
-    put(words, at, above(random, words[at]))
+    let at = BLOCKS.at(random.below(built(words)));
+    if random.percent(50) {
+        put(words, at, above(random, words[at]))
+    } else {
+        put(words, at + 1, above(random, words[TABLE.count]))
+    }
 }
 
 /// An instruction that no block has.
