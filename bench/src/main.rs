@@ -2,8 +2,14 @@
 //! turn, many times a turn; the least time of all turns counts. The reader is
 //! held against a plain one, on images of three sizes and on some that are
 //! refused; the build, which reads its image too, against the published build
-//! alone, whose input was made beforehand.
+//! alone, whose input was made beforehand; the addition of routes after that
+//! build, and alone, against the published two.
+//!
+//! `bench list` and `bench count SIDE WORK NAME` are for `count.sh`, which
+//! counts machine instructions instead of time.
 
+mod added;
+mod counted;
 mod images;
 mod plain;
 mod programs;
@@ -12,12 +18,28 @@ mod proved;
 use std::hint::black_box;
 use std::time::Instant;
 
+use added::{time, Case};
 use oracle::image::Image;
 use oracle::session::Inputs;
 use proved::WORDS;
 
 fn main() {
-    let turns = std::env::args().nth(1).and_then(|word| word.parse().ok()).unwrap_or(200);
+    let words: Vec<String> = std::env::args().skip(1).collect();
+    let words: Vec<&str> = words.iter().map(String::as_str).collect();
+    match words[..] {
+        [] => time_all(200),
+        ["list"] => {
+            for (work, name, image) in counted::cases() {
+                println!("{work}\t{name}\t{}", image.write().len());
+            }
+        }
+        ["count", side, work, name] => counted::count(side, work, name),
+        [turns] => time_all(turns.parse().expect("how many turns")),
+        _ => panic!("bench [TURNS]"),
+    }
+}
+
+fn time_all(turns: usize) {
     println!("{:28} {:>8} {:>10} {:>10} {:>7}", "read", "bytes", "proved ns", "Rust ns", "ratio");
     for (name, bytes) in images::all() {
         read(name, &bytes, turns);
@@ -26,6 +48,40 @@ fn main() {
     for (name, image) in programs::all() {
         build(name, &image, turns);
     }
+    println!(
+        "{:28} {:>8} {:>10} {:>10} {:>7} {:>10} {:>7}",
+        "build and add", "bytes", "proved ns", "Rust ns", "ratio", "reading", "ratio"
+    );
+    let cases: Vec<_> = programs::added()
+        .into_iter()
+        .map(|(name, image)| add(name, Case::new(name, image), turns))
+        .collect();
+    println!("{:28} {:>8} {:>10} {:>10} {:>7}", "add", "bytes", "proved ns", "Rust ns", "ratio");
+    for (name, bytes, ours, theirs) in cases {
+        tell(name, bytes, ours, theirs);
+    }
+}
+
+/// Tells the build with its addition; answers the addition alone.
+fn add(name: &'static str, mut case: Case, turns: usize) -> (&'static str, usize, f64, f64) {
+    let (mut ours, mut theirs) = ([f64::MAX; 2], [f64::MAX; 3]);
+    for _ in 0..turns {
+        ours = least(ours, case.time_proved());
+        theirs = least(theirs, case.time_rust());
+    }
+    let [read, whole, alone] = theirs;
+    println!(
+        "{name:28} {:8} {:10.1} {whole:10.1} {:7.2} {read:10.1} {:7.2}",
+        case.bytes(),
+        ours[0],
+        ours[0] / whole,
+        ours[0] / read
+    );
+    (name, case.bytes(), ours[1], alone)
+}
+
+fn least<const N: usize>(one: [f64; N], other: [f64; N]) -> [f64; N] {
+    std::array::from_fn(|i| one[i].min(other[i]))
 }
 
 fn read(name: &str, bytes: &[u8], turns: usize) {
@@ -59,13 +115,4 @@ fn build(name: &str, image: &Image, turns: usize) {
 
 fn tell(name: &str, bytes: usize, ours: f64, theirs: f64) {
     println!("{name:28} {bytes:8} {ours:10.1} {theirs:10.1} {:7.2}", ours / theirs);
-}
-
-/// Nanoseconds for one of `times` calls.
-fn time<T>(times: usize, mut call: impl FnMut() -> T) -> f64 {
-    let start = Instant::now();
-    for _ in 0..times {
-        black_box(call());
-    }
-    start.elapsed().as_nanos() as f64 / times as f64
 }

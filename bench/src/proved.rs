@@ -3,6 +3,7 @@
 use crate::plain::{Counts, Refusal};
 
 pub const WORDS: usize = 43_872;
+pub const HOP_WORDS: usize = 18_440;
 
 #[repr(C)]
 struct Answer {
@@ -14,12 +15,25 @@ struct Answer {
 extern "C" {
     fn foldzine_read_image(bytes: *const u8, length: usize, told: *mut [u64; 10]);
     fn foldzine_build(bytes: *const u8, length: usize, words: *mut [u64; WORDS]) -> Answer;
+    fn foldzine_add_routes(
+        words: *mut [u64; WORDS],
+        bytes: *const u8,
+        length: usize,
+        hops: *mut [u64; HOP_WORDS],
+    ) -> Answer;
 }
 
 /// Whether the build of an image was not refused.
 pub fn build(bytes: &[u8], words: &mut [u64; WORDS]) -> bool {
     // SAFETY: a slice passes as a pointer and a length, an array as a pointer.
     let answer = unsafe { foldzine_build(bytes.as_ptr(), bytes.len(), words) };
+    answer.number == 0
+}
+
+/// Whether the addition of a route image was not refused.
+pub fn add(words: &mut [u64; WORDS], bytes: &[u8], hops: &mut [u64; HOP_WORDS]) -> bool {
+    // SAFETY: the same.
+    let answer = unsafe { foldzine_add_routes(words, bytes.as_ptr(), bytes.len(), hops) };
     answer.number == 0
 }
 

@@ -47,7 +47,7 @@ pub struct Edge {
 pub struct Payload {
     pub role: u8,
     pub number: u64,
-    pub case_key: u32,
+    pub case_key: u64,
     pub source_address: u64,
     pub target_address: u64,
 }

@@ -1,21 +1,27 @@
-//! Images and scripts by a seed: the same family, seed and index give the same
-//! bytes.
+//! Images, scripts and graphs by a seed: the same family, seed and index give
+//! the same.
 
 mod damaged;
 mod exhaustive;
 mod funclets;
 mod given;
+mod graphs;
 mod limits;
 mod mistakes;
+mod mutated;
 mod program;
 mod random;
 mod ranges;
 mod scripts;
 mod table;
 
+use crate::contents::Contents;
 use crate::image::{Image, Route};
 use program::{program, Plan};
-use random::Random;
+
+pub use damaged::damage;
+pub use mutated::{mutate, mutate_routes};
+pub use random::Random;
 
 /// A family of images.
 pub struct Family {
@@ -68,7 +74,7 @@ pub fn image(family: &Family, seed: u64, index: u64) -> Vec<u8> {
     let mut random = Random::new(seed, index);
     let mut bytes = (family.make)(&mut random, index).write();
     if family.name == DAMAGED.name {
-        damaged::damage(&mut random, &mut bytes);
+        damage(&mut random, &mut bytes);
     }
     bytes
 }
@@ -81,6 +87,11 @@ pub fn script(seed: u64, index: u64) -> Vec<Vec<u8>> {
 /// The `index`th script over funclets that stand apart, as records.
 pub fn script_apart(seed: u64, index: u64) -> (Image, Vec<Vec<Route>>) {
     scripts::apart(&mut Random::new(seed, index))
+}
+
+/// The `index`th graph that no build made, and route lists to be added to it.
+pub fn graph(seed: u64, index: u64) -> (Contents, Vec<Vec<Route>>) {
+    graphs::graph(&mut Random::new(seed, index))
 }
 
 /// An image with a mistake in `part` of a hundred.

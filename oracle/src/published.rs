@@ -46,8 +46,8 @@ impl AddressInstruction for Operation {
     }
 }
 
-pub fn operations(image: &Image) -> Vec<Operation> {
-    let numbered = image.instructions.iter().enumerate();
+pub fn operations(instructions: &[Instruction]) -> Vec<Operation> {
+    let numbered = instructions.iter().enumerate();
     numbered
         .map(|(position, instruction)| Operation {
             position,
@@ -90,7 +90,7 @@ pub fn options(image: &Image) -> AddressCfgOptions<u64> {
 pub fn given(image: &Image) -> GivenEdges<u64, Payload> {
     let edge = |edge: &image::GivenEdge| GivenEdge {
         target: edge.target,
-        kind: KINDS[usize::from(edge.kind)],
+        kind: kind(edge.kind),
         payload: Payload {
             role: GIVEN_ROLE,
             number: u64::from(edge.payload),
@@ -163,6 +163,11 @@ const KINDS: [EdgeKind; 8] = [
     EdgeKind::ExceptionUnwind,
 ];
 
+/// The kind of a number below 8.
+pub fn kind(number: u8) -> EdgeKind {
+    KINDS[usize::from(number)]
+}
+
 pub fn kind_number(kind: EdgeKind) -> u8 {
     KINDS.iter().position(|&one| one == kind).expect("one of the eight") as u8
 }
@@ -175,7 +180,7 @@ pub fn payload(info: AddressEdgeInfo<'_, u64, u32>) -> Payload {
         EdgeRole::ConditionalFallThrough => (2, 0, 0),
         EdgeRole::Jump => (3, 0, 0),
         EdgeRole::SwitchDefault => (4, 0, 0),
-        EdgeRole::SwitchCase { index, key } => (5, index as u64, *key),
+        EdgeRole::SwitchCase { index, key } => (5, index as u64, u64::from(*key)),
         EdgeRole::Call => (6, 0, 0),
         EdgeRole::CallContinuation { call_site } => (7, call_site, 0),
         EdgeRole::Exceptional => (8, 0, 0),

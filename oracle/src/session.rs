@@ -1,5 +1,9 @@
-//! One graph of the published Rust: built from an image, then added to.
+//! One graph of the published Rust: built from an image or taken as it is,
+//! then added to.
 
+use std::collections::BTreeMap;
+
+use cfglib::block::BlockId;
 use cfglib::builder::address::{
     build_address_cfg, build_address_cfg_from_given_edges, build_address_cfg_with_routes,
     AddressBuildError, AddressCfgOptions, AddressGraph, AddressHandler, GivenEdges, HopEnd,
@@ -47,7 +51,7 @@ impl Inputs {
     pub fn of(image: &Image) -> Self {
         Self {
             mode: image.mode,
-            operations: published::operations(image),
+            operations: published::operations(&image.instructions),
             given: published::given(image),
             handlers: published::handlers(image),
             routes: published::routes(&image.routes),
@@ -82,6 +86,40 @@ impl Session {
             instructions: image.instructions.clone(),
             handlers: image.handlers.clone(),
         })
+    }
+
+    /// A graph that was not built here, one that 21 lets pass: its table, entry,
+    /// blocks and edges. No addition looks at the rest, which is left out.
+    pub fn of(contents: &Contents) -> Self {
+        let instructions: Vec<Instruction> = contents.table.iter().map(instruction).collect();
+        let operations = published::operations(&instructions);
+        let mut cfg = Cfg::with_edge_payload();
+        for _ in 1..contents.blocks.len() {
+            cfg.new_block();
+        }
+        let ids: Vec<BlockId> = cfg.block_ids().collect();
+        let built = contents.built_blocks();
+        let mut instruction_blocks = BTreeMap::new();
+        for (number, (block, &id)) in contents.blocks.iter().zip(&ids).enumerate() {
+            let run = &operations[block.first..block.first + block.count];
+            cfg.block_mut(id).instructions_mut().extend_from_slice(run);
+            if number < built {
+                instruction_blocks.extend(run.iter().map(|operation| (operation.address, id)));
+            }
+        }
+        for edge in &contents.edges {
+            let (source, target) = (ids[edge.source], ids[edge.target]);
+            cfg.add_edge_with_payload(source, target, published::kind(edge.kind), edge.payload);
+        }
+        cfg.set_entry(ids[contents.entry]);
+        let graph = AddressGraph {
+            cfg,
+            instruction_blocks,
+            handler_refs: Vec::new(),
+            unresolved_transfers: Vec::new(),
+            calls: Vec::new(),
+        };
+        Self { graph, instructions, handlers: Vec::new() }
     }
 
     /// Adds routes: refusals 10 to 12, 14, 15, 17, then 18 to 20 on the whole
@@ -186,6 +224,17 @@ fn hop(hop: UnwindHop) -> Hop {
             HopEnd::Leave => None,
         },
         lists: hop.calls,
+    }
+}
+
+/// An instruction of a table, whose targets no graph keeps.
+fn instruction(row: &Row) -> Instruction {
+    Instruction {
+        address: row.address,
+        end: Some(row.end),
+        keeps: row.keeps,
+        flow: row.flow,
+        ..Instruction::default()
     }
 }
 

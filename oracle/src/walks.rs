@@ -5,11 +5,14 @@
 
 mod part;
 mod spell;
+mod tally;
 
 use std::collections::{BTreeMap, BTreeSet};
 
 use crate::contents::{Contents, Edge, Hop};
 use crate::image::{End, Path, Route, Step};
+
+pub use tally::Tally;
 
 /// An accepted addition: its routes, the graph after it, the hops it returned.
 pub struct Addition<'a> {

@@ -1,5 +1,6 @@
 //! `demand3 SEED COUNT`: demand 3 checked on the published Rust, on scripts of
-//! one to four additions each. A violation is printed with its script.
+//! one to four additions each to graphs that were built and to graphs that no
+//! build made. A violation is printed with its script.
 
 use std::process::ExitCode;
 
@@ -7,17 +8,7 @@ use oracle::generate;
 use oracle::image::{read_image, read_routes, write_routes, Image, Route};
 use oracle::session::Session;
 use oracle::stream::hex;
-use oracle::walks::Addition;
-
-#[derive(Default)]
-struct Tally {
-    additions: usize,
-    checked: usize,
-    with_copies: usize,
-    blocks: usize,
-    paths: usize,
-    violations: usize,
-}
+use oracle::walks::Tally;
 
 fn main() -> ExitCode {
     let numbers: Vec<u64> = std::env::args().skip(1).flat_map(|word| word.parse()).collect();
@@ -25,21 +16,24 @@ fn main() -> ExitCode {
         eprintln!("demand3 SEED COUNT");
         return ExitCode::FAILURE;
     };
-    let mut tally = Tally::default();
+    let (mut apart, mut any, mut graphs) = <(Tally, Tally, Tally)>::default();
     for index in 0..count {
         let (image, lists) = generate::script_apart(seed, index);
-        tally.take(&image, &lists);
+        built(&mut apart, &image, &lists);
         if let Some((image, lists)) = any_script(seed, index) {
-            tally.take(&image, &lists);
+            built(&mut any, &image, &lists);
+        }
+        let (contents, lists) = generate::graph(seed, index);
+        if added(&mut graphs, Session::of(&contents), &lists) {
+            println!("  graph {index} of seed {seed}");
         }
     }
-    println!(
-        "additions accepted {}, under the conditions {}, of these with copies {}",
-        tally.additions, tally.checked, tally.with_copies
-    );
-    println!("blocks {}, listed paths {}", tally.blocks, tally.paths);
-    println!("violations {}", tally.violations);
-    if tally.violations == 0 {
+    apart.print("apart");
+    any.print("scripts");
+    graphs.print("graphs");
+    let violations = apart.violations + any.violations + graphs.violations;
+    println!("violations {violations}");
+    if violations == 0 {
         ExitCode::SUCCESS
     } else {
         ExitCode::FAILURE
@@ -54,33 +48,28 @@ fn any_script(seed: u64, index: u64) -> Option<(Image, Vec<Vec<Route>>)> {
     Some((read_image(image).ok()?, lists))
 }
 
-impl Tally {
-    fn take(&mut self, image: &Image, lists: &[Vec<Route>]) {
-        let Ok(mut session) = Session::build(image) else {
-            return;
+fn built(tally: &mut Tally, image: &Image, lists: &[Vec<Route>]) {
+    let Ok(session) = Session::build(image) else {
+        return;
+    };
+    if added(tally, session, lists) {
+        println!("  {}", hex(&image.write()));
+        lists.iter().for_each(|list| println!("  {}", hex(&write_routes(list))));
+    }
+}
+
+/// Whether an addition does what it must not.
+fn added(tally: &mut Tally, mut session: Session, lists: &[Vec<Route>]) -> bool {
+    let mut violated = false;
+    for (number, routes) in lists.iter().enumerate() {
+        let before = session.contents().blocks.len();
+        let Ok(hops) = session.add(routes) else {
+            continue;
         };
-        let mut blocks = session.contents().blocks.len();
-        for (number, routes) in lists.iter().enumerate() {
-            let Ok(hops) = session.add(routes) else {
-                continue;
-            };
-            self.additions += 1;
-            let contents = session.contents();
-            let copies = contents.blocks.len() > blocks;
-            blocks = contents.blocks.len();
-            let Some(finding) = Addition::new(routes, &contents, &hops).check() else {
-                continue;
-            };
-            self.checked += 1;
-            self.with_copies += usize::from(copies);
-            self.blocks += finding.blocks;
-            self.paths += finding.paths;
-            if !finding.holds() {
-                self.violations += 1;
-                println!("violation at addition {number}: {finding:?}");
-                println!("  {}", hex(&image.write()));
-                lists.iter().for_each(|list| println!("  {}", hex(&write_routes(list))));
-            }
+        if let Some(finding) = tally.take(routes, before, &session.contents(), &hops) {
+            println!("violation at addition {number}: {finding:?}");
+            violated = true;
         }
     }
+    violated
 }

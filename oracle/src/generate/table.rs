@@ -44,7 +44,7 @@ const MILD_FLOWS: [u8; 10] = [
 ];
 
 /// Gives an instruction a flow, with targets that mostly are starts.
-fn set_flow(random: &mut Random, instruction: &mut Instruction, code: u8, starts: &[u64]) {
+pub fn set_flow(random: &mut Random, instruction: &mut Instruction, code: u8, starts: &[u64]) {
     instruction.flow = code;
     if flow::has_target(code) {
         instruction.target = target(random, starts);
