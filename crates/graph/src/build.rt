@@ -77,7 +77,7 @@ fn build_read(s: &[u8], y: Layout, g: &mut Words) -> Built
     ensures { λ r. ⌜ (buildAnswer (now (g .exit)) r ≡ buildOf (imageIn (now (s .entry)) y)) × BuildLeaves (now (g .entry)) (now (g .exit)) r ⌝ }
 {
     let end = code_end(s, y.code.instructions);
-    let mut hints = [0u16; 512];
+    let mut hints = [0u16; 1024];
     fill_hints(&mut hints, s, y.code.instructions);
     if let Checked::Refused(e) = check_input(s, y, &hints, end) {
         return Built::Refused(e);

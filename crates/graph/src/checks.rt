@@ -31,6 +31,7 @@ ghost use Rattle.image.specs.Image.{recordsIn, imageIn};
 ghost use Rattle.graph.specs.Error.{checkOf};
 ghost use Rattle.graph.specs.Fold.{checks};
 ghost use Rattle.graph.specs.Flow.{Flow, isCall};
+ghost use Rattle.graph.specs.Table.{entryAt};
 ghost use Rattle.graph.specs.Lookup.{Rising};
 ghost use Rattle.graph.specs.Transfer.{entriesOf, tableOf, size};
 ghost use Rattle.graph.specs.Cursor.{Sourced, cursorAt, visitAt};
@@ -62,19 +63,18 @@ fn check_instruction(s: &[u8], y: Section, p: usize) -> Checked
     if i.end <= address {
         return Checked::Refused(AddressBuildError::ZeroSizeInstruction { address });
     }
-    check_order(s, y, p)
+    check_order(s, y, p, address)
 }
 
-// An instruction stands behind the one before it.
-fn check_order(s: &[u8], y: Section, p: usize) -> Checked
-    requires { ⌜ p < y .count ⌝ }
+// The instruction at p, which starts at `address`, stands behind the one before it.
+fn check_order(s: &[u8], y: Section, p: usize, address: u64) -> Checked
+    requires { ⌜ (p < y .count) × (address ≡ entryAt (entriesOf (recordsIn instructionFrom (now s) y)) p .address) ⌝ }
     ensures { λ r. ⌜ checkOf r ≡ orderCheck (entriesOf (recordsIn instructionFrom (now (s .entry)) y)) p ⌝ }
 {
     if p == 0 {
         return Checked::Clear;
     }
     let previous = address_at(s, y, p - 1);
-    let address = address_at(s, y, p);
     if previous < address {
         return Checked::Clear;
     }

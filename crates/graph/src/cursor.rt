@@ -51,6 +51,8 @@ pub fn cursor_start() -> Cursor
     }
 }
 
+// A scan that every build makes does these three steps in its own loop instead: a `Visit` that is handed over costs more than
+// what is done with it.
 pub fn visit_at(s: &[u8], y: Layout, c: Cursor) -> Visit
     requires { ⌜ Sourced (imageIn (now s) y) × (c ≡ cursorAt (imageIn (now s) y) (c .at)) × (c .at < y .code .instructions .count) ⌝ }
     ensures { λ r. ⌜ r ≡ visitAt (imageIn (now (s .entry)) y) (c .at) ⌝ }

@@ -22,7 +22,7 @@ pub enum Found {
 }
 
 // Where an address is likely to stand. Whatever the hints are, an answer is the same: each is tried before it is believed.
-pub type Hints = [u16; 512];
+pub type Hints = [u16; 1024];
 
 // The hints of a table: each address's position, or that of another address in the same slot.
 pub fn fill_hints(hints: &mut Hints, s: &[u8], y: Section) {
@@ -34,10 +34,10 @@ pub fn fill_hints(hints: &mut Hints, s: &[u8], y: Section) {
 }
 
 fn slot_of(a: u64) -> usize
-    ensures { λ r. ⌜ r < 512 ⌝ }
+    ensures { λ r. ⌜ r < 1024 ⌝ }
 {
     let mixed = a % 0x100000000 * 0x9E3779B9;
-    (mixed / 0x800000 % 512) as usize
+    (mixed / 0x400000 % 1024) as usize
 }
 
 pub fn hint_of(hints: &Hints, a: u64) -> usize {

@@ -3,6 +3,7 @@ use mathlib.Core.Path.{sym, ap, _∙_}
 use borrow.Author.Tests.{lt-ltb, le-ltb, not-true, not-false}
 use Rattle.image.specs.Record.{instructionFrom}
 use Rattle.image.specs.Image.{recordsIn}
+use Rattle.graph.specs.declared.record.TableEntry.{TableEntry}
 use Rattle.graph.specs.Transfer.{tableEntry}
 use Rattle.graph.specs.Build.{instructionCheck}
 use Rattle.graph.proofs.TableLaws.{entry-is}
@@ -28,7 +29,12 @@ returns-2 c =
     rw (here, not-false (c .before .before .before .before .record-at .result .«has_end») (c .before .before .if1 .left), le-ltb _ _ (c .if2 .taken))
 
 check-order-requires : tie.Need-check-order-requires
-check-order-requires c κs = search needs
+unfolding tableEntry
+check-order-requires c κs =
+    let start = c .before .before .before .before .before .before in
+    let a = start .args in
+    let here = entry-is (recordsIn instructionFrom (a .s .now) (a .y)) (a .p) ∙ ap tableEntry (sym (c .before .before .before .before .record-at .ensures)) in
+    (start .pre, ap (λ (e : TableEntry). e .address) (sym here))
 
 returns-3 : tie.Need-returns-3
 unfolding instructionCheck tableEntry

@@ -20,24 +20,23 @@ sub-address-at c = search needs
 address-at-requires : tie.Need-address-at-requires
 address-at-requires c κs = search needs
 
-address-at-requires-2 : tie.Need-address-at-requires-2
-address-at-requires-2 c κs = search needs
-
 returns-2 : tie.Need-returns-2
 returns-2 c =
-    let a = c .before .before .before .before .before .args in
+    let start = c .before .before .before .before in
+    let a = start .args in
     let is = recordsIn instructionFrom (a .s .now) (a .y) in
-    let previous = sym (c .before .before .address-at .ensures) in
-    let here = sym (c .before .address-at2 .ensures) in
-    rw (order-at (entriesOf is) (a .p) (c .before .before .before .if1 .left), previous, here, lt-ltb _ _ (c .if2 .taken))
+    let previous = sym (c .before .address-at .ensures) in
+    let here = sym (start .pre .1) in
+    rw (order-at (entriesOf is) (a .p) (c .before .before .if1 .left), previous, here, lt-ltb _ _ (c .if2 .taken))
 
 returns-3 : tie.Need-returns-3
 returns-3 c =
-    let a = c .before .before .before .before .before .args in
+    let start = c .before .before .before .before in
+    let a = start .args in
     let is = recordsIn instructionFrom (a .s .now) (a .y) in
-    let previous = sym (c .before .before .address-at .ensures) in
-    let here = sym (c .before .address-at2 .ensures) in
-    rw (order-at (entriesOf is) (a .p) (c .before .before .before .if1 .left), previous, here, le-ltb _ _ (c .if2 .left))
+    let previous = sym (c .before .address-at .ensures) in
+    let here = sym (start .pre .1) in
+    rw (order-at (entriesOf is) (a .p) (c .before .before .if1 .left), previous, here, le-ltb _ _ (c .if2 .left))
 
 pub check-order-spec : {M : Type 1} → statement M
 check-order-spec =
@@ -46,6 +45,5 @@ check-order-spec =
     returns
     sub-address-at
     address-at-requires
-    address-at-requires-2
     returns-2
     returns-3)
