@@ -56,4 +56,5 @@ pub mod ClonesAre
 pub mod SideLaws
 pub mod HopLaws
 pub mod RowLaws
+pub mod ListRowLaws
 pub mod HeldLaws
