@@ -1,4 +1,5 @@
 pub mod PutLaws
 pub mod LineLaws
+pub mod HopTextLaws
 pub mod DecimalLaws
 pub mod Example

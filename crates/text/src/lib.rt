@@ -1,6 +1,7 @@
 // The text of the chart: each line as bytes in a buffer that the caller lends.
 pub mod chart;
 pub mod field;
+pub mod hops;
 pub mod lines;
 mod put;
 pub mod refusal;
