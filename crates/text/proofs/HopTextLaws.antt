@@ -9,30 +9,36 @@
 --     list-there             where list k of hop i stands
 --     told-at                its line
 --     none-told              past the last list there is none
+--     all-told               line for line, the lines of hops whose lists have no more than 512 tags
 -- Assumes nothing.
 use mathlib.Core.Path.{_≡_, refl, ap, sym, _∙_}
 use mathlib.Core.Logic.{⊎-elim}
-use mathlib.Core.List.{List, [], _∷_, _++_, map, append-nil, append-assoc, map-append}
+use mathlib.Core.List.{List, [], _∷_, _++_, map, append-nil, append-assoc, map-append, List·Memᴰ·head, List·Memᴰ·tail}
 use Prim.Native.Nat.{ℕ, zero, suc, _+_, _-_, _≤_, _<_, min}
 use native.Mathlib.Omega.{arith}
 use borrow.Author.Tests.{ltb-true, ltb-false}
 use lib.Dec.{ltb}
 use lib.ListN.{length, getD, take, drop, length-map, length-take, length-drop, List·getD-eq-default}
 use lib.Seq.{take-all, take-append-seam, getD-take, getD-drop}
-use Rattle.image.specs.Image.{RouteImage}
-use Rattle.graph.proofs.FoldLaws.{decided}
+use Rattle.image.specs.Image.{RouteImage, table}
+use Rattle.graph.specs.Fold.{flat}
+use Rattle.graph.proofs.FoldLaws.{decided, flat-front}
 use Rattle.graph.proofs.SectionLaws.{size-most}
 use Rattle.unwind.specs.declared.hops.HopRow.{HopRow}
 use Rattle.unwind.specs.declared.hops.ListRow.{ListRow}
+use Rattle.unwind.specs.Lists.{joined}
+use Rattle.unwind.specs.Walk.{_∈_}
+use Rattle.unwind.specs.Ways.{Hop}
 use Rattle.unwind.specs.Nodes.{stepIn, tagsIn}
 use Rattle.unwind.specs.HopWords.{listRows, listRow, rowsIn, hopAt, endFrom, tagsFrom, rowHop, rowHops, hopsIn}
+use Rattle.unwind.proofs.EntryLaws.{table-front}
 use Rattle.unwind.proofs.TriePaths.{tags-append, length-tags, tags-more}
 use Rattle.unwind.proofs.HopLaws.{lists-long}
 use Rattle.unwind.proofs.RowLaws.{rows-long}
 use Rattle.text.specs.declared.field.Field.{Field}
 use Rattle.text.specs.declared.field.Field.the-variants.{Number}
 use Rattle.text.specs.Line.{bytes, field, fields, line}
-use Rattle.text.specs.Chart.{endField, tagFields, hopLine}
+use Rattle.text.specs.Chart.{endField, tagFields, hopLine, hopLines}
 use Rattle.text.specs.HopText.{hopIn, toldLine, toldAt}
 
 -- ---- fields
@@ -146,3 +152,23 @@ module _ (m : RouteImage) (l : List ℕ) (i : ℕ) where
   none-told k h =
       let hop = hopIn (hopsIn m l) i in
       List·getD-eq-default (map (toldLine hop) (hop .calls)) [] {n = k} (omega (arith, length-map (hop .calls) (toldLine hop)))
+
+-- ---- all lines
+
+-- lists that an image's steps may make
+pub record Short (hs : List Hop) : Type 0 where
+  pub short : (h : Hop) → h ∈ hs → (tags : List ℕ) → tags ∈ h .calls → length tags ≤ 512
+
+all-of : (h : Hop) (ls : List (List ℕ)) → ((tags : List ℕ) → tags ∈ ls → length tags ≤ 512) → table (λ k. getD (map (toldLine h) ls) k []) (length ls) ≡ map (hopLine h) ls
+unfolding toldLine table
+all-of h [] short = refl
+all-of h (tags ∷ ls) short =
+    table-front (λ k. getD (map (toldLine h) (tags ∷ ls)) k []) (length ls)
+    ∙ (λ i. hopLine h (take-all 512 tags (short tags (List·Memᴰ·head refl)) i) ∷ all-of h ls (λ t e. short t (List·Memᴰ·tail e)) i)
+
+pub all-told : (hs : List Hop) → Short hs → flat (λ i. table (toldAt hs i) (length (hopIn hs i .calls))) (length hs) ≡ hopLines hs
+unfolding hopLines joined flat toldAt
+all-told [] s = refl
+all-told (h ∷ hs) s =
+    flat-front (λ i. table (toldAt (h ∷ hs) i) (length (hopIn (h ∷ hs) i .calls))) (length hs)
+    ∙ (λ i. all-of h (h .calls) (s .short h (List·Memᴰ·head refl)) i ++ all-told hs (record { short = λ x e. s .short x (List·Memᴰ·tail e) }) i)

@@ -1,6 +1,7 @@
 // The lines of hops, one for each call list. Whatever the words are, a buffer of 10,816 bytes holds each of them: of a list
 // no more than 512 tags are told.
 use crate::field::Field;
+use crate::least::least;
 use crate::put::put_end;
 use crate::put::put_field;
 use crate::put::put_word;
@@ -15,7 +16,7 @@ use unwind::hops::list_at;
 use unwind::hops::list_count;
 ghost use mathlib.Core.List.{map};
 ghost use mathlib.Core.Path.{_≡_};
-ghost use Prim.Native.Nat.{_+_, _*_, _≤_, _<_, min};
+ghost use Prim.Native.Nat.{_+_, _*_, _≤_, _<_};
 ghost use lib.ListN.{length, take};
 ghost use Rattle.image.specs.Image.{RouteImage, routesIn};
 ghost use Rattle.unwind.specs.Nodes.{stepIn, tagsIn};
@@ -43,12 +44,7 @@ pub fn lists_of(h: &Hops, i: usize) -> usize
     if all <= x.first {
         return 0;
     }
-    let left = all - x.first;
-    if x.lists < left {
-        x.lists as usize
-    } else {
-        left as usize
-    }
+    least(x.lists, all - x.first) as usize
 }
 
 // List k of hop i, over the routes that were read. Past the last list there is no line.
@@ -82,21 +78,11 @@ fn put_tags(out: &mut [u8], at: usize, s: &[u8], y: RouteLayout, t: ListRow) -> 
     requires { ⌜ at + 10752 ≤ length (now out) ⌝ }
     ensures { λ r. ⌜ Puts (fields (tagFields (take 512 (tagsFrom (routesIn (now (s .entry)) y) t)))) (now (out .entry)) at (now (out .exit)) r × (r ≤ at + 10752) ⌝ }
 {
-    let n = tags_told(t.calls);
+    let n = least(t.calls, TAGS) as usize;
     if n == 0 {
         return put_field(out, at, Field::Absent);
     }
     put_each(out, at, s, y, t.step, n)
-}
-
-fn tags_told(calls: u64) -> usize
-    ensures { λ r. ⌜ r ≡ min calls 512 ⌝ }
-{
-    if calls < TAGS {
-        calls as usize
-    } else {
-        TAGS as usize
-    }
 }
 
 // The tags of the n steps from `step` on.

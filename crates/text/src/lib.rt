@@ -2,6 +2,8 @@
 pub mod chart;
 pub mod field;
 pub mod hops;
+mod least;
 pub mod lines;
 mod put;
 pub mod refusal;
+pub mod routes;

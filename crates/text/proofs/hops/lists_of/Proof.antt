@@ -29,10 +29,7 @@ returns-2 : tie.Need-returns-2
 returns-2 c m = omega (arith, count (c .before .before) m, c .if2 .taken)
 
 returns-3 : tie.Need-returns-3
-returns-3 c m = omega (arith, count (c .before .before .before .before .before) m, c .if3 .taken)
-
-returns-4 : tie.Need-returns-4
-returns-4 c m = omega (arith, count (c .before .before .before .before .before) m, c .if3 .left)
+returns-3 c m = omega (arith, count (c .before .before .before .before) m, c .least .ensures)
 
 pub lists-of-spec : {M : Type 1} → statement M
 lists-of-spec =
@@ -44,5 +41,5 @@ lists-of-spec =
     (λ c κs. search needs)
     returns-2
     (λ c. search needs)
-    returns-3
-    returns-4)
+    (λ c κs. search needs)
+    returns-3)

@@ -30,7 +30,7 @@ returns c =
     let n = none .before in
     let a = n .before .before .before .args in
     let m = routesIn (a .s .now) (a .y) in
-    (rw (first-tags m (a .t .step) (a .t .calls) 512, ← n .tags-told .ensures, no-tags m (a .t .step) (n .tags-told .result) (none .if1 .taken)) (put .ensures .0), omega (arith, put .ensures .1))
+    (rw (first-tags m (a .t .step) (a .t .calls) 512, ← n .least .ensures, no-tags m (a .t .step) (n .least .result) (none .if1 .taken)) (put .ensures .0), omega (arith, put .ensures .1))
 
 returns-2 : tie.Need-returns-2
 returns-2 c =
@@ -39,11 +39,11 @@ returns-2 c =
     let n = some .before in
     let a = n .before .before .before .args in
     let m = routesIn (a .s .now) (a .y) in
-    (rw (first-tags m (a .t .step) (a .t .calls) 512, ← n .tags-told .ensures, tags m (a .t .step) (n .tags-told .result) (some .if1 .left)) (put .ensures .0), omega (arith, put .ensures .1, n .tags-told .ensures))
+    (rw (first-tags m (a .t .step) (a .t .calls) 512, ← n .least .ensures, tags m (a .t .step) (n .least .result) (some .if1 .left)) (put .ensures .0), omega (arith, put .ensures .1, n .least .ensures))
 
 put-each-requires : tie.Need-put-each-requires
 put-each-requires c κs =
-    let n = c .before .before .tags-told in
+    let n = c .before .before .least in
     (omega (arith, n .ensures), omega (arith, n .ensures))
 
 pub put-tags-spec : {M : Type 1} → statement M
