@@ -2,10 +2,16 @@
 use graph::error::AddressBuildError;
 use graph::reach::reached;
 use graph::store::Words;
+use image::section::RouteLayout;
 use text::chart::line_at;
 use text::chart::line_count;
 use text::chart::reached_line;
 use text::chart::refused_line;
+use text::hops::HopText;
+use text::hops::hop_line;
+use text::hops::lists_of;
+use unwind::hops::Hops;
+use unwind::hops::hop_count;
 
 // All lines of a graph up to the hops.
 pub fn print_graph(g: &Words) {
@@ -13,6 +19,23 @@ pub fn print_graph(g: &Words) {
     for k in 0..line_count(g) {
         let n = line_at(g, k, &mut line);
         io::write_all(1, &line[0..n]);
+    }
+}
+
+// All lines of the hops, over the routes that were added.
+pub fn print_hops(h: &Hops, s: &[u8], y: RouteLayout) {
+    let mut line = [0u8; 10816];
+    for i in 0..hop_count(h) {
+        print_lists(h, s, y, i, &mut line);
+    }
+}
+
+// A line for each list of hop i.
+fn print_lists(h: &Hops, s: &[u8], y: RouteLayout, i: usize, line: &mut HopText) {
+    for k in 0..lists_of(h, i) {
+        let n = hop_line(h, s, y, i, k, line);
+        let text = &line[..];
+        io::write_all(1, &text[0..n]);
     }
 }
 
