@@ -1,5 +1,7 @@
 pub mod PutLaws
 pub mod LineLaws
 pub mod HopTextLaws
+pub mod ShortLaws
+pub mod RouteBytesLaws
 pub mod DecimalLaws
 pub mod Example
