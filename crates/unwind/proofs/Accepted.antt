@@ -1,5 +1,6 @@
 -- What an accepted addition tells: every funclet and handler of a node leads a block, and a route's guarded blocks.
 --     built-mem, mem-built         the built blocks
+--     head-mem                     the first of a list stands in it
 --     lead-begins                  an address that leads a block begins the block looked up
 --     then-clear, check-at         every check of a clear row is clear
 --     funclet-begins, handler-begins      the addresses of a node
@@ -54,7 +55,7 @@ pub mem-built : (g : Graph) (b : ℕ) → Built g b → b ∈ builtBlocks g
 unfolding builtBlocks
 mem-built g b x = mem-keep (isBuilt g) (mem-upto (length (g .blocks)) b (x .exists)) (x .original)
 
-head-mem : (l : List ℕ) (b : ℕ) → head l ≡ some b → b ∈ l
+pub head-mem : (l : List ℕ) (b : ℕ) → head l ≡ some b → b ∈ l
 unfolding head
 head-mem [] b e = absurd (let z : _≡_ {A = ℕ} 0 1 = cc in omega arith)
 head-mem (x ∷ l) b e = let p : b ≡ x = cc in List·Memᴰ·head p

@@ -32,7 +32,7 @@ use Rattle.unwind.specs.Lent.{PartsIn}
 use Rattle.unwind.specs.Copies.{copyNumber}
 use Rattle.unwind.specs.Walk.{_∈_}
 use Rattle.unwind.proofs.Lists.{mem-keep, keep-mem, mem-upto, upto-mem, mem-among, among-mem}
-use Rattle.unwind.proofs.Wants.{keep-append}
+use Rattle.unwind.proofs.EdgeNumber.{keep-append}
 use Rattle.unwind.proofs.Sources.{hops-sorted, exits-flat, hops-flat}
 use Rattle.unwind.proofs.Instance.{blocks-lt, place-later}
 use Rattle.unwind.proofs.TrieOrder.{total-number}

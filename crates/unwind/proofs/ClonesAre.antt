@@ -1,5 +1,7 @@
 -- The copies by what instances in scratch say are those of the definition.
 --     sets-in                      the blocks of instances stand in the graph
+--     joined-same                  lists of the members of a list hang on these alone
+--     original, copying, placed-at where a node has a block, by its first copy
 --     blocks-are, edges-are        the copies of blocks, and of edges
 -- Assumes nothing.
 use mathlib.Core.Path.{_≡_, refl, sym, ap, ap₂, _∙_}
@@ -32,7 +34,7 @@ use Rattle.unwind.proofs.CloneLaws.{copies-none, copies-some}
 use Rattle.unwind.proofs.StoodLaws.{map-same}
 use Rattle.unwind.proofs.PlaceLaws.{part-rises}
 
-joined-same : {A B : Type 0} (f g : A → List B) (l : List A) → ((x : A) → x ∈ l → f x ≡ g x) → joined f l ≡ joined g l
+pub joined-same : {A B : Type 0} (f g : A → List B) (l : List A) → ((x : A) → x ∈ l → f x ≡ g x) → joined f l ≡ joined g l
 unfolding joined
 joined-same f g [] same = refl
 joined-same f g (x ∷ l) same = ap₂ (λ (a b : List _). a ++ b) (same x (List·Memᴰ·head refl)) (joined-same f g l (λ y m. same y (List·Memᴰ·tail m)))
@@ -52,13 +54,13 @@ module _ (g : Graph) (few : length (g .blocks) ≤ 1024) (some′ : 0 < length (
     abbrev w : List ℕ
     w = setAt parts i
 
-    original : later g fs z i ≡ false → getD bases i 0 ≡ 0
+    pub original : later g fs z i ≡ false → getD bases i 0 ≡ 0
     original e = p .base-is i h ∙ rw e refl
 
     first-copy : later g fs z i ≡ true → getD bases i 0 ≡ base g fs z i
     first-copy e = p .base-is i h ∙ rw e refl
 
-    copying : later g fs z i ≡ true → getD bases i 0 ≡ 0 → ⊥
+    pub copying : later g fs z i ≡ true → getD bases i 0 ≡ 0 → ⊥
     unfolding base
     copying e none = omega (arith, first-copy e)
 
@@ -74,7 +76,7 @@ module _ (g : Graph) (few : length (g .blocks) ≤ 1024) (some′ : 0 < length (
         (decided (later g fs z i))
 
     -- a block of the set has its place
-    placed-at : later g fs z i ≡ true → (b : ℕ) → member w b ≡ true → getD bases i 0 + count (member w) b ≡ place g fs z i b
+    pub placed-at : later g fs z i ≡ true → (b : ℕ) → member w b ≡ true → getD bases i 0 + count (member w) b ≡ place g fs z i b
     placed-at e b m =
         ap₂ (λ (x y : ℕ). x + y) (first-copy e) (rank-has (length (g .blocks)) few (blocksOf g fs z i) (rises i) w (p .part-has i h) b m) ∙ sym (place-later g rs z i b e)
 

@@ -211,19 +211,20 @@ module _ (g : Graph) (m : RouteImage) where
     unfolding any
     entered-skip ne = record { long = x .long; has = λ b. x .has b ∙ sym (rw (add-one, ne-eqb (getD (m .steps) j (stepFrom [] 0) .code) 0 ne) (or-false _)) }
 
-pub entries-are : (g : Graph) (s : Stands g) (n : ℕ) → Built g n → 0 < length (g .table) → (m : RouteImage) → AcceptedRoutes m → (w : List ℕ) → Entered g m (length (m .steps)) w → Barriers g (routesOf m) w
+-- the steps of routes, if there are any, have an instruction to name
+pub entries-are : (g : Graph) (s : Stands g) (n : ℕ) → Built g n → (m : RouteImage) → (0 < length (m .steps) → 0 < length (g .table)) → AcceptedRoutes m → (w : List ℕ) → Entered g m (length (m .steps)) w → Barriers g (routesOf m) w
 unfolding any
-entries-are g s n built there m ok w x = record { bars = λ b h. x .has b ∙ go b h (decided (isBuilt g b)) }
+entries-are g s n built m there ok w x = record { bars = λ b h. x .has b ∙ go b h (decided (isBuilt g b)) }
   where
     go : (b : ℕ) → b < length (g .blocks) → (isBuilt g b ≡ true) ⊎ (isBuilt g b ≡ false)
         → any (λ (i : ℕ). eqb (getD (m .steps) i (stepFrom [] 0) .code) 0 && leadsTo (leading g (getD (m .steps) i (stepFrom [] 0) .value)) b) (length (m .steps)) ≡ (isBuilt g b && among (funclets (routesOf m)) (firstOf g b .address))
     go b h (inl is) =
         rw (is, funclets-steps m ok (firstOf g b .address))
-        (some-same _ _ (length (m .steps)) (λ i lt. ap (λ (t : Bool). eqb (getD (m .steps) i (stepFrom [] 0) .code) 0 && t) (leads-to g s n built there b h (getD (m .steps) i (stepFrom [] 0) .value) ∙ ap (λ (t : Bool). t && eqb (getD (m .steps) i (stepFrom [] 0) .value) (firstOf g b .address)) is)))
+        (some-same _ _ (length (m .steps)) (λ i lt. ap (λ (t : Bool). eqb (getD (m .steps) i (stepFrom [] 0) .code) 0 && t) (leads-to g s n built (there (omega arith)) b h (getD (m .steps) i (stepFrom [] 0) .value) ∙ ap (λ (t : Bool). t && eqb (getD (m .steps) i (stepFrom [] 0) .value) (firstOf g b .address)) is)))
     go b h (inr out) =
         rw out
-        (none (length (m .steps)) (λ i. ap (λ (t : Bool). eqb (getD (m .steps) i (stepFrom [] 0) .code) 0 && t) (leads-to g s n built there b h (getD (m .steps) i (stepFrom [] 0) .value) ∙ ap (λ (t : Bool). t && eqb (getD (m .steps) i (stepFrom [] 0) .value) (firstOf g b .address)) out) ∙ and-false (eqb (getD (m .steps) i (stepFrom [] 0) .code) 0)))
+        (none (length (m .steps)) (λ i lt. ap (λ (t : Bool). eqb (getD (m .steps) i (stepFrom [] 0) .code) 0 && t) (leads-to g s n built (there (omega arith)) b h (getD (m .steps) i (stepFrom [] 0) .value) ∙ ap (λ (t : Bool). t && eqb (getD (m .steps) i (stepFrom [] 0) .value) (firstOf g b .address)) out) ∙ and-false (eqb (getD (m .steps) i (stepFrom [] 0) .code) 0)))
       where
-        none : {f : ℕ → Bool} (k : ℕ) → ((i : ℕ) → f i ≡ false) → any f k ≡ false
+        none : {f : ℕ → Bool} (k : ℕ) → ((i : ℕ) → i < k → f i ≡ false) → any f k ≡ false
         none zero out = refl
-        none (suc k) out = rw (none k out, out k)
+        none (suc k) out = rw (none k (λ i lt. out i (omega arith)), out k (omega arith))

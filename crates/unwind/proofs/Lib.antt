@@ -27,6 +27,8 @@ pub mod TrieKeys
 pub mod TrieRuns
 pub mod TrieLaid
 pub mod TrieNodes
+pub mod TrieEarly
+pub mod LowerLaws
 pub mod TrieFuel
 pub mod TrieGroups
 pub mod TrieIntern
@@ -37,7 +39,7 @@ pub mod TrieStore
 pub mod NodeChecks
 pub mod Rising
 pub mod Sources
-pub mod Wants
+pub mod EdgeNumber
 pub mod Leaving
 pub mod EntryLaws
 pub mod GatherLaws
@@ -46,6 +48,7 @@ pub mod LentLaws
 pub mod SizeLaws
 pub mod SlotLaws
 pub mod PlaceLaws
+pub mod LikeLaws
 pub mod CopyLaws
 pub mod AllHops
 pub mod CopiesAre
@@ -58,3 +61,13 @@ pub mod HopLaws
 pub mod RowLaws
 pub mod ListRowLaws
 pub mod HeldLaws
+pub mod LentInstances
+pub mod SizeChecks
+pub mod Finished
+pub mod Outcomes
+pub mod AllNodesLaws
+pub mod FindLaws
+pub mod WantLaws
+pub mod StoreLaws
+pub mod AnswerLaws
+pub mod FrameLaws

@@ -4,7 +4,9 @@
 --     part-none, part-some, part-is     the part of a root, and of a funclet
 --     part-rises, rank-most        a part rises, and a rank is small
 --     sizes-none, sizes-then, sizes-kept, slots-same, slots-less     room
---     first-next, clone-next       the first node of a funclet, and a later one
+--     same-eq                      the same funclet
+--     entry-alike                  the first node of a funclet has the entry of all
+--     FirstPlaced, NoneLike, first-next, clone-next     the first node of a funclet, and a later one
 --     PlacedTo, placed-none, placed-next, placed-end, placed-over     the nodes before one, all nodes, and too many blocks
 -- Assumes nothing.
 use mathlib.Core.Path.{_≡_, refl, sym, ap, ap₂, _∙_, subst}
@@ -39,7 +41,7 @@ use Rattle.unwind.specs.Nodes.{stepIn, funcletIn, nodeIn, nodesIn}
 use Rattle.unwind.specs.Instance.{entryBlock, partOf, blocksOf, later, copied, base, entryOf, cloneBlocks}
 use Rattle.unwind.specs.Add.{funcletCheck}
 use Rattle.unwind.specs.Walk.{_∈_}
-use Rattle.unwind.specs.Placed.{setAt, Slots, SameSizes, Placed, funcletAt, like, FirstLike, NodePlaced, FirstPlaced, Placing, PlacedAll}
+use Rattle.unwind.specs.Placed.{setAt, Slots, SameSizes, Placed, funcletAt, like, NodePlaced, Placing, PlacedAll}
 use Rattle.unwind.proofs.Lists.{or-left, mem-keep, mem-upto, mem-among, flat-suc, flat-le}
 use Rattle.unwind.proofs.Accepted.{lead-begins}
 use Rattle.unwind.proofs.Instance.{place-first, place-later, copied-later}
@@ -130,7 +132,7 @@ entry-rank g fs (some f) w few leads has =
     let e : ℕ = blockOf g f in
     rank-has (length (g .blocks)) few (part g fs f e) (part-kept g fs f e) w has e (has e ∙ mem-among (entry-in g fs f e (lead-begins g f leads .built .exists)))
 
-same-eq : (a b : Option ℕ) → sameFunclet a b ≡ true → a ≡ b
+pub same-eq : (a b : Option ℕ) → sameFunclet a b ≡ true → a ≡ b
 unfolding sameFunclet
 same-eq none none e = refl
 same-eq none (some y) e = absurd (false≢true e)
@@ -244,6 +246,14 @@ module _ (g : Graph) (m : RouteImage) (nodes edges ends : List ℕ) (n : ℕ) wh
   unfolding entryOf
   entry-copy i h is = place-later g (routesOf m) z i _ is ∙ ap₂ (λ (o : Option ℕ) (l : List ℕ). base g fs′ z i + rank (entryBlock g o) l) (funclet-at i h) (blocks-at i h)
 
+  -- the first node with the funclet of node i
+  module _ (i j : ℕ) (h : i < n) (lt : j < i) (alike : funcletAt m nodes j ≡ funcletAt m nodes i) (none-before : any (like m nodes i) j ≡ false) where
+    pub entry-alike : (bases entries parts returns : List ℕ) → Placed g fs′ z bases entries parts returns i → getD entries j 0 ≡ entryBlock g (funcletAt m nodes i)
+    entry-alike bases entries parts returns old =
+        let hj : j < n = omega arith in
+        let first = later-at j hj ∙ some-same _ (like m nodes i) j (λ k q. ap (sameFunclet (funcletAt m nodes k)) alike) ∙ none-before in
+        old .entry-is j lt ∙ sym (entry-original j hj first) ∙ ap (entryBlock g) alike
+
   -- the copies of all n nodes
   clones-length : length (g .blocks) + length (cloneBlocks g fs′ z) ≡ base g fs′ z n
   unfolding base cloneBlocks
@@ -255,15 +265,27 @@ module _ (g : Graph) (m : RouteImage) (nodes edges ends : List ℕ) (n : ℕ) wh
 
 -- ---- the first node of a funclet, and a later one
 
+-- node i is the first of its funclet, and is stored so
+pub record FirstPlaced (g : Graph) (m : RouteImage) (nodes : List ℕ) (i : ℕ) (bases entries parts returns bases′ entries′ parts′ returns′ : List ℕ) : Type 0 where
+  pub part : List ℕ
+  pub ret : List ℕ
+  pub part-has : Has part (partOf g (funclets (routesOf m)) (funcletAt m nodes i))
+  pub returns-has : Has ret (keep (returning g) (partOf g (funclets (routesOf m)) (funcletAt m nodes i)))
+  pub placed : NodePlaced i 0 (entryBlock g (funcletAt m nodes i)) part ret bases entries parts returns bases′ entries′ parts′ returns′
+
+-- where the nodes before i are placed, none before r has the funclet of node i
+pub record NoneLike (g : Graph) (m : RouteImage) (nodes : List ℕ) (i r : ℕ) (bases entries parts returns : List ℕ) : Type 0 where
+  pub none-before : (edges ends : List ℕ) (n : ℕ) → i < n → Placed g (funclets (routesOf m)) (nodesIn m nodes edges ends n) bases entries parts returns i → any (like m nodes i) r ≡ false
+
 module _ (g : Graph) (m : RouteImage) (nodes : List ℕ) (i : ℕ) (bases entries parts returns bases′ entries′ parts′ returns′ : List ℕ) (s : Slots (i + 1) bases entries parts returns) where
-  pub first-next : (b : ℕ) → FirstLike m nodes i i → FirstPlaced g m nodes i bases entries parts returns bases′ entries′ parts′ returns′
+  pub first-next : (b : ℕ) → NoneLike g m nodes i i bases entries parts returns → FirstPlaced g m nodes i bases entries parts returns bases′ entries′ parts′ returns′
       → Placing g m nodes i b 0 bases entries parts returns bases′ entries′ parts′ returns′
   first-next b f p =
       record {
         few = omega arith;
         sizes = sizes-kept (p .placed);
         next = λ edges ends n h is old.
-            let first = later-at g m nodes edges ends n i h ∙ f .none-before in
+            let first = later-at g m nodes edges ends n i h ∙ f .none-before edges ends n h old in
             let blocks = blocks-at g m nodes edges ends n i h in
             let size = ap length (copied-first g m nodes edges ends n i first) in (
               placed-more g m nodes edges ends n i _ _ _ _ _ _ _ _ _ _ _ _ (omega (arith, s .bases-fit)) (omega (arith, s .entries-fit)) (p .placed) (rw first) (entry-original g m nodes edges ends n i h first) (rw blocks (p .part-has)) (rw blocks (p .returns-has)) old,
@@ -271,12 +293,12 @@ module _ (g : Graph) (m : RouteImage) (nodes : List ℕ) (i : ℕ) (bases entrie
             );
       }
 
-  module _ (few : length (g .blocks) ≤ 1024) (leads : funcletCheck g (funcletAt m nodes i) ≡ clear) (b r : ℕ) (f : FirstLike m nodes i r) (lt : r < i) where
+  module _ (few : length (g .blocks) ≤ 1024) (leads : funcletCheck g (funcletAt m nodes i) ≡ clear) (b r : ℕ) (f : NoneLike g m nodes i r bases entries parts returns) (lt : r < i) (same : like m nodes i r ≡ true) where
     abbrev w : List ℕ
     w = setAt parts r
 
     alike : funcletAt m nodes r ≡ funcletAt m nodes i
-    alike = same-eq (funcletAt m nodes r) (funcletAt m nodes i) (f .same lt)
+    alike = same-eq (funcletAt m nodes r) (funcletAt m nodes i) same
 
     pub clone-next : (k : ℕ) → k ≡ sizeOf w → NodePlaced i b (b + count (member w) (getD entries r 0)) w (setAt returns r) bases entries parts returns bases′ entries′ parts′ returns′
         → Placing g m nodes i b k bases entries parts returns bases′ entries′ parts′ returns′
@@ -286,12 +308,11 @@ module _ (g : Graph) (m : RouteImage) (nodes : List ℕ) (i : ℕ) (bases entrie
           sizes = sizes-kept p;
           next = λ edges ends n h is old.
               let hr : r < n = omega arith in
-              let is-later = later-at g m nodes edges ends n i h ∙ some-at (like m nodes i) i r lt (f .same lt) in
-              let first = later-at g m nodes edges ends n r hr ∙ some-same _ (like m nodes i) r (λ j q. ap (sameFunclet (funcletAt m nodes j)) alike) ∙ f .none-before in
+              let is-later = later-at g m nodes edges ends n i h ∙ some-at (like m nodes i) i r lt same in
               let blocks-r = blocks-at g m nodes edges ends n r hr ∙ ap (partOf g (funclets (routesOf m))) alike in
               let blocks-i = blocks-at g m nodes edges ends n i h in
               let has : Has w (partOf g (funclets (routesOf m)) (funcletAt m nodes i)) = rw blocks-r at (old .part-has r lt) in
-              let entry = old .entry-is r lt ∙ sym (entry-original g m nodes edges ends n r hr first) ∙ ap (entryBlock g) alike in
+              let entry = entry-alike g m nodes edges ends n i r h lt alike (f .none-before edges ends n h old) bases entries parts returns old in
               let ranked = entry-rank g (funclets (routesOf m)) (funcletAt m nodes i) w few leads has in
               let sized = size-has (length (g .blocks)) few _ (part-rises g (funclets (routesOf m)) (funcletAt m nodes i)) w has in
               let copies = ap length (copied-later g (routesOf m) (nodesIn m nodes edges ends n) i is-later ∙ blocks-i) in (

@@ -27,7 +27,7 @@ use Rattle.unwind.specs.Sizes.{HopsSize, sizesThen, sizesBoth}
 use Rattle.unwind.proofs.TrieKeys.{joined-append}
 use Rattle.unwind.proofs.TrieOrder.{number-eq}
 use Rattle.unwind.proofs.Sources.{hops-then, lists-then, number-one, number-then}
-use Rattle.unwind.proofs.Wants.{keep-append}
+use Rattle.unwind.proofs.EdgeNumber.{keep-append}
 use Rattle.unwind.proofs.EntryLaws.{ends-compare}
 
 pub keep-all : {A : Type 0} (l : List A) → keep (λ (x : A). true) l ≡ l

@@ -2,6 +2,7 @@
 --     hops-more, hops-then         hopsOn over two lists, and over one exit more
 --     hops-sorted                  the hops of ways are those of their exits, sorted
 --     exits-flat                   sorted exits, source by source
+--     joined-map                   lists of mapped members
 --     on-apart, on-source          hops that leap from elsewhere, and where hops come from
 --     hops-flat                    hops, source by source
 --     lists-then, lists-number     one exit more adds a list
@@ -190,7 +191,7 @@ to-rising (x ∷ l) k r = go (isEq (compareLeaps (x .leap) k)) refl (to-rising l
       below,
     )
 
-joined-map : {A B D : Type 0} (f : B → List D) (g : A → B) (l : List A) → joined f (map g l) ≡ joined (λ (x : A). f (g x)) l
+pub joined-map : {A B D : Type 0} (f : B → List D) (g : A → B) (l : List A) → joined f (map g l) ≡ joined (λ (x : A). f (g x)) l
 unfolding joined
 joined-map {D = D} f g [] = refl
 joined-map {D = D} f g (x ∷ l) = ap (λ (t : List D). f (g x) ++ t) (joined-map f g l)

@@ -1,8 +1,8 @@
 -- Interning in scratch, step by step.
 --     funclet-none, funclet-some, funclet-small     the funclet that a group's paths have entered last
---     stored-still, behind-laid, close-law          the node whose edges and ends are laid
+--     stored-still, behind-laid, lower-laid, close-law     the node whose edges and ends are laid
 -- Assumes nothing.
-use mathlib.Core.Path.{_≡_, refl, ap₂, _∙_}
+use mathlib.Core.Path.{_≡_, refl, sym, ap₂, subst, _∙_}
 use mathlib.Core.List.{List, map}
 use mathlib.Core.Option.{some}
 use Prim.Native.Nat.{ℕ, suc, _+_, _-_, _≤_, _<_}
@@ -22,6 +22,7 @@ use Rattle.unwind.specs.Interning.{pathsOf}
 use Rattle.unwind.specs.Keys.{keyIn, Stands}
 use Rattle.unwind.specs.Laid.{endsList, EndsLaid, EdgesLaid}
 use Rattle.unwind.specs.Kept.{Behind, Kept}
+use Rattle.unwind.specs.Lower.{Lower}
 use Rattle.unwind.specs.Interns.{groupBehind, funcletOf, Grouped, Room, Closes}
 use Rattle.unwind.proofs.TrieNodes.{nodes-still}
 
@@ -97,6 +98,9 @@ module _ (m : RouteImage) (l : List ℕ) (g : Group) (grouped : Grouped m l g) (
 
   still : nodesIn m nodes edges′ ends′ (c .nodes) ≡ nodesIn m nodes edges ends (c .nodes)
   still = nodes-still m nodes edges ends edges′ ends′ c stored (edges-laid .others) (ends-laid .others)
+
+  pub lower-laid : Lower (nodesIn m nodes edges ends (c .nodes)) → Lower (nodesIn m nodes edges′ ends′ (c .nodes))
+  lower-laid low = subst Lower (sym still) low
 
   pub close-law : (nodes′ : List ℕ) (r : Interned) → Kept m nodes edges′ ends′ c laid nodes′ r → Closes m g nodes edges ends stack c top n nodes′ edges′ ends′ r
   close-law nodes′ r kept =

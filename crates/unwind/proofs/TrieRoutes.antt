@@ -3,7 +3,7 @@
 --     rootGroup, root-paths, root-weight, root-funclet     the group of a route's paths
 --     Routed, route-start, route-room, route-next, route-done     the routes before r are interned
 -- Assumes nothing.
-use mathlib.Core.Path.{_≡_, refl, sym, ap, ap₂, _∙_}
+use mathlib.Core.Path.{_≡_, refl, sym, ap, ap₂, subst, _∙_}
 use mathlib.Core.List.{List, [], _∷_, _++_, append-nil}
 use mathlib.Core.Option.{Option, none}
 use Prim.Native.Nat.{ℕ, zero, suc, _+_, _≤_, _<_}
@@ -27,11 +27,13 @@ use Rattle.unwind.specs.declared.tries.nodes.Interned.{Interned}
 use Rattle.unwind.specs.Trie.{Node, Interned as Made, Tries, internRoutes, tries}
 use Rattle.unwind.specs.Nodes.{funcletIn, nodesIn, Stored}
 use Rattle.unwind.specs.Interning.{strip, stepsIn, leftAt, pathsOf, Starts}
+use Rattle.unwind.specs.Lower.{Lower}
 use Rattle.unwind.specs.Interns.{interned, weight, funcletOf, Grouped, Room, Interns}
 use Rattle.unwind.specs.Routed.{Scratch, TriesIn}
 use Rattle.unwind.proofs.Lists.{at-lt}
 use Rattle.unwind.proofs.Intern.{Rooted, no-more, rooted, tries-law}
 use Rattle.unwind.proofs.TrieNodes.{length-nodes}
+use Rattle.unwind.proofs.LowerLaws.{lower-none, interned-lower}
 use Rattle.unwind.proofs.TrieIntern.{funclet-none}
 
 -- ---- where the children start
@@ -119,6 +121,7 @@ pub record Routed (m : RouteImage) (nodes₀ edges₀ ends₀ stack₀ roots₀ 
   pub roots-long : length roots ≡ length roots₀
   pub first-is : first ≡ pathsBefore m r
   pub stored : Stored nodes edges ends c
+  pub lower : Lower (nodesIn m nodes edges ends (c .nodes))
   pub nodes-done : tries (routesOf m) .nodes ≡ internRoutes r (drop r (routesOf m)) (nodesIn m nodes edges ends (c .nodes)) .nodes
   pub roots-done : tries (routesOf m) .roots ≡ take r roots ++ internRoutes r (drop r (routesOf m)) (nodesIn m nodes edges ends (c .nodes)) .roots
   pub nodes-most : c .nodes ≤ r + stepsBefore m first
@@ -144,6 +147,7 @@ module _ (m : RouteImage) (ok : AcceptedRoutes m) (starts₀ nodes₀ edges₀ e
           edges-in = λ i h. absurd (omega arith);
           ends-in = λ i h. absurd (omega arith);
         };
+        lower = lower-none;
         nodes-done = refl;
         roots-done = refl;
         nodes-most = omega arith;
@@ -212,6 +216,10 @@ module _ (m : RouteImage) (ok : AcceptedRoutes m) (starts₀ nodes₀ edges₀ e
       then-is : made .trie ≡ nodesIn m nodes′ edges′ ends′ (i .counts .nodes)
       then-is = sym (done .trie ∙ ap (λ (x : Made). x .trie) is-made)
 
+      then-lower : Lower (nodesIn m nodes′ edges′ ends′ (i .counts .nodes))
+      unfolding made
+      then-lower = subst Lower then-is (interned-lower r none (own .paths) trie (so-far .lower))
+
       place-is : made .place ≡ i .place
       place-is = sym (done .place ∙ ap (λ (x : Made). x .place) is-made)
 
@@ -227,6 +235,7 @@ module _ (m : RouteImage) (ok : AcceptedRoutes m) (starts₀ nodes₀ edges₀ e
             roots-long = length-set roots r (i .place) ∙ so-far .roots-long;
             first-is = omega (arith, paths-next m r, so-far .first-is);
             stored = done .stored;
+            lower = then-lower;
             nodes-done =
                 so-far .nodes-done
                 ∙ ap (λ (x : Tries). x .nodes) here

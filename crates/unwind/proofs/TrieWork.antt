@@ -5,7 +5,7 @@
 --     child-grouped, child-room, push-room, branch-small, left-falls, work-next     it is interned too
 --     close-room, work-done        there is none: the node is closed
 -- Assumes nothing.
-use mathlib.Core.Path.{_≡_, refl, sym, ap, ap₂, _∙_}
+use mathlib.Core.Path.{_≡_, refl, sym, ap, ap₂, subst, _∙_}
 use mathlib.Core.Bool.{true}
 use mathlib.Core.List.{List, [], _∷_, _++_, map, append-nil, map-append}
 use mathlib.Core.Option.{Option, none, some}
@@ -30,11 +30,13 @@ use Rattle.unwind.specs.Nodes.{branchIn, branches, tagsIn, funcletIn, ed
 use Rattle.unwind.specs.Interning.{after, nearest, pathsOf}
 use Rattle.unwind.specs.Keys.{keysOf, keyIn, keyOf, KeyIn, NextOf}
 use Rattle.unwind.specs.Laid.{endsList}
+use Rattle.unwind.specs.Lower.{Lower}
 use Rattle.unwind.specs.Interns.{interned, weight, groupBehind, funcletOf, Grouped, Room, Closes, Interns}
 use Rattle.unwind.proofs.Order.{mem-sorted}
 use Rattle.unwind.proofs.Paths.{exact-key}
 use Rattle.unwind.proofs.TrieOrder.{total-key, next-none, next-in, next-some}
 use Rattle.unwind.proofs.TrieRuns.{branches-more, branches-same}
+use Rattle.unwind.proofs.LowerLaws.{interned-lower}
 use Rattle.unwind.proofs.TrieFuel.{rest-falls, interned-is}
 use Rattle.unwind.proofs.TrieGroups.{rest-paths, stepsAhead, pathsAhead, steps-start, paths-start, steps-step, paths-step, rest-some}
 use Rattle.unwind.proofs.TrieIntern.{funclet-behind}
@@ -116,6 +118,7 @@ module _ (m : RouteImage) (g : Group) where
       pub stack-long : length stack ≡ length stack₀
       pub key : KeyIn m g last
       pub stored : Stored nodes edges ends c
+      pub lower : Lower (nodesIn m nodes edges ends (c .nodes))
       pub below : (k : ℕ) → k < top → branchIn stack k ≡ branchIn stack₀ k
       pub edges-done : all .edges ≡ map (edgeOf m) (branches stack top n) ++ internEach made (pathsOf m g) (left last) (nodesIn m nodes edges ends (c .nodes)) .edges
       pub trie-done : all .trie ≡ internEach made (pathsOf m g) (left last) (nodesIn m nodes edges ends (c .nodes)) .trie
@@ -124,9 +127,9 @@ module _ (m : RouteImage) (g : Group) where
       pub stack-most : n + stepsAhead (keyOf m last) (pathsOf m g) ≤ weight (pathsOf m g)
       pub ends-most : c .ends + pathsAhead (keyOf m last) (pathsOf m g) + length (endsList (pathsOf m g)) ≤ c₀ .ends + length (pathsOf m g)
 
-    pub work-start : Stored nodes₀ edges₀ ends₀ c₀ → Working nodes₀ edges₀ ends₀ stack₀ c₀ 0 Nothing
+    pub work-start : Stored nodes₀ edges₀ ends₀ c₀ → Lower (nodesIn m nodes₀ edges₀ ends₀ (c₀ .nodes)) → Working nodes₀ edges₀ ends₀ stack₀ c₀ 0 Nothing
     unfolding keyOf branches table
-    work-start stored =
+    work-start stored lower =
         record {
           nodes-long = refl;
           edges-long = refl;
@@ -134,6 +137,7 @@ module _ (m : RouteImage) (g : Group) where
           stack-long = refl;
           key = tt;
           stored = stored;
+          lower = lower;
           below = λ k h. refl;
           edges-done = rw all-keys;
           trie-done = rw all-keys;
@@ -208,6 +212,12 @@ module _ (m : RouteImage) (g : Group) where
           child-trie : child .trie ≡ nodesIn m nodes′ edges′ ends′ (r .counts .nodes)
           child-trie = sym (done .trie ∙ ap (λ (x : Made). x .trie) same-child)
 
+          child-lower : Lower (nodesIn m nodes′ edges′ ends′ (r .counts .nodes))
+          unfolding child
+          child-lower =
+              subst Lower child-trie
+              (interned-lower (g .route) (some (keyIn m key .what)) (rest (keyIn m key) (pathsOf m g)) (nodesIn m nodes edges ends (c .nodes)) (work .lower))
+
           edge-is : edgeOf m edge ≡ tagged (keyIn m key .calls) (child .place)
           unfolding edgeOf keyIn
           edge-is = ap (tagged (tagsIn m (key .step) (key .calls))) (done .place ∙ ap (λ (x : Made). x .place) same-child)
@@ -243,6 +253,7 @@ module _ (m : RouteImage) (g : Group) where
                   stack-long = put .long ∙ ls ∙ work .stack-long;
                   key = next .stands;
                   stored = done .stored;
+                  lower = child-lower;
                   below = λ k h. put .others k (λ e. omega arith) ∙ done .below k (omega arith) ∙ work .below k h;
                   edges-done =
                       work .edges-done

@@ -57,9 +57,9 @@ unfoldable pub nodeHops : RouteImage → List ℕ → List ℕ → List ℕ → 
 nodeHops m nodes edges ends heads landings bases parts returns blocks i =
     cond (eqb (getD bases i 0) 0) [] (flat (copyHops m nodes edges ends heads landings parts returns i (getD bases i 0)) blocks)
 
--- numbers of blocks
-pub record BasesFew (bases : List ℕ) : Type 0 where
-  pub few : (i : ℕ) → getD bases i 0 ≤ 1024
+-- the first n are numbers of blocks
+pub record BasesFew (bases : List ℕ) (n : ℕ) : Type 0 where
+  pub few : (i : ℕ) → i < n → getD bases i 0 ≤ 1024
 
 pub record ManyHops (hs : List Hop) (r : Sizes) : Type 0 where
   pub of : HopsSize hs r

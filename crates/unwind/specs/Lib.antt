@@ -11,6 +11,7 @@ pub mod Keys
 pub mod Runs
 pub mod Laid
 pub mod Kept
+pub mod Lower
 pub mod Interns
 pub mod Routed
 pub mod Instance
@@ -25,8 +26,12 @@ pub mod Lent
 pub mod Sizes
 pub mod Copies
 pub mod HopWords
+pub mod AllNodes
 pub mod Wanted
+pub mod Flags
 pub mod Instances
 pub mod Add
 pub mod Walk
 pub mod Demand
+pub mod Answers
+pub mod Frames

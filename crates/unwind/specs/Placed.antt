@@ -10,7 +10,6 @@ use Rattle.image.specs.Refusal.{Check, clear, refusal, unless}
 use Rattle.image.specs.Image.{RouteImage, table}
 use Rattle.image.specs.Deal.{routesOf}
 use Rattle.graph.specs.Graph.{Graph}
-use Rattle.graph.specs.Fold.{some}
 use Rattle.graph.specs.Search.{Linked, Roomy}
 use Rattle.graph.specs.WellFormed.{Built}
 use Rattle.unwind.specs.Lists.{keep}
@@ -19,7 +18,7 @@ use Rattle.unwind.specs.Part.{funclets, returning}
 use Rattle.unwind.specs.PartSearch.{Barriers, Sources}
 use Rattle.unwind.specs.Trie.{Node, sameFunclet}
 use Rattle.unwind.specs.Nodes.{recordIn, funcletIn, nodesIn}
-use Rattle.unwind.specs.Instance.{entryBlock, partOf, blocksOf, later, base, entryOf, cloneBlocks}
+use Rattle.unwind.specs.Instance.{blocksOf, later, base, entryOf, cloneBlocks}
 
 -- set i of a slice, sixteen words each
 unfoldable pub setAt : List ℕ → ℕ → List ℕ
@@ -71,10 +70,10 @@ pub record Ready (g : Graph) (m : RouteImage) (n : ℕ) (head next barriers sour
   pub bars : Barriers g (routesOf m) barriers
   pub goes : Sources g sources
 
--- r is the first node with the funclet of node i
-pub record FirstLike (m : RouteImage) (nodes : List ℕ) (i r : ℕ) : Type 0 where
+-- r is the first node with the funclet of node i, of those before it whose stored entry is e; i if there is none
+pub record FirstWith (m : RouteImage) (nodes entries : List ℕ) (e i r : ℕ) : Type 0 where
   pub most : r ≤ i
-  pub none-before : some (like m nodes i) r ≡ false
+  pub none-before : (j : ℕ) → j < r → getD entries j 0 ≡ e → like m nodes i j ≡ false
   pub same : r < i → like m nodes i r ≡ true
 
 -- node i is stored so
@@ -83,14 +82,6 @@ pub record NodePlaced (i b e : ℕ) (w r bases entries parts returns bases′ en
   pub entries-set : entries′ ≡ set entries i e
   pub part-put : SetPut parts i w parts′
   pub returns-put : SetPut returns i r returns′
-
--- node i is the first of its funclet, and is stored so
-pub record FirstPlaced (g : Graph) (m : RouteImage) (nodes : List ℕ) (i : ℕ) (bases entries parts returns bases′ entries′ parts′ returns′ : List ℕ) : Type 0 where
-  pub part : List ℕ
-  pub ret : List ℕ
-  pub part-has : Has part (partOf g (funclets (routesOf m)) (funcletAt m nodes i))
-  pub returns-has : Has ret (keep (returning g) (partOf g (funclets (routesOf m)) (funcletAt m nodes i)))
-  pub placed : NodePlaced i 0 (entryBlock g (funcletAt m nodes i)) part ret bases entries parts returns bases′ entries′ parts′ returns′
 
 -- one more instance, which copies r blocks, the first as block b
 pub record Placing (g : Graph) (m : RouteImage) (nodes : List ℕ) (i b r : ℕ) (bases entries parts returns bases′ entries′ parts′ returns′ : List ℕ) : Type 0 where

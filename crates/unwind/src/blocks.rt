@@ -13,6 +13,7 @@ ghost use Rattle.graph.specs.Lookup.{Finds};
 ghost use Rattle.graph.specs.WellFormed.{Built};
 ghost use Rattle.unwind.specs.Blocks.{firstOf, lastOf, leading};
 ghost use Rattle.unwind.specs.Stands.{Stands, Before, Guards, leadingOf};
+ghost use Rattle.unwind.specs.Wanted.{RunsFit};
 
 // Whether an address starts a built block, lies inside one, or starts no instruction.
 pub enum Lead {
@@ -113,7 +114,7 @@ pub fn first_of(g: &Words, b: usize) -> TableEntry
 
 // The last instruction of block b.
 pub fn last_of(g: &Words, b: usize) -> TableEntry
-    requires { ⌜ Stands (heldIn (now g) .graph) ⌝ }
+    requires { ⌜ RunsFit (heldIn (now g) .graph) ⌝ }
     ensures { λ r. ⌜ r ≡ lastOf (heldIn (now (g .entry)) .graph) b ⌝ }
 {
     let run = block_at(g, b);

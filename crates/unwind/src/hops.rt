@@ -31,9 +31,9 @@ const HOP_BASE: usize = 8;
 
 const LIST_BASE: usize = 10248;
 
-const HOP_MOST: usize = 2048;
+pub const HOP_MOST: usize = 2048;
 
-const LIST_MOST: usize = 4096;
+pub const LIST_MOST: usize = 4096;
 
 // No hop and no list.
 pub fn empty_hops(h: &mut Hops)

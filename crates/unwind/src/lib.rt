@@ -1,4 +1,5 @@
 // The unwinding: what an addition of routes gives (specs), and why its hops spell the listed paths (proofs).
+pub mod add;
 mod blocks;
 mod checks;
 mod clones;
@@ -10,3 +11,4 @@ mod place;
 mod sides;
 mod slots;
 mod tries;
+mod wants;

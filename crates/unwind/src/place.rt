@@ -33,7 +33,7 @@ ghost use Rattle.unwind.specs.PartSearch.{PartFrom};
 ghost use Rattle.unwind.specs.Nodes.{funcletIn};
 ghost use Rattle.unwind.specs.Instance.{entryBlock};
 ghost use Rattle.unwind.specs.Add.{funcletCheck};
-ghost use Rattle.unwind.specs.Placed.{setAt, Slots, funcletAt, Ready, FirstLike, NodePlaced, FirstPlaced, Placing, PlacedAll};
+ghost use Rattle.unwind.specs.Placed.{setAt, Slots, funcletAt, Ready, FirstWith, NodePlaced, Placing, PlacedAll};
 
 // Most blocks of a graph (18).
 const MOST: usize = 1024;
@@ -84,7 +84,7 @@ pub fn place_nodes(
     Checked::Clear
 }
 
-// Node i, whose copies, if it makes any, begin with block `base`: how many it makes.
+// Node i: the first of its funclet has the original blocks, a later one copies, which begin with block `base`; how many.
 fn place_node(
     g: &Words,
     built: usize,
@@ -105,54 +105,16 @@ fn place_node(
     requires { ⌜ Ready (heldIn (now g) .graph) (routesIn (now s) y) built (now head) (now next) (now barriers) (now sources) × (funcletCheck (heldIn (now g) .graph) (funcletAt (routesIn (now s) y) (now nodes) i) ≡ clear) × Slots (i + 1) (now bases) (now entries) (now parts) (now returns) × (base ≤ 1024) ⌝ }
     ensures { λ r. ⌜ Placing (heldIn (now (g .entry)) .graph) (routesIn (now (s .entry)) y) (now (nodes .entry)) i base r (now (bases .entry)) (now (entries .entry)) (now (parts .entry)) (now (returns .entry)) (now (bases .exit)) (now (entries .exit)) (now (parts .exit)) (now (returns .exit)) ⌝ }
 {
-    let first = first_like(s, y, nodes, i);
+    let f = node_at(nodes, i).funclet;
+    let entry = entry_of(g, built, s, y, f);
+    let first = first_like(s, y, nodes, entries, entry, i);
     if first < i {
         return place_clone(first, i, base, bases, entries, parts, returns);
     }
-    place_first(
-        g,
-        built,
-        s,
-        y,
-        nodes,
-        head,
-        next,
-        barriers,
-        sources,
-        i,
-        bases,
-        entries,
-        parts,
-        returns,
-    );
-    0
-}
-
-// Node i, the first of its funclet: it has the original blocks.
-fn place_first(
-    g: &Words,
-    built: usize,
-    s: &[u8],
-    y: RouteLayout,
-    nodes: &[u16],
-    head: &[u16],
-    next: &[u16],
-    barriers: &[u64; 16],
-    sources: &[u64; 16],
-    i: usize,
-    bases: &mut [u16],
-    entries: &mut [u16],
-    parts: &mut [u64],
-    returns: &mut [u64],
-)
-    requires { ⌜ Ready (heldIn (now g) .graph) (routesIn (now s) y) built (now head) (now next) (now barriers) (now sources) × (funcletCheck (heldIn (now g) .graph) (funcletAt (routesIn (now s) y) (now nodes) i) ≡ clear) × Slots (i + 1) (now bases) (now entries) (now parts) (now returns) ⌝ }
-    ensures { λ _. ⌜ FirstPlaced (heldIn (now (g .entry)) .graph) (routesIn (now (s .entry)) y) (now (nodes .entry)) i (now (bases .entry)) (now (entries .entry)) (now (parts .entry)) (now (returns .entry)) (now (bases .exit)) (now (entries .exit)) (now (parts .exit)) (now (returns .exit)) ⌝ }
-{
-    let f = node_at(nodes, i).funclet;
-    let entry = entry_of(g, built, s, y, f);
     let part = part_at(g, head, next, barriers, f, entry);
     let ret = returns_of(g, sources, &part);
     store_node(i, 0, entry, &part, &ret, bases, entries, parts, returns);
+    0
 }
 
 // Node i, a later one of the funclet of node `first`: it has copies, the first of which is block `base`. How many?
@@ -175,14 +137,24 @@ fn place_clone(
     size_of(&part)
 }
 
-// The first node with the funclet of node i.
-fn first_like(s: &[u8], y: RouteLayout, nodes: &[u16], i: usize) -> usize
-    ensures { λ r. ⌜ FirstLike (routesIn (now (s .entry)) y) (now (nodes .entry)) i r ⌝ }
+// The first node with the funclet of node i, of those before it whose entry is block `entry`; i if there is none.
+fn first_like(
+    s: &[u8],
+    y: RouteLayout,
+    nodes: &[u16],
+    entries: &[u16],
+    entry: usize,
+    i: usize,
+) -> usize
+    requires { ⌜ i ≤ length (now entries) ⌝ }
+    ensures { λ r. ⌜ FirstWith (routesIn (now (s .entry)) y) (now (nodes .entry)) (now (entries .entry)) entry i r ⌝ }
 {
     let f = node_at(nodes, i).funclet;
     for j in 0..i {
-        if same_funclet(s, y, node_at(nodes, j).funclet, f) {
-            return j;
+        if entries[j] as usize == entry {
+            if same_funclet(s, y, node_at(nodes, j).funclet, f) {
+                return j;
+            }
         }
     }
     i

@@ -33,7 +33,7 @@ pub fn count_nodes(
     blocks: usize,
     exits: &mut [u16],
 ) -> Sizes
-    requires { ⌜ AllFit (now nodes) (now edges) (now ends) (λ i. i) count × (count ≤ 1024) × BasesFew (now bases) × (blocks ≤ 1024) × Roomy (now edges) (now ends) (now exits) ⌝ }
+    requires { ⌜ AllFit (now nodes) (now edges) (now ends) (λ i. i) count × (count ≤ 1024) × BasesFew (now bases) count × (blocks ≤ 1024) × Roomy (now edges) (now ends) (now exits) ⌝ }
     ensures { λ r. ⌜ ManyHops (flat (nodeHops (routesIn (now (s .entry)) y) (now (nodes .entry)) (now (edges .entry)) (now (ends .entry)) (now (heads .entry)) (now (landings .entry)) (now (bases .entry)) (now (parts .entry)) (now (returns .entry)) blocks) count) r ⌝ }
 {
     let mut sizes = Sizes {

@@ -89,7 +89,7 @@ fn gather_ends(
 }
 
 // The number of the end of path p, which is end k of the trie, out of block b.
-fn end_number(s: &[u8], y: RouteLayout, landings: &[u16], p: usize, k: usize, b: usize) -> usize
+pub fn end_number(s: &[u8], y: RouteLayout, landings: &[u16], p: usize, k: usize, b: usize) -> usize
     requires { ⌜ b < 65536 ⌝ }
     ensures { λ r. ⌜ (r ≡ endNumber (routesIn (now (s .entry)) y) b (now (landings .entry)) p k) × (r < 65536) ⌝ }
 {

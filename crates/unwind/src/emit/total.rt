@@ -35,7 +35,7 @@ pub fn count_hops(
     stored: Counts,
     exits: &mut [u16],
 ) -> Sizes
-    requires { ⌜ AcceptedRoutes (routesIn (now s) y) × TriesIn (routesIn (now s) y) (now nodes) (now edges) (now ends) (now roots) stored × Leads (heldIn (now g) .graph) (routesIn (now s) y) (now ends) (now heads) (now landings) stored × Sides (heldIn (now g) .graph) (routesIn (now s) y) (now guards) (now bases) (now returns) stored × PartsIn (heldIn (now g) .graph) (routesIn (now s) y) (now parts) stored × BasesFew (now bases) × Bounded (heldIn (now g) .graph) (routesOf (routesIn (now s) y)) × Roomy (now edges) (now ends) (now exits) ⌝ }
+    requires { ⌜ AcceptedRoutes (routesIn (now s) y) × TriesIn (routesIn (now s) y) (now nodes) (now edges) (now ends) (now roots) stored × Leads (heldIn (now g) .graph) (routesIn (now s) y) (now ends) (now heads) (now landings) stored × Sides (heldIn (now g) .graph) (routesIn (now s) y) (now guards) (now bases) (now returns) stored × PartsIn (heldIn (now g) .graph) (routesIn (now s) y) (now parts) stored × BasesFew (now bases) (stored .nodes) × Bounded (heldIn (now g) .graph) (routesOf (routesIn (now s) y)) × Roomy (now edges) (now ends) (now exits) ⌝ }
     ensures { λ r. ⌜ HopsSize (hopsOf (ways (heldIn (now (g .entry)) .graph) (routesOf (routesIn (now (s .entry)) y)))) r ⌝ }
 {
     let blocks = block_count(g);

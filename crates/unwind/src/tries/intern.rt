@@ -16,9 +16,10 @@ ghost use mathlib.Core.Path.{_≡_};
 ghost use Prim.Native.Nat.{suc, _+_, _≤_, _<_};
 ghost use lib.ListN.{length};
 ghost use Rattle.image.specs.Image.{routesIn};
-ghost use Rattle.unwind.specs.Nodes.{Stored};
+ghost use Rattle.unwind.specs.Nodes.{nodesIn, Stored};
 ghost use Rattle.unwind.specs.Interning.{pathsOf};
 ghost use Rattle.unwind.specs.Laid.{endsList};
+ghost use Rattle.unwind.specs.Lower.{Lower};
 ghost use Rattle.unwind.specs.Interns.{weight, groupBehind, funcletOf, Grouped, Room, Closes, Interns};
 
 // The node of a group. It calls itself for each group that its paths lead to, which has fewer steps left; the edges of the
@@ -35,7 +36,7 @@ pub fn intern(
     counts: Counts,
     top: usize,
 ) -> Interned
-    requires { ⌜ Grouped (routesIn (now s) y) (now starts) g × Stored (now nodes) (now edges) (now ends) counts × Room (now nodes) (now edges) (now ends) (now stack) counts top (suc (weight (pathsOf (routesIn (now s) y) g))) (weight (pathsOf (routesIn (now s) y) g)) (length (pathsOf (routesIn (now s) y) g)) ⌝ }
+    requires { ⌜ Grouped (routesIn (now s) y) (now starts) g × Stored (now nodes) (now edges) (now ends) counts × Room (now nodes) (now edges) (now ends) (now stack) counts top (suc (weight (pathsOf (routesIn (now s) y) g))) (weight (pathsOf (routesIn (now s) y) g)) (length (pathsOf (routesIn (now s) y) g)) × Lower (nodesIn (routesIn (now s) y) (now nodes) (now edges) (now ends) (counts .nodes)) ⌝ }
     ensures { λ r. ⌜ Interns (routesIn (now (s .entry)) y) g (now (nodes .entry)) (now (edges .entry)) (now (ends .entry)) (now (stack .entry)) counts top (now (nodes .exit)) (now (edges .exit)) (now (ends .exit)) (now (stack .exit)) r ⌝ }
 {
     let mut stored = counts;
@@ -88,7 +89,7 @@ fn close_node(
     top: usize,
     n: usize,
 ) -> Interned
-    requires { ⌜ Grouped (routesIn (now s) y) (now starts) g × Stored (now nodes) (now edges) (now ends) counts × Room (now nodes) (now edges) (now ends) (now stack) counts top 1 n (length (endsList (pathsOf (routesIn (now s) y) g))) ⌝ }
+    requires { ⌜ Grouped (routesIn (now s) y) (now starts) g × Stored (now nodes) (now edges) (now ends) counts × Room (now nodes) (now edges) (now ends) (now stack) counts top 1 n (length (endsList (pathsOf (routesIn (now s) y) g))) × Lower (nodesIn (routesIn (now s) y) (now nodes) (now edges) (now ends) (counts .nodes)) ⌝ }
     ensures { λ r. ⌜ Closes (routesIn (now (s .entry)) y) g (now (nodes .entry)) (now (edges .entry)) (now (ends .entry)) (now (stack .entry)) counts top n (now (nodes .exit)) (now (edges .exit)) (now (ends .exit)) r ⌝ }
 {
     let first_edge = counts.edges;

@@ -6,19 +6,24 @@ use crate::tries::store::Counts;
 use crate::tries::store::NodeRecord;
 use crate::tries::store::branch_at;
 use crate::tries::store::node_at;
+use crate::tries::store::number_at;
 use crate::tries::store::put_node;
 use image::access::step_at;
 use image::section::RouteLayout;
 ghost use mathlib.Core.Path.{_≡_};
+ghost use mathlib.Core.Bool.{_&&_};
 ghost use mathlib.Core.List.{map};
-ghost use Prim.Native.Nat.{_+_, _<_};
+ghost use Prim.Native.Nat.{_+_, _*_, _≤_, _<_};
+ghost use lib.Dec.{eqb};
+ghost use lib.ListN.{length};
 ghost use Rattle.image.specs.Image.{routesIn};
 ghost use Rattle.image.specs.Accepted.{AcceptedRoutes};
 ghost use Rattle.unwind.specs.Order.{same};
 ghost use Rattle.unwind.specs.Trie.{sameFunclet, sameNode, placeOf};
-ghost use Rattle.unwind.specs.Nodes.{branches, funcletIn, nodeIn, nodesIn, Stored, NodeSmall};
+ghost use Rattle.unwind.specs.Nodes.{recordIn, branches, funcletIn, nodeIn, nodesIn, Stored, NodeSmall};
 ghost use Rattle.unwind.specs.Interning.{ordered, meaning};
 ghost use Rattle.unwind.specs.Kept.{placeIn, Behind, Kept};
+ghost use Rattle.unwind.specs.Lower.{Lower, BehindChildren};
 
 // Where a node stands.
 pub enum Place {
@@ -42,7 +47,7 @@ pub fn keep_node(
     counts: Counts,
     x: NodeRecord,
 ) -> Interned
-    requires { ⌜ AcceptedRoutes (routesIn (now s) y) × Stored (now nodes) (now edges) (now ends) counts × Behind (now nodes) (now edges) (now ends) counts x ⌝ }
+    requires { ⌜ AcceptedRoutes (routesIn (now s) y) × Stored (now nodes) (now edges) (now ends) counts × Behind (now nodes) (now edges) (now ends) counts x × Lower (nodesIn (routesIn (now s) y) (now nodes) (now edges) (now ends) (counts .nodes)) ⌝ }
     ensures { λ r. ⌜ Kept (routesIn (now (s .entry)) y) (now (nodes .entry)) (now (edges .entry)) (now (ends .entry)) counts x (now (nodes .exit)) r ⌝ }
 {
     let n = counts.nodes;
@@ -62,7 +67,7 @@ pub fn keep_node(
     }
 }
 
-// The first of the n nodes that equals x.
+// The first of the n nodes that equals x. It stands behind the children of x.
 fn find_node(
     s: &[u8],
     y: RouteLayout,
@@ -72,15 +77,62 @@ fn find_node(
     n: usize,
     x: NodeRecord,
 ) -> Place
-    requires { ⌜ AcceptedRoutes (routesIn (now s) y) × NodeSmall x ⌝ }
+    requires { ⌜ AcceptedRoutes (routesIn (now s) y) × NodeSmall x × (6 * n ≤ length (now nodes)) × Lower (nodesIn (routesIn (now s) y) (now nodes) (now edges) (now ends) n) ⌝ }
     ensures { λ r. ⌜ placeIn r ≡ placeOf (nodeIn (routesIn (now (s .entry)) y) (now (edges .entry)) (now (ends .entry)) x) (nodesIn (routesIn (now (s .entry)) y) (now (nodes .entry)) (now (edges .entry)) (now (ends .entry)) n) ⌝ }
 {
-    for i in 0..n {
-        if same_node(s, y, edges, ends, x, node_at(nodes, i)) {
+    let low = behind_children(edges, x.first_edge, x.edges);
+    for i in low..n {
+        if stands_at(s, y, nodes, edges, ends, i, x) {
             return Place::At(i);
         }
     }
     Place::Nothing
+}
+
+// Behind the greatest node that the n edges from `first` on lead to.
+fn behind_children(edges: &[u16], first: usize, n: usize) -> usize
+    requires { ⌜ first + n < 1048576 ⌝ }
+    ensures { λ r. ⌜ BehindChildren (now (edges .entry)) first n r ⌝ }
+{
+    let mut low = 0;
+    for k in 0..n {
+        let child = branch_at(edges, first + k).what;
+        if low <= child {
+            low = child + 1;
+        }
+    }
+    low
+}
+
+// Whether node i equals x. Most that do not are told by their counts.
+fn stands_at(
+    s: &[u8],
+    y: RouteLayout,
+    nodes: &[u16],
+    edges: &[u16],
+    ends: &[u16],
+    i: usize,
+    x: NodeRecord,
+) -> bool
+    requires { ⌜ AcceptedRoutes (routesIn (now s) y) × NodeSmall x × (6 * i + 6 ≤ length (now nodes)) ⌝ }
+    ensures { λ r. ⌜ r ≡ sameNode (nodeIn (routesIn (now (s .entry)) y) (now (edges .entry)) (now (ends .entry)) x) (nodeIn (routesIn (now (s .entry)) y) (now (edges .entry)) (now (ends .entry)) (recordIn (now (nodes .entry)) i)) ⌝ }
+{
+    if counts_match(nodes, i, x.edges, x.ends) {
+        return same_node(s, y, edges, ends, x, node_at(nodes, i));
+    }
+    false
+}
+
+// Whether node i has so many edges and ends.
+fn counts_match(nodes: &[u16], i: usize, edges: usize, ends: usize) -> bool
+    requires { ⌜ 6 * i + 6 ≤ length (now nodes) ⌝ }
+    ensures { λ r. ⌜ r ≡ (eqb (recordIn (now (nodes .entry)) i .edges) edges && eqb (recordIn (now (nodes .entry)) i .ends) ends) ⌝ }
+{
+    let at = 6 * i;
+    if number_at(nodes, at + 3) == edges {
+        return number_at(nodes, at + 5) == ends;
+    }
+    false
 }
 
 // Equal nodes: all but the route.

@@ -72,6 +72,9 @@ fn same_steps(s: &[u8], y: RouteLayout, a: usize, b: usize, n: usize) -> bool
     requires { ⌜ AcceptedRoutes (routesIn (now s) y) × (a + n ≤ 1024) × (b + n ≤ 1024) ⌝ }
     ensures { λ r. ⌜ r ≡ sameSteps (routesIn (now (s .entry)) y) a b n ⌝ }
 {
+    if a == b {
+        return true;
+    }
     for i in 0..n {
         let x = step_at(s, y.steps, a + i);
         let z = step_at(s, y.steps, b + i);

@@ -9,14 +9,14 @@ use Rattle.graph.specs.Graph.{block}
 use Rattle.graph.specs.Words.{heldIn}
 use Rattle.graph.specs.Table.{entryAt}
 use Rattle.unwind.specs.Blocks.{lastOf}
-use Rattle.unwind.proofs.Standing.{run-fits, table-most}
+use Rattle.unwind.proofs.Standing.{table-most}
 use Rattle.unwind.proofs.blocks.last_of.Statement.{statement}
 use Rattle.unwind.proofs.blocks.last_of.Tie as tie
 
 add-end : tie.Need-add-end
 add-end c =
     let g = c .before .before .args .g .now in
-    omega (arith, run-fits (heldIn g .graph) (c .before .before .pre) (c .before .before .args .b), table-most g, ap (λ (x : Block). x .first) (c .before .block-at .ensures), ap (λ (x : Block). x .count) (c .before .block-at .ensures))
+    omega (arith, c .before .before .pre .fits (c .before .before .args .b), table-most g, ap (λ (x : Block). x .first) (c .before .block-at .ensures), ap (λ (x : Block). x .count) (c .before .block-at .ensures))
 
 returns : tie.Need-returns
 unfolding lastOf

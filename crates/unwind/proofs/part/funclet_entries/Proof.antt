@@ -46,7 +46,7 @@ returns c =
     let end = c .before .loop in
     let m = routesIn (a .s .now) (a .y) in
     let all : end .j ≡ length (m .steps) = rw (length-records stepFrom (a .s .now) (a .y .steps)) (omega arith) in
-    entries-are (heldIn (a .g .now) .graph) (start .pre .0) (a .built) (start .pre .1) (start .pre .2) m (start .pre .3) (end .set) (rw all at (end .inv .1))
+    entries-are (heldIn (a .g .now) .graph) (start .pre .0) (a .built) (start .pre .1) m (start .pre .2) (start .pre .3) (end .set) (rw all at (end .inv .1))
 
 pub funclet-entries-spec : {M : Type 1} → statement M
 funclet-entries-spec =

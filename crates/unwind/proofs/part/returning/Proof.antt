@@ -9,8 +9,12 @@ use Rattle.graph.specs.Words.{heldIn}
 use Rattle.unwind.specs.Lists.{keep, isEmpty}
 use Rattle.unwind.specs.Blocks.{lastOf}
 use Rattle.unwind.specs.Part.{ordinary, outgoing, returning}
+use Rattle.unwind.proofs.Standing.{run-fits}
 use Rattle.unwind.proofs.part.returning.Statement.{statement}
 use Rattle.unwind.proofs.part.returning.Tie as tie
+
+last-of-requires : tie.Need-last-of-requires
+last-of-requires c κs = record { fits = run-fits (heldIn (c .args .g .now) .graph) (c .pre .0) }
 
 returns : tie.Need-returns
 unfolding returning
@@ -32,4 +36,4 @@ returns-2 c =
     not-not false = refl
 
 pub returning-spec : {M : Type 1} → statement M
-returning-spec = tie.close (tie.spec (λ c κs. search needs) returns (λ c κs. search needs) returns-2)
+returning-spec = tie.close (tie.spec last-of-requires returns (λ c κs. search needs) returns-2)

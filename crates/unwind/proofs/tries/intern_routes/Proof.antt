@@ -37,6 +37,7 @@ intern-requires c κs =
       route-grouped _ (c .before .before .before .before .before .before .before .before .before .before .before .before .before .before .before .before .before .before .before .before .pre .0) _ _ _ _ _ _ (c .before .before .before .before .before .before .before .before .before .before .before .before .before .before .before .before .before .before .before .before .pre .1) _ _ _ _ _ _ _ _ (c .before .before .before .before .before .before .before .loop .inv .1) h _ (c .before .before .before .before .before .before .before .before .before .before .before .path-starts .ensures),
       c .before .before .before .before .before .before .before .loop .inv .1 .stored,
       route-room _ (c .before .before .before .before .before .before .before .before .before .before .before .before .before .before .before .before .before .before .before .before .pre .0) _ _ _ _ _ _ (c .before .before .before .before .before .before .before .before .before .before .before .before .before .before .before .before .before .before .before .before .pre .1) _ _ _ _ _ _ _ _ (c .before .before .before .before .before .before .before .loop .inv .1) h,
+      c .before .before .before .before .before .before .before .loop .inv .1 .lower,
     )
 
 cast-roots : tie.Need-cast-roots Inv-loop μ-loop

@@ -60,7 +60,7 @@ intern-loop-holds : (t : ℕ) → intern-lts.Need-loop-holds (
   put-branch-reads.Asked,
   put-branch-reads.Learnt,
 ) (intern-at t) intern.Post intern-Inv-loop intern-μ-loop
-intern-loop-holds t c = work-start _ _ _ _ _ _ _ _ (c .before .before .before .before .before .before .pre .1 .1)
+intern-loop-holds t c = work-start _ _ _ _ _ _ _ _ (c .before .before .before .before .before .before .pre .1 .1) (c .before .before .before .before .before .before .pre .1 .3)
 
 intern-next-key-requires : (t : ℕ) → intern-lts.Need-next-key-requires (
   next-key-reads.Asked,
@@ -119,7 +119,7 @@ intern-close-node-requires : (t : ℕ) → intern-lts.Need-close-node-requires (
 intern-close-node-requires t c κs =
     let m = routesIn (c .before .before .before .before .before .before .before .before .before .before .before .before .before .before .args .s .now) (c .before .before .before .before .before .before .before .before .before .before .before .before .before .before .args .y) in
     let next : NextOf m (c .before .before .before .before .before .before .before .before .before .before .before .before .before .before .args .g) (c .before .before .before .before .before .before .before .loop .last) Nothing = rw (c .before .before .before .before .enum-told .given .1) at (c .before .before .before .before .before .before .next-key .ensures) in
-    (c .before .before .before .before .before .before .before .before .before .before .before .before .before .before .pre .1 .0, c .before .before .before .before .before .before .before .loop .inv .stored, close-room m (c .before .before .before .before .before .before .before .before .before .before .before .before .before .before .args .g) (c .before .before .before .before .before .before .before .before .before .before .before .before .before .before .args .nodes .now) (c .before .before .before .before .before .before .before .before .before .before .before .before .before .before .args .edges .now) (c .before .before .before .before .before .before .before .before .before .before .before .before .before .before .args .ends .now) (c .before .before .before .before .before .before .before .before .before .before .before .before .before .before .args .stack .now) (c .before .before .before .before .before .before .before .before .before .before .before .before .before .before .args .counts) (c .before .before .before .before .before .before .before .before .before .before .before .before .before .before .args .top) (c .before .before .before .before .before .before .before .before .before .before .before .before .before .before .pre .1 .2) (c .before .before .before .before .before .before .before .loop .nodes) (c .before .before .before .before .before .before .before .loop .edges) (c .before .before .before .before .before .before .before .loop .ends) (c .before .before .before .before .before .before .before .loop .stack) (c .before .before .before .before .before .before .before .loop .stored) (c .before .before .before .before .before .before .before .loop .n) (c .before .before .before .before .before .before .before .loop .last) (c .before .before .before .before .before .before .before .loop .inv) next)
+    (c .before .before .before .before .before .before .before .before .before .before .before .before .before .before .pre .1 .0, c .before .before .before .before .before .before .before .loop .inv .stored, close-room m (c .before .before .before .before .before .before .before .before .before .before .before .before .before .before .args .g) (c .before .before .before .before .before .before .before .before .before .before .before .before .before .before .args .nodes .now) (c .before .before .before .before .before .before .before .before .before .before .before .before .before .before .args .edges .now) (c .before .before .before .before .before .before .before .before .before .before .before .before .before .before .args .ends .now) (c .before .before .before .before .before .before .before .before .before .before .before .before .before .before .args .stack .now) (c .before .before .before .before .before .before .before .before .before .before .before .before .before .before .args .counts) (c .before .before .before .before .before .before .before .before .before .before .before .before .before .before .args .top) (c .before .before .before .before .before .before .before .before .before .before .before .before .before .before .pre .1 .2) (c .before .before .before .before .before .before .before .loop .nodes) (c .before .before .before .before .before .before .before .loop .edges) (c .before .before .before .before .before .before .before .loop .ends) (c .before .before .before .before .before .before .before .loop .stack) (c .before .before .before .before .before .before .before .loop .stored) (c .before .before .before .before .before .before .before .loop .n) (c .before .before .before .before .before .before .before .loop .last) (c .before .before .before .before .before .before .before .loop .inv) next, c .before .before .before .before .before .before .before .loop .inv .lower)
 
 intern-same-length : (t : ℕ) → intern-lts.Need-same-length (
   next-key-reads.Asked,
@@ -242,7 +242,7 @@ intern-intern-requires t c κs =
     let next = found _ _ _ _ (c .before .before .before .before .before .before .next .given .1) (c .before .before .before .before .before .before .before .before .next-key .ensures) in
     rw (c .before .before .before .before .group-behind .ensures) (
       omega (arith, next-falls _ _ _ _ next, c .before .before .before .before .before .before .before .before .before .before .before .before .before .before .before .before .pre .0),
-      (child-grouped _ _ _ _ next _ (c .before .before .before .before .before .before .before .before .before .before .before .before .before .before .before .before .pre .1 .0), c .before .before .before .before .before .before .before .before .before .loop .inv .stored, child-room _ _ _ _ _ _ _ _ (c .before .before .before .before .before .before .before .before .before .before .before .before .before .before .before .before .pre .1 .2) _ _ _ _ _ _ _ (c .before .before .before .before .before .before .before .before .before .loop .inv) _ next),
+      (child-grouped _ _ _ _ next _ (c .before .before .before .before .before .before .before .before .before .before .before .before .before .before .before .before .pre .1 .0), c .before .before .before .before .before .before .before .before .before .loop .inv .stored, child-room _ _ _ _ _ _ _ _ (c .before .before .before .before .before .before .before .before .before .before .before .before .before .before .before .before .pre .1 .2) _ _ _ _ _ _ _ (c .before .before .before .before .before .before .before .before .before .loop .inv) _ next, c .before .before .before .before .before .before .before .before .before .loop .inv .lower),
     )
 
 intern-add-put-branch : (t : ℕ) → intern-lts.Need-add-put-branch (

@@ -8,7 +8,7 @@ use Rattle.unwind.proofs.tries.nodes.keep_node.Statement.{statement}
 use Rattle.unwind.proofs.tries.nodes.keep_node.Tie as tie
 
 find-node-requires : tie.Need-find-node-requires
-find-node-requires c κs = (c .before .before .before .before .before .pre .0, c .before .before .before .before .before .pre .2 .small)
+find-node-requires c κs = (c .before .before .before .before .before .pre .0, c .before .before .before .before .before .pre .2 .small, c .before .before .before .before .before .pre .1 .nodes-fit, c .before .before .before .before .before .pre .3)
 
 put-node-requires : tie.Need-put-node-requires
 put-node-requires c κs = (c .before .before .before .before .before .before .before .before .before .pre .2 .room, c .before .before .before .before .before .before .before .before .before .pre .2 .small)

@@ -8,6 +8,7 @@ use Rattle.image.specs.Deal.{stepOf}
 use Rattle.unwind.specs.Nodes.{stepIn}
 use Rattle.unwind.specs.Interning.{sameStep, sameSteps}
 use Rattle.unwind.proofs.TriePaths.{same-start, same-next, same-end, codes-differ, values-differ, steps-agree}
+use Rattle.unwind.proofs.TrieEarly.{same-self}
 use borrow.Author.Needs.{needs}
 use Rattle.unwind.proofs.tries.paths.same_steps.Statement.{statement}
 use Rattle.unwind.proofs.tries.paths.same_steps.Tie as tie
@@ -19,38 +20,43 @@ Inv-loop s y a b n i₀ i =
 abbrev μ-loop : tie.MeasureT-loop
 μ-loop s y a b n i₀ i = n - i
 
+returns : tie.Need-returns Inv-loop μ-loop
+returns c =
+    let m = routesIn (c .before .before .args .s .now) (c .before .before .args .y) in
+    sym (rw (c .if1 .taken) (same-self m (c .before .before .args .b) (c .before .before .args .n)))
+
 loop-holds : tie.Need-loop-holds Inv-loop μ-loop
 loop-holds c = (search needs, sym (same-start _ _ _ _))
 
-returns : tie.Need-returns Inv-loop μ-loop
-returns c =
-    let m = routesIn (c .before .before .before .before .before .before .before .before .args .s .now) (c .before .before .before .before .before .before .before .before .args .y) in
-    let x = c .before .before .before .before .step-at in
-    let z = c .before .before .before .step-at2 in
-    let differ : sameStep (stepOf (stepIn m (c .before .before .before .before .before .before .before .before .args .a + c .before .before .before .before .before .before .loop .i))) (stepOf (stepIn m (c .before .before .before .before .before .before .before .before .args .b + c .before .before .before .before .before .before .loop .i))) ≡ false =
-    rw (x .ensures, z .ensures) at (codes-differ (x .result) (z .result) (rw (x .ensures) (c .before .before .before .before .before .before .before .before .pre .0 .codes (c .before .before .before .before .before .before .before .before .args .a + c .before .before .before .before .before .before .loop .i))) (rw (z .ensures) (c .before .before .before .before .before .before .before .before .pre .0 .codes (c .before .before .before .before .before .before .before .before .args .b + c .before .before .before .before .before .before .loop .i))) (c .if1 .taken)) in
-    sym (c .before .before .before .before .before .before .loop .inv .1 ∙ same-next m (c .before .before .before .before .before .before .before .before .args .a) (c .before .before .before .before .before .before .before .before .args .b) (c .before .before .before .before .before .before .before .before .args .n) (c .before .before .before .before .before .before .loop .i) (c .before .before .before .before .before .loop-test .taken) ∙ rw differ)
-
 returns-2 : tie.Need-returns-2 Inv-loop μ-loop
 returns-2 c =
-    let m = routesIn (c .before .before .before .before .before .before .before .before .before .before .before .args .s .now) (c .before .before .before .before .before .before .before .before .before .before .before .args .y) in
-    let x = c .before .before .before .before .before .before .before .step-at in
-    let z = c .before .before .before .before .before .before .step-at2 in
-    let differ : sameStep (stepOf (stepIn m (c .before .before .before .before .before .before .before .before .before .before .before .args .a + c .before .before .before .before .before .before .before .before .before .loop .i))) (stepOf (stepIn m (c .before .before .before .before .before .before .before .before .before .before .before .args .b + c .before .before .before .before .before .before .before .before .before .loop .i))) ≡ false =
-    rw (x .ensures, z .ensures) at (values-differ (x .result) (z .result) (c .before .before .before .if1 .left) (c .if2 .taken)) in
-    sym (c .before .before .before .before .before .before .before .before .before .loop .inv .1 ∙ same-next m (c .before .before .before .before .before .before .before .before .before .before .before .args .a) (c .before .before .before .before .before .before .before .before .before .before .before .args .b) (c .before .before .before .before .before .before .before .before .before .before .before .args .n) (c .before .before .before .before .before .before .before .before .before .loop .i) (c .before .before .before .before .before .before .before .before .loop-test .taken) ∙ rw differ)
-
-loop-again : tie.Need-loop-again Inv-loop μ-loop
-loop-again c =
-    let m = routesIn (c .before .before .before .before .before .before .before .before .before .before .before .args .s .now) (c .before .before .before .before .before .before .before .before .before .before .before .args .y) in
-    let x = c .before .before .before .before .before .before .before .step-at in
-    let z = c .before .before .before .before .before .before .step-at2 in
-    let agree = rw (x .ensures, z .ensures) at (steps-agree (x .result) (z .result) (c .before .before .before .if1 .left) (c .if2 .left)) in
-    (search needs, c .before .before .before .before .before .before .before .before .before .loop .inv .1 ∙ same-next m (c .before .before .before .before .before .before .before .before .before .before .before .args .a) (c .before .before .before .before .before .before .before .before .before .before .before .args .b) (c .before .before .before .before .before .before .before .before .before .before .before .args .n) (c .before .before .before .before .before .before .before .before .before .loop .i) (c .before .before .before .before .before .before .before .before .loop-test .taken) ∙ rw agree)
+    let m = routesIn (c .before .before .before .before .before .before .before .before .before .args .s .now) (c .before .before .before .before .before .before .before .before .before .args .y) in
+    let x = c .before .before .before .before .step-at in
+    let z = c .before .before .before .step-at2 in
+    let differ : sameStep (stepOf (stepIn m (c .before .before .before .before .before .before .before .before .before .args .a + c .before .before .before .before .before .before .loop .i))) (stepOf (stepIn m (c .before .before .before .before .before .before .before .before .before .args .b + c .before .before .before .before .before .before .loop .i))) ≡ false =
+    rw (x .ensures, z .ensures) at (codes-differ (x .result) (z .result) (rw (x .ensures) (c .before .before .before .before .before .before .before .before .before .pre .0 .codes (c .before .before .before .before .before .before .before .before .before .args .a + c .before .before .before .before .before .before .loop .i))) (rw (z .ensures) (c .before .before .before .before .before .before .before .before .before .pre .0 .codes (c .before .before .before .before .before .before .before .before .before .args .b + c .before .before .before .before .before .before .loop .i))) (c .if2 .taken)) in
+    sym (c .before .before .before .before .before .before .loop .inv .1 ∙ same-next m (c .before .before .before .before .before .before .before .before .before .args .a) (c .before .before .before .before .before .before .before .before .before .args .b) (c .before .before .before .before .before .before .before .before .before .args .n) (c .before .before .before .before .before .before .loop .i) (c .before .before .before .before .before .loop-test .taken) ∙ rw differ)
 
 returns-3 : tie.Need-returns-3 Inv-loop μ-loop
 returns-3 c =
-    sym (c .before .loop .inv .1 ∙ same-end (routesIn (c .before .before .before .args .s .now) (c .before .before .before .args .y)) (c .before .before .before .args .a) (c .before .before .before .args .b) (c .before .before .before .args .n) (c .before .loop .i) (omega arith))
+    let m = routesIn (c .before .before .before .before .before .before .before .before .before .before .before .before .args .s .now) (c .before .before .before .before .before .before .before .before .before .before .before .before .args .y) in
+    let x = c .before .before .before .before .before .before .before .step-at in
+    let z = c .before .before .before .before .before .before .step-at2 in
+    let differ : sameStep (stepOf (stepIn m (c .before .before .before .before .before .before .before .before .before .before .before .before .args .a + c .before .before .before .before .before .before .before .before .before .loop .i))) (stepOf (stepIn m (c .before .before .before .before .before .before .before .before .before .before .before .before .args .b + c .before .before .before .before .before .before .before .before .before .loop .i))) ≡ false =
+    rw (x .ensures, z .ensures) at (values-differ (x .result) (z .result) (c .before .before .before .if2 .left) (c .if3 .taken)) in
+    sym (c .before .before .before .before .before .before .before .before .before .loop .inv .1 ∙ same-next m (c .before .before .before .before .before .before .before .before .before .before .before .before .args .a) (c .before .before .before .before .before .before .before .before .before .before .before .before .args .b) (c .before .before .before .before .before .before .before .before .before .before .before .before .args .n) (c .before .before .before .before .before .before .before .before .before .loop .i) (c .before .before .before .before .before .before .before .before .loop-test .taken) ∙ rw differ)
+
+loop-again : tie.Need-loop-again Inv-loop μ-loop
+loop-again c =
+    let m = routesIn (c .before .before .before .before .before .before .before .before .before .before .before .before .args .s .now) (c .before .before .before .before .before .before .before .before .before .before .before .before .args .y) in
+    let x = c .before .before .before .before .before .before .before .step-at in
+    let z = c .before .before .before .before .before .before .step-at2 in
+    let agree = rw (x .ensures, z .ensures) at (steps-agree (x .result) (z .result) (c .before .before .before .if2 .left) (c .if3 .left)) in
+    (search needs, c .before .before .before .before .before .before .before .before .before .loop .inv .1 ∙ same-next m (c .before .before .before .before .before .before .before .before .before .before .before .before .args .a) (c .before .before .before .before .before .before .before .before .before .before .before .before .args .b) (c .before .before .before .before .before .before .before .before .before .before .before .before .args .n) (c .before .before .before .before .before .before .before .before .before .loop .i) (c .before .before .before .before .before .before .before .before .loop-test .taken) ∙ rw agree)
+
+returns-4 : tie.Need-returns-4 Inv-loop μ-loop
+returns-4 c =
+    sym (c .before .loop .inv .1 ∙ same-end (routesIn (c .before .before .before .before .args .s .now) (c .before .before .before .before .args .y)) (c .before .before .before .before .args .a) (c .before .before .before .before .args .b) (c .before .before .before .before .args .n) (c .before .loop .i) (omega arith))
 
 pub same-steps-spec : {M : Type 1} → statement M
 same-steps-spec =
@@ -58,14 +64,15 @@ same-steps-spec =
     (tie.spec
     Inv-loop
     μ-loop
+    returns
     loop-holds
     (λ c. search needs)
     (λ c κs. search needs)
     (λ c. search needs)
     (λ c κs. search needs)
-    returns
     returns-2
+    returns-3
     (λ c. search needs)
     (λ c. search needs)
     loop-again
-    returns-3)
+    returns-4)

@@ -1,0 +1,5 @@
+pub mod Words
+pub mod Record
+pub mod Structs
+pub mod Change
+pub mod Read

@@ -1,0 +1,51 @@
+// A graph and its hops as structs behind a reference, where the Rust's Emitter stood: each function lends the words to the store's,
+// and promises what that one does.
+use graph::record::Edge;
+use graph::store::Words;
+use unwind::hops::HopRow;
+use unwind::hops::Hops;
+ghost use mathlib.Core.Path.{_≡_};
+ghost use Prim.Native.Nat.{_<_};
+ghost use lib.ListN.{length};
+ghost use Rattle.graph.specs.Graph.{edge};
+ghost use Rattle.graph.specs.Words.{heldIn};
+ghost use Rattle.graph.specs.Stored.{withEdge, Stored};
+ghost use Rattle.unwind.specs.HopWords.{hopAt, rowsIn, withHop, HopsStored};
+
+pub struct Graph {
+    pub words: Words,
+}
+
+pub struct HopList {
+    pub words: Hops,
+}
+
+// One edge more, behind the others; where there is no room, nothing changes.
+pub fn add_edge(g: &mut Graph, e: Edge)
+    ensures { λ _. ⌜ Stored (now (g .entry) .words) (now (g .exit) .words) (withEdge (heldIn (now (g .entry) .words)) e) ⌝ }
+{
+    graph::store::edges::add_edge(&mut g.words, e)
+}
+
+// Edge i, and zeros past the last.
+pub fn edge_at(g: &Graph, i: usize) -> Edge
+    ensures { λ r. ⌜ r ≡ edge (heldIn (now (g .entry) .words) .graph) i ⌝ }
+{
+    graph::store::edges::edge_at(&g.words, i)
+}
+
+// One hop more, behind the others.
+pub fn add_hop(h: &mut HopList, x: HopRow)
+    requires { ⌜ length (rowsIn (now h .words) .hops) < 2048 ⌝ }
+    ensures { λ _. ⌜ HopsStored (now (h .entry) .words) (now (h .exit) .words) (withHop (rowsIn (now (h .entry) .words)) x) ⌝ }
+{
+    unwind::hops::add_hop(&mut h.words, x)
+}
+
+// Hop i, one of those that there are.
+pub fn hop_at(h: &HopList, i: usize) -> HopRow
+    requires { ⌜ i < length (rowsIn (now h .words) .hops) ⌝ }
+    ensures { λ r. ⌜ r ≡ hopAt (rowsIn (now (h .entry) .words)) i ⌝ }
+{
+    unwind::hops::hop_at(&h.words, i)
+}

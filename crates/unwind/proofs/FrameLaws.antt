@@ -1,0 +1,131 @@
+-- The scratch of an addition, from its lengths to the instances that stand in it.
+--     framed                       the lengths of a frame for so many steps, paths and routes
+--     frame-room                   the room that is left where the tries stand
+--     nodes-checked                the checks of the nodes in scratch
+--     placements, at-hand          the instances, and then the sides
+-- Assumes nothing.
+use mathlib.Core.Path.{_≡_, refl, sym, ap, _∙_}
+use mathlib.Core.List.{List}
+use Prim.Native.Nat.{ℕ, _+_, _*_, _≤_, _<_}
+use native.Mathlib.Omega.{arith}
+use borrow.Author.Tests.{ltb-true}
+use lib.ListN.{length, replicate}
+use Rattle.image.specs.Refusal.{Check, clear}
+use Rattle.image.specs.Image.{RouteImage}
+use Rattle.image.specs.Deal.{routesOf}
+use Rattle.graph.specs.Graph.{Graph, Held}
+use Rattle.graph.specs.Fold.{checks}
+use Rattle.graph.specs.Search.{Linked, Roomy}
+use Rattle.graph.specs.WellFormed.{isBlock}
+use Rattle.unwind.specs.declared.tries.store.Counts.{Counts}
+use Rattle.unwind.specs.Stands.{Stands}
+use Rattle.unwind.specs.Trie.{Node, nodeAt, tries}
+use Rattle.unwind.specs.Nodes.{nodesIn}
+use Rattle.unwind.specs.Routed.{TriesIn}
+use Rattle.unwind.specs.Placed.{PlacedAll}
+use Rattle.unwind.specs.Sides.{Lands, GuardsIn}
+use Rattle.unwind.specs.Add.{nodeCheck}
+use Rattle.unwind.specs.Answers.{RoutesChecked}
+use Rattle.unwind.specs.Frames.{Frame, Room, Placements, AtHand}
+use Rattle.unwind.proofs.Standing.{stands-of}
+use Rattle.unwind.proofs.TrieNodes.{length-nodes}
+use Rattle.unwind.proofs.SizeChecks.{placed-in, bounded-in}
+
+-- ---- lengths
+
+module _ (g : Graph) (m : RouteImage) (steps paths routes : ℕ) (steps-few : length (m .steps) ≤ steps) (paths-few : length (m .paths) ≤ paths) (routes-few : length (m .routes) ≤ routes) (steps-most : steps ≤ 512) (paths-most : paths ≤ 128) where
+  pub framed : {starts nodes edges ends stack roots head next bases heads parts returns guards landings exits : List ℕ}
+      → length starts ≡ paths → length nodes ≡ 6 * (routes + steps) → length edges ≡ 3 * steps → length ends ≡ 3 * paths → length stack ≡ 3 * steps → length roots ≡ routes
+      → Roomy g head next → head ≡ replicate (length head) 0
+      → length bases ≡ routes + steps → length heads ≡ routes + steps → length parts ≡ 16 * (routes + steps) → length returns ≡ 16 * (routes + steps)
+      → length guards ≡ 16 * routes → length landings ≡ paths → length exits ≡ 6 * (steps + paths)
+      → Frame g m starts nodes edges ends stack roots head next bases heads parts returns guards landings exits
+  framed starts-long nodes-long edges-long ends-long stack-long roots-long links unlinked bases-long heads-long parts-long returns-long guards-long landings-long exits-long =
+      record {
+        scratch = record { starts-fit = omega arith; nodes-fit = omega arith; edges-fit = omega arith; ends-fit = omega arith; stack-fit = omega arith; roots-fit = omega arith };
+        links = links;
+        unlinked = unlinked;
+        bases-fit = omega arith;
+        heads-fit = omega arith;
+        parts-fit = omega arith;
+        returns-fit = omega arith;
+        guards-fit = omega arith;
+        landings-fit = omega arith;
+        exits-fit = record { edges-few = omega arith; ends-few = omega arith; room = omega arith };
+      }
+
+pub frame-room : {g : Graph} {m : RouteImage} {starts nodes edges ends stack roots head next bases heads parts returns guards landings exits nodes′ edges′ ends′ roots′ : List ℕ} {c : Counts}
+    → Frame g m starts nodes edges ends stack roots head next bases heads parts returns guards landings exits → TriesIn m nodes′ edges′ ends′ roots′ c
+    → length nodes′ ≡ length nodes → length edges′ ≡ length edges → length ends′ ≡ length ends
+    → Room g m edges′ ends′ head next bases heads parts returns guards landings exits c
+frame-room f t nodes-long edges-long ends-long =
+    let s = t .stored in
+    let nodes-fit = s .nodes-fit in
+    let ends-fit = s .ends-fit in
+    let bases-fit = f .bases-fit in
+    let heads-fit = f .heads-fit in
+    let parts-fit = f .parts-fit in
+    let returns-fit = f .returns-fit in
+    let landings-fit = f .landings-fit in
+    let x = f .exits-fit in
+    let edges-few = x .edges-few in
+    let ends-few = x .ends-few in
+    let room = x .room in
+    record {
+      links = f .links;
+      unlinked = f .unlinked;
+      slots = record { bases-fit = omega arith; entries-fit = omega arith; parts-fit = omega arith; returns-fit = omega arith };
+      guards-fit = f .guards-fit;
+      landings-fit = omega arith;
+      exits-fit = record { edges-few = omega arith; ends-few = omega arith; room = omega arith };
+    }
+
+-- ---- what stands
+
+module _ (h : Held) (n : ℕ) (m : RouteImage) (checked : RoutesChecked h n m) (nodes edges ends roots : List ℕ) (c : Counts) where
+  abbrev g : Graph
+  g = h .graph
+
+  blocks-some : Stands g → 0 < length (g .blocks)
+  unfolding isBlock
+  blocks-some s = omega (arith, ltb-true (g .entry) (length (g .blocks)) (s .ends .entry))
+
+  module _ (t : TriesIn m nodes edges ends roots c) where
+    pub nodes-checked : (k : Check) → ((edges′ : List ℕ) → k ≡ checks (λ i. nodeCheck g (nodeAt (nodesIn m nodes edges′ ends (c .nodes)) i)) (c .nodes)) → k ≡ checks (λ i. nodeCheck g (nodeAt (tries (routesOf m) .nodes) i)) (length (tries (routesOf m) .nodes))
+    nodes-checked k found =
+        let z : List Node = nodesIn m nodes edges ends (c .nodes) in
+        found edges
+        ∙ ap (checks (λ i. nodeCheck g (nodeAt z i))) (sym (length-nodes m nodes edges ends (c .nodes)))
+        ∙ ap (λ (z : List Node). checks (λ i. nodeCheck g (nodeAt z i)) (length z)) (t .nodes-are)
+
+    pub placements : {head next bases heads parts returns guards landings exits head′ next′ bases′ heads′ parts′ returns′ : List ℕ}
+        → Room g m edges ends head next bases heads parts returns guards landings exits c
+        → Linked g head′ next′ 0 → Roomy g head′ next′ → PlacedAll g m nodes (c .nodes) bases′ heads′ parts′ returns′ clear
+        → Placements g m nodes edges ends roots head′ next′ bases′ heads′ parts′ returns′ guards landings exits c
+    placements room linked links p =
+        record {
+          trie = t;
+          links = links;
+          linked = linked;
+          slots = p .slots;
+          placed = placed-in g m nodes edges ends roots _ _ _ _ c t p;
+          bounded = bounded-in g m nodes edges ends roots _ _ _ _ c t p (blocks-some (stands-of h (checked .graphed)));
+          guards-fit = room .guards-fit;
+          landings-fit = room .landings-fit;
+          exits-fit = room .exits-fit;
+        }
+
+  pub at-hand : {head next bases heads parts returns guards landings exits guards′ landings′ : List ℕ}
+      → Placements g m nodes edges ends roots head next bases heads parts returns guards landings exits c
+      → GuardsIn g m guards′ (length (m .routes)) → length guards′ ≡ length guards → Lands g m ends landings′ (c .ends)
+      → AtHand h m nodes edges ends roots head next bases heads parts returns guards′ landings′ exits c
+  at-hand p guarded long landed =
+      let fits = p .guards-fit in
+      record {
+        graphed = checked .graphed;
+        accepted = checked .accepted;
+        instances = record { trie = p .trie; slots = p .slots; placed = p .placed; guards-fit = omega arith; guarded = guarded; landed = landed; bounded = p .bounded };
+        links = p .links;
+        linked = p .linked;
+        exits-fit = p .exits-fit;
+      }

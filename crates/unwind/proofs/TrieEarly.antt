@@ -1,0 +1,69 @@
+-- What tells early that runs of steps are the same, or that nodes are not.
+--     same-self             a run is the same as itself
+--     counts-differ         nodes with other counts of edges or ends are not equal
+-- Assumes nothing.
+use mathlib.Core.Path.{_≡_, refl, sym, ap, _∙_}
+use mathlib.Core.Bool.{Bool, true, false, _&&_, and-false, false≢true}
+use mathlib.Core.List.{List, map}
+use Prim.Native.Nat.{ℕ, zero, suc, compare}
+use native.Mathlib.Decide.{ℕ-discrete}
+use borrow.Author.Tests.{eq-eqb}
+use lib.Dec.{eqb}
+use lib.ListN.{length, length-map}
+use Rattle.image.specs.Image.{RouteImage}
+use Rattle.image.specs.Deal.{UnwindStep, funclet, call, stepOf}
+use Rattle.unwind.specs.declared.tries.store.NodeRecord.{NodeRecord}
+use Rattle.unwind.specs.declared.tries.store.Branch.{Branch}
+use Rattle.unwind.specs.Order.{compareTagged, compareEnds, same}
+use Rattle.unwind.specs.Trie.{sameFunclet, sameNode}
+use Rattle.unwind.specs.Nodes.{stepIn, branches, funcletIn, edgeOf, endAt, nodeIn}
+use Rattle.unwind.specs.Interning.{sameStep, sameSteps}
+use Rattle.unwind.proofs.Lists.{and-true}
+use Rattle.unwind.proofs.TrieRuns.{length-branches}
+use Rattle.unwind.proofs.TrieNodes.{same-size}
+
+-- ---- runs of steps
+
+self-step : (x : UnwindStep) → sameStep x x ≡ true
+self-step (funclet a) = eq-eqb a a refl
+self-step (call a) = eq-eqb a a refl
+
+pub same-self : (m : RouteImage) (a n : ℕ) → sameSteps m a a n ≡ true
+unfolding sameSteps
+same-self m a zero = refl
+same-self m a (suc n) = and-true (self-step (stepOf (stepIn m a))) (same-self m (suc a) n)
+
+-- ---- nodes by their counts
+
+size : {A : Type 0} (f : Branch → A) (l : List ℕ) (a n : ℕ) → length (map f (branches l a n)) ≡ n
+size f l a n = length-map (branches l a n) f ∙ length-branches l a n
+
+module _ (m : RouteImage) (edges ends : List ℕ) (x z : NodeRecord) where
+  abbrev funclets : Bool
+  funclets = sameFunclet (funcletIn m (x .funclet)) (funcletIn m (z .funclet))
+
+  abbrev edges-same : Bool
+  edges-same = same (compareTagged compare) (map (edgeOf m) (branches edges (x .«first_edge») (x .edges))) (map (edgeOf m) (branches edges (z .«first_edge») (z .edges)))
+
+  abbrev ends-same : Bool
+  ends-same = same (compareTagged compareEnds) (map (endAt m) (branches ends (x .«first_end») (x .ends))) (map (endAt m) (branches ends (z .«first_end») (z .ends)))
+
+  edges-differ : (z .edges ≡ x .edges → ⊥) → sameNode (nodeIn m edges ends x) (nodeIn m edges ends z) ≡ false
+  unfolding sameNode nodeIn
+  edges-differ ne =
+      ap (λ (b : Bool). (funclets && b) && ends-same) (same-size (compareTagged compare) _ _ (λ e. ne (sym (sym (size (edgeOf m) edges (x .«first_edge») (x .edges)) ∙ e ∙ size (edgeOf m) edges (z .«first_edge») (z .edges)))))
+      ∙ ap (λ (b : Bool). b && ends-same) (and-false funclets)
+
+  ends-differ : (z .ends ≡ x .ends → ⊥) → sameNode (nodeIn m edges ends x) (nodeIn m edges ends z) ≡ false
+  unfolding sameNode nodeIn
+  ends-differ ne =
+      ap (λ (b : Bool). (funclets && edges-same) && b) (same-size (compareTagged compareEnds) _ _ (λ e. ne (sym (sym (size (endAt m) ends (x .«first_end») (x .ends)) ∙ e ∙ size (endAt m) ends (z .«first_end») (z .ends)))))
+      ∙ and-false (funclets && edges-same)
+
+  pub counts-differ : (eqb (z .edges) (x .edges) && eqb (z .ends) (x .ends)) ≡ false → sameNode (nodeIn m edges ends x) (nodeIn m edges ends z) ≡ false
+  counts-differ e = go (ℕ-discrete (z .edges) (x .edges)) (ℕ-discrete (z .ends) (x .ends))
+    where
+      go : Dec (z .edges ≡ x .edges) → Dec (z .ends ≡ x .ends) → sameNode (nodeIn m edges ends x) (nodeIn m edges ends z) ≡ false
+      go (no ne) d = edges-differ ne
+      go (yes p) (no ne) = ends-differ ne
+      go (yes p) (yes q) = absurd (false≢true (sym e ∙ and-true (eq-eqb (z .edges) (x .edges) p) (eq-eqb (z .ends) (x .ends) q)))

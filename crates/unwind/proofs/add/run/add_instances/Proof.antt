@@ -1,0 +1,45 @@
+-- The sides of the routes and of the ends, and then all is at hand. Assumes nothing.
+use Rattle.image.specs.Image.{routesIn}
+use Rattle.graph.specs.Words.{heldIn}
+use Rattle.unwind.proofs.Standing.{stands-of}
+use Rattle.unwind.proofs.FrameLaws.{at-hand}
+use borrow.Author.Needs.{needs}
+use Rattle.unwind.proofs.add.run.add_instances.Statement.{statement}
+use Rattle.unwind.proofs.add.run.add_instances.Tie as tie
+
+guard-routes-requires : tie.Need-guard-routes-requires
+guard-routes-requires c κs =
+    let start = c .before .before .before .before .before .before .before .before .before .before .before .before .before .before .before .before in
+    let a = start .args in
+    let k = start .pre .0 in
+    let p = start .pre .1 in
+    (stands-of (heldIn (a .g .now)) (k .graphed), k .built, p .guards-fit)
+
+land-ends-requires : tie.Need-land-ends-requires
+land-ends-requires c κs =
+    let start = c .before .before .before .before .before .before .before .before .before .before .before .before .before .before .before .before .before .before .before .before .before in
+    let a = start .args in
+    let k = start .pre .0 in
+    let p = start .pre .1 in
+    (stands-of (heldIn (a .g .now)) (k .graphed), k .built, p .landings-fit)
+
+add-placed-requires : tie.Need-add-placed-requires
+add-placed-requires c κs =
+    let start = c .before .before .before .before .before .before .before .before .before .before .before .before .before .before .before .before .before .before .before .before .before .before .before .before .before .before .before .before .before in
+    let a = start .args in
+    let k = start .pre .0 in
+    let p = start .pre .1 in
+    let guarded = c .before .before .before .before .before .before .before .before .before .before .before .before .guard-routes in
+    at-hand (heldIn (a .g .now)) (a .built) (routesIn (a .s .now) (a .y)) k (a .nodes .now) (a .edges .now) (a .ends .now) (a .roots .now) (a .stored) p (guarded .ensures) (guarded .kept .1 .1 .1 .1 .0) (c .before .before .before .before .before .before .before .land-ends .ensures)
+
+pub add-instances-spec : {M : Type 1} → statement M
+add-instances-spec =
+    tie.close
+    (tie.spec
+    guard-routes-requires
+    land-ends-requires
+    add-placed-requires
+    (λ c. search needs)
+    (λ c. search needs)
+    (λ c. search needs)
+    (λ c. search needs))

@@ -1,0 +1,55 @@
+-- `store_addition` meets its contract: hops, copies of edges, copies of blocks, route edges. Assumes nothing.
+use borrow.Author.Needs.{needs}
+use Rattle.image.specs.Image.{routesIn}
+use Rattle.graph.specs.Words.{heldIn}
+use Rattle.unwind.proofs.StoreLaws.{all-lent, links-lent, hops-fit, sets-stood, runs-stood, hops-lent, addition-laid, hops-laid}
+use Rattle.unwind.proofs.add.store.store_addition.Statement.{statement}
+use Rattle.unwind.proofs.add.store.store_addition.Tie as tie
+
+add-hops-requires : tie.Need-add-hops-requires
+add-hops-requires c κs =
+    let start = c .before .before .before .before .before .before .before .before .before .before .before .before .before .before .before .before .before in
+    let w = start .args .g .now in
+    let m = routesIn (start .args .s .now) (start .args .y) in
+    let l = all-lent w m (start .pre .0) in
+    (l .0, l .1, l .2, l .3, l .4, l .5, l .6, l .7, hops-fit (heldIn w .graph) m (start .pre .1))
+
+add-clone-edges-requires : tie.Need-add-clone-edges-requires
+add-clone-edges-requires c κs =
+    let start = c .before .before .before .before .before .before .before .before .before .before .before .before .before .before .before .before .before .before .before .before .before in
+    let l = links-lent (start .args .g .now) (routesIn (start .args .s .now) (start .args .y)) (start .pre .0) in
+    (l .0, l .1, l .2, l .4)
+
+add-clone-blocks-requires : tie.Need-add-clone-blocks-requires
+add-clone-blocks-requires c κs =
+    let start = c .before .before .before .before .before .before .before .before .before .before .before .before .before .before .before .before .before .before .before .before .before .before .before in
+    sets-stood (start .args .g .now) (routesIn (start .args .s .now) (start .args .y)) (start .pre .0) (c .before .add-clone-edges .ensures)
+
+add-route-edges-requires : tie.Need-add-route-edges-requires
+add-route-edges-requires c κs =
+    let start = c .before .before .before .before .before .before .before .before .before .before .before .before .before .before .before .before .before .before .before .before .before .before .before .before .before .before in
+    let w = start .args .g .now in
+    let m = routesIn (start .args .s .now) (start .args .y) in
+    let x = start .pre .0 in
+    let l = all-lent w m x in (
+      l .0,
+      l .1,
+      runs-stood w m x (c .before .before .before .before .add-clone-edges .ensures) (start .pre .1) (c .before .before .add-clone-blocks .ensures),
+      x .instances .guards-fit,
+      x .instances .slots .parts-fit,
+      x .instances .slots .returns-fit,
+      l .5 .few,
+      hops-lent w m x (c .before .before .before .before .before .before .before .before .add-hops .ensures),
+    )
+
+returns : tie.Need-returns
+returns c =
+    let start = c .before .before .before .before .before .before .before .before .before .before .before .before .before .before .before .before .before .before .before .before .before .before .before .before .before .before .before in
+    let w = start .args .g .now in
+    let m = routesIn (start .args .s .now) (start .args .y) in (
+      addition-laid w m (start .pre .0) (c .before .before .before .before .before .add-clone-edges .ensures) (start .pre .1) (c .before .before .before .add-clone-blocks .ensures) (c .add-route-edges .ensures),
+      hops-laid (heldIn w .graph) m (c .before .before .before .before .before .before .before .before .before .add-hops .ensures),
+    )
+
+pub store-addition-spec : {M : Type 1} → statement M
+store-addition-spec = tie.close (tie.spec add-hops-requires add-clone-edges-requires add-clone-blocks-requires add-route-edges-requires (λ c. search needs) returns)

@@ -1,0 +1,73 @@
+-- The scratch of an addition: what it asks of the lengths of the slices that it is lent, and what holds of them on the way.
+use mathlib.Core.Path.{_≡_}
+use mathlib.Core.Bool.{true}
+use mathlib.Core.List.{List}
+use Prim.Native.Nat.{ℕ, _*_, _≤_}
+use lib.ListN.{length, replicate}
+use Rattle.image.specs.Image.{RouteImage}
+use Rattle.image.specs.Deal.{routesOf}
+use Rattle.image.specs.Accepted.{AcceptedRoutes}
+use Rattle.image.specs.declared.section.RouteLayout.{RouteLayout}
+use Rattle.graph.specs.Graph.{Graph, Held}
+use Rattle.graph.specs.Search.{Linked, Roomy}
+use Rattle.graph.specs.WellFormed.{wellFormed}
+use Rattle.unwind.specs.declared.tries.store.Counts.{Counts}
+use Rattle.unwind.specs.Part.{funclets}
+use Rattle.unwind.specs.Trie.{tries}
+use Rattle.unwind.specs.Routed.{Scratch, TriesIn}
+use Rattle.unwind.specs.Placed.{Slots, Placed}
+use Rattle.unwind.specs.Lent as lent
+use Rattle.unwind.specs.Copies.{Bounded}
+use Rattle.unwind.specs.Instances.{Instances}
+
+-- a graph of a small frame, and routes with no more than so many steps, paths and routes
+pub record Few (g : Graph) (y : RouteLayout) (steps paths routes : ℕ) : Type 0 where
+  pub steps-few : y .steps .count ≤ steps
+  pub paths-few : y .paths .count ≤ paths
+  pub routes-few : y .routes .count ≤ routes
+  pub blocks-few : length (g .blocks) ≤ 64
+  pub edges-few : length (g .edges) ≤ 256
+
+-- THE FRAME: there is room for the tries of the routes, for the links of the graph, of which there are none yet, for an instance
+-- of each node that there is room for, and for the exits of a block
+pub record Frame (g : Graph) (m : RouteImage) (starts nodes edges ends stack roots head next bases heads parts returns guards landings exits : List ℕ) : Type 0 where
+  pub scratch : Scratch m starts nodes edges ends stack roots
+  pub links : Roomy g head next
+  pub unlinked : head ≡ replicate (length head) 0
+  pub bases-fit : length nodes ≤ 6 * length bases
+  pub heads-fit : length nodes ≤ 6 * length heads
+  pub parts-fit : 16 * length nodes ≤ 6 * length parts
+  pub returns-fit : 16 * length nodes ≤ 6 * length returns
+  pub guards-fit : 16 * length (m .routes) ≤ length guards
+  pub landings-fit : length ends ≤ 3 * length landings
+  pub exits-fit : lent.Roomy edges ends exits
+
+-- the room that is left where the tries stand
+pub record Room (g : Graph) (m : RouteImage) (edges ends head next bases heads parts returns guards landings exits : List ℕ) (c : Counts) : Type 0 where
+  pub links : Roomy g head next
+  pub unlinked : head ≡ replicate (length head) 0
+  pub slots : Slots (c .nodes) bases heads parts returns
+  pub guards-fit : 16 * length (m .routes) ≤ length guards
+  pub landings-fit : c .ends ≤ length landings
+  pub exits-fit : lent.Roomy edges ends exits
+
+-- instances that stand, and the room that is left then
+pub record Placements (g : Graph) (m : RouteImage) (nodes edges ends roots head next bases heads parts returns guards landings exits : List ℕ) (c : Counts) : Type 0 where
+  pub trie : TriesIn m nodes edges ends roots c
+  pub links : Roomy g head next
+  pub linked : Linked g head next 0
+  pub slots : Slots (c .nodes) bases heads parts returns
+  pub placed : Placed g (funclets (routesOf m)) (tries (routesOf m) .nodes) bases heads parts returns (c .nodes)
+  pub bounded : Bounded g (routesOf m)
+  pub guards-fit : 16 * length (m .routes) ≤ length guards
+  pub landings-fit : c .ends ≤ length landings
+  pub exits-fit : lent.Roomy edges ends exits
+
+-- routes whose instances are placed
+pub record AtHand (h : Held) (m : RouteImage) (nodes edges ends roots head next bases heads parts returns guards landings exits : List ℕ) (c : Counts) : Type 0 where
+  pub graphed : wellFormed h ≡ true
+  pub accepted : AcceptedRoutes m
+  pub instances : Instances (h .graph) m nodes edges ends roots bases heads parts returns guards landings c
+  pub links : Roomy (h .graph) head next
+  pub linked : Linked (h .graph) head next 0
+  pub exits-fit : lent.Roomy edges ends exits

@@ -1,0 +1,182 @@
+// The frames of an addition: scratch of three sizes, zeroed for each call, so that a small addition does not pay for a large one.
+use crate::add::AddedRoutes;
+use crate::add::run::add_in;
+use crate::hops::Hops;
+use graph::store::Words;
+use graph::store::blocks::block_count;
+use graph::store::edges::edge_count;
+use image::section::RouteLayout;
+ghost use mathlib.Core.Path.{_≡_};
+ghost use mathlib.Core.Bool.{true};
+ghost use Rattle.image.specs.Image.{routesIn};
+ghost use Rattle.graph.specs.Words.{heldIn};
+ghost use Rattle.unwind.specs.Answers.{Adds, RoutesChecked};
+ghost use Rattle.unwind.specs.Frames.{Few};
+
+// Routes whose own checks are clear, in the smallest frame that has room for them.
+pub fn add_checked(
+    g: &mut Words,
+    built: usize,
+    s: &[u8],
+    y: RouteLayout,
+    h: &mut Hops,
+) -> AddedRoutes
+    requires { ⌜ RoutesChecked (heldIn (now g)) built (routesIn (now s) y) ⌝ }
+    ensures { λ r. ⌜ Adds (routesIn (now (s .entry)) y) (now (g .entry)) (now (g .exit)) (now (h .entry)) (now (h .exit)) r ⌝ }
+{
+    if is_few(g, y, 8, 8, 4) {
+        return add_tiny(g, built, s, y, h);
+    }
+    if is_few(g, y, 64, 32, 8) {
+        return add_small(g, built, s, y, h);
+    }
+    add_full(g, built, s, y, h)
+}
+
+// Whether a graph is small, and routes have no more than so many steps, paths and routes.
+fn is_few(g: &Words, y: RouteLayout, steps: u32, paths: u32, routes: u32) -> bool
+    ensures { λ r. ⌜ (r ≡ true → Few (heldIn (now (g .entry)) .graph) y steps paths routes) ⌝ }
+{
+    if steps < y.steps.count {
+        return false;
+    }
+    if paths < y.paths.count {
+        return false;
+    }
+    if routes < y.routes.count {
+        return false;
+    }
+    (block_count(g) <= 64) & (edge_count(g) <= 256)
+}
+
+// Few routes, to a small graph.
+fn add_tiny(g: &mut Words, built: usize, s: &[u8], y: RouteLayout, h: &mut Hops) -> AddedRoutes
+    requires { ⌜ RoutesChecked (heldIn (now g)) built (routesIn (now s) y) × Few (heldIn (now g) .graph) y 8 8 4 ⌝ }
+    ensures { λ r. ⌜ Adds (routesIn (now (s .entry)) y) (now (g .entry)) (now (g .exit)) (now (h .entry)) (now (h .exit)) r ⌝ }
+{
+    let mut starts = [0u16; 8];
+    let mut nodes = [0u16; 72];
+    let mut edges = [0u16; 24];
+    let mut ends = [0u16; 24];
+    let mut stack = [0u16; 24];
+    let mut roots = [0u16; 4];
+    let mut head = [0u16; 64];
+    let mut next = [0u16; 256];
+    let mut bases = [0u16; 12];
+    let mut heads = [0u16; 12];
+    let mut parts = [0u64; 192];
+    let mut returns = [0u64; 192];
+    let mut guards = [0u64; 64];
+    let mut landings = [0u16; 8];
+    let mut exits = [0u16; 96];
+    add_in(
+        g,
+        built,
+        s,
+        y,
+        h,
+        &mut starts,
+        &mut nodes,
+        &mut edges,
+        &mut ends,
+        &mut stack,
+        &mut roots,
+        &mut head,
+        &mut next,
+        &mut bases,
+        &mut heads,
+        &mut parts,
+        &mut returns,
+        &mut guards,
+        &mut landings,
+        &mut exits,
+    )
+}
+
+// More of them.
+fn add_small(g: &mut Words, built: usize, s: &[u8], y: RouteLayout, h: &mut Hops) -> AddedRoutes
+    requires { ⌜ RoutesChecked (heldIn (now g)) built (routesIn (now s) y) × Few (heldIn (now g) .graph) y 64 32 8 ⌝ }
+    ensures { λ r. ⌜ Adds (routesIn (now (s .entry)) y) (now (g .entry)) (now (g .exit)) (now (h .entry)) (now (h .exit)) r ⌝ }
+{
+    let mut starts = [0u16; 32];
+    let mut nodes = [0u16; 432];
+    let mut edges = [0u16; 192];
+    let mut ends = [0u16; 96];
+    let mut stack = [0u16; 192];
+    let mut roots = [0u16; 8];
+    let mut head = [0u16; 64];
+    let mut next = [0u16; 256];
+    let mut bases = [0u16; 72];
+    let mut heads = [0u16; 72];
+    let mut parts = [0u64; 1152];
+    let mut returns = [0u64; 1152];
+    let mut guards = [0u64; 128];
+    let mut landings = [0u16; 32];
+    let mut exits = [0u16; 576];
+    add_in(
+        g,
+        built,
+        s,
+        y,
+        h,
+        &mut starts,
+        &mut nodes,
+        &mut edges,
+        &mut ends,
+        &mut stack,
+        &mut roots,
+        &mut head,
+        &mut next,
+        &mut bases,
+        &mut heads,
+        &mut parts,
+        &mut returns,
+        &mut guards,
+        &mut landings,
+        &mut exits,
+    )
+}
+
+// Any routes, to any graph.
+fn add_full(g: &mut Words, built: usize, s: &[u8], y: RouteLayout, h: &mut Hops) -> AddedRoutes
+    requires { ⌜ RoutesChecked (heldIn (now g)) built (routesIn (now s) y) ⌝ }
+    ensures { λ r. ⌜ Adds (routesIn (now (s .entry)) y) (now (g .entry)) (now (g .exit)) (now (h .entry)) (now (h .exit)) r ⌝ }
+{
+    let mut starts = [0u16; 128];
+    let mut nodes = [0u16; 3264];
+    let mut edges = [0u16; 1536];
+    let mut ends = [0u16; 384];
+    let mut stack = [0u16; 1536];
+    let mut roots = [0u16; 32];
+    let mut head = [0u16; 1024];
+    let mut next = [0u16; 4096];
+    let mut bases = [0u16; 544];
+    let mut heads = [0u16; 544];
+    let mut parts = [0u64; 8704];
+    let mut returns = [0u64; 8704];
+    let mut guards = [0u64; 512];
+    let mut landings = [0u16; 128];
+    let mut exits = [0u16; 3840];
+    add_in(
+        g,
+        built,
+        s,
+        y,
+        h,
+        &mut starts,
+        &mut nodes,
+        &mut edges,
+        &mut ends,
+        &mut stack,
+        &mut roots,
+        &mut head,
+        &mut next,
+        &mut bases,
+        &mut heads,
+        &mut parts,
+        &mut returns,
+        &mut guards,
+        &mut landings,
+        &mut exits,
+    )
+}

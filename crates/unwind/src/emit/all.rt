@@ -1,0 +1,167 @@
+// All hops of an addition, stored.
+use crate::emit::cloned::add_copies;
+use crate::emit::standing::add_blocks;
+use crate::hops::Hops;
+use crate::hops::empty_hops;
+use crate::tries::store::Counts;
+use crate::tries::store::number_at;
+use graph::store::Words;
+use graph::store::blocks::block_count;
+use image::section::RouteLayout;
+ghost use mathlib.Core.Path.{_≡_};
+ghost use mathlib.Core.List.{_++_};
+ghost use Prim.Native.Nat.{_+_, _≤_, _<_};
+ghost use lib.ListN.{length};
+ghost use Rattle.image.specs.Image.{routesIn};
+ghost use Rattle.image.specs.Deal.{routesOf};
+ghost use Rattle.image.specs.Accepted.{AcceptedRoutes};
+ghost use Rattle.graph.specs.Words.{heldIn};
+ghost use Rattle.graph.specs.Fold.{flat};
+ghost use Rattle.unwind.specs.Nodes.{recordIn};
+ghost use Rattle.unwind.specs.Gather.{NodeFits, AllFit};
+ghost use Rattle.unwind.specs.Ways.{ways, hopsOf};
+ghost use Rattle.unwind.specs.Routed.{TriesIn};
+ghost use Rattle.unwind.specs.Lent.{Leads, Sides, PartsIn, Roomy};
+ghost use Rattle.unwind.specs.Copies.{BasesFew, Bounded, nodeHops};
+ghost use Rattle.unwind.specs.HopWords.{hopsIn, HopsHeld, HopsFit, HopsBelow, HopsLaid};
+ghost use Rattle.unwind.specs.AllNodes.{behindNodes, NodeRises, NodesRise};
+
+// Of the graph before, and routes whose nodes are placed. What the words held is gone.
+pub fn add_hops(
+    g: &Words,
+    h: &mut Hops,
+    s: &[u8],
+    y: RouteLayout,
+    nodes: &[u16],
+    edges: &[u16],
+    ends: &[u16],
+    heads: &[u16],
+    landings: &[u16],
+    roots: &[u16],
+    guards: &[u64],
+    bases: &[u16],
+    parts: &[u64],
+    returns: &[u64],
+    stored: Counts,
+    exits: &mut [u16],
+)
+    requires { ⌜ AcceptedRoutes (routesIn (now s) y) × TriesIn (routesIn (now s) y) (now nodes) (now edges) (now ends) (now roots) stored × Leads (heldIn (now g) .graph) (routesIn (now s) y) (now ends) (now heads) (now landings) stored × Sides (heldIn (now g) .graph) (routesIn (now s) y) (now guards) (now bases) (now returns) stored × PartsIn (heldIn (now g) .graph) (routesIn (now s) y) (now parts) stored × BasesFew (now bases) (stored .nodes) × Bounded (heldIn (now g) .graph) (routesOf (routesIn (now s) y)) × Roomy (now edges) (now ends) (now exits) × HopsFit (hopsOf (ways (heldIn (now g) .graph) (routesOf (routesIn (now s) y)))) ⌝ }
+    ensures { λ _. ⌜ HopsLaid (routesIn (now (s .entry)) y) (now (h .entry)) (now (h .exit)) (hopsOf (ways (heldIn (now (g .entry)) .graph) (routesOf (routesIn (now (s .entry)) y)))) ⌝ }
+{
+    let blocks = block_count(g);
+    empty_hops(h);
+    add_blocks(
+        h,
+        s,
+        y,
+        nodes,
+        edges,
+        ends,
+        heads,
+        landings,
+        roots,
+        guards,
+        bases,
+        returns,
+        stored,
+        blocks,
+        exits,
+    );
+    add_nodes(
+        h,
+        s,
+        y,
+        nodes,
+        edges,
+        ends,
+        heads,
+        landings,
+        bases,
+        parts,
+        returns,
+        stored.nodes,
+        blocks,
+        exits,
+    );
+}
+
+// Those of the copies of all nodes, behind those of the first `blocks` blocks.
+fn add_nodes(
+    h: &mut Hops,
+    s: &[u8],
+    y: RouteLayout,
+    nodes: &[u16],
+    edges: &[u16],
+    ends: &[u16],
+    heads: &[u16],
+    landings: &[u16],
+    bases: &[u16],
+    parts: &[u64],
+    returns: &[u64],
+    count: usize,
+    blocks: usize,
+    exits: &mut [u16],
+)
+    requires { ⌜ AllFit (now nodes) (now edges) (now ends) (λ i. i) count × (count ≤ 1024) × NodesRise (now bases) (now parts) (now returns) blocks count × (blocks ≤ 1024) × Roomy (now edges) (now ends) (now exits) × HopsBelow (routesIn (now s) y) blocks (now h) × HopsFit (hopsIn (routesIn (now s) y) (now h) ++ flat (nodeHops (routesIn (now s) y) (now nodes) (now edges) (now ends) (now heads) (now landings) (now bases) (now parts) (now returns) blocks) count) ⌝ }
+    ensures { λ _. ⌜ HopsHeld (routesIn (now (s .entry)) y) (behindNodes (now (bases .entry)) (now (parts .entry)) blocks count) (now (h .entry)) (now (h .exit)) (hopsIn (routesIn (now (s .entry)) y) (now (h .entry)) ++ flat (nodeHops (routesIn (now (s .entry)) y) (now (nodes .entry)) (now (edges .entry)) (now (ends .entry)) (now (heads .entry)) (now (landings .entry)) (now (bases .entry)) (now (parts .entry)) (now (returns .entry)) blocks) count) ⌝ }
+{
+    for i in 0..count {
+        add_node(
+            h,
+            s,
+            y,
+            nodes,
+            edges,
+            ends,
+            heads,
+            landings,
+            bases,
+            parts,
+            returns,
+            i,
+            blocks,
+            exits,
+        );
+    }
+}
+
+// Those of node i, if it has copies.
+fn add_node(
+    h: &mut Hops,
+    s: &[u8],
+    y: RouteLayout,
+    nodes: &[u16],
+    edges: &[u16],
+    ends: &[u16],
+    heads: &[u16],
+    landings: &[u16],
+    bases: &[u16],
+    parts: &[u64],
+    returns: &[u64],
+    i: usize,
+    blocks: usize,
+    exits: &mut [u16],
+)
+    requires { ⌜ NodeFits (now edges) (now ends) (recordIn (now nodes) i) × (i < 65536) × NodeRises (now bases) (now parts) (now returns) blocks i × (blocks ≤ 1024) × Roomy (now edges) (now ends) (now exits) × HopsBelow (routesIn (now s) y) (behindNodes (now bases) (now parts) blocks i) (now h) × HopsFit (hopsIn (routesIn (now s) y) (now h) ++ nodeHops (routesIn (now s) y) (now nodes) (now edges) (now ends) (now heads) (now landings) (now bases) (now parts) (now returns) blocks i) ⌝ }
+    ensures { λ _. ⌜ HopsHeld (routesIn (now (s .entry)) y) (behindNodes (now (bases .entry)) (now (parts .entry)) blocks (i + 1)) (now (h .entry)) (now (h .exit)) (hopsIn (routesIn (now (s .entry)) y) (now (h .entry)) ++ nodeHops (routesIn (now (s .entry)) y) (now (nodes .entry)) (now (edges .entry)) (now (ends .entry)) (now (heads .entry)) (now (landings .entry)) (now (bases .entry)) (now (parts .entry)) (now (returns .entry)) blocks i) × (length (now (exits .exit)) ≡ length (now (exits .entry))) ⌝ }
+{
+    let base = number_at(bases, i);
+    if base != 0 {
+        add_copies(
+            h,
+            s,
+            y,
+            nodes,
+            edges,
+            ends,
+            heads,
+            landings,
+            parts,
+            returns,
+            i,
+            base,
+            blocks,
+            exits,
+        );
+    }
+}

@@ -1,0 +1,391 @@
+// The route edges of an addition, in the order in which routes first want them. Each pair is that of one hop, whose flag
+// says whether it was wanted before.
+use crate::blocks::first_of;
+use crate::blocks::last_of;
+use crate::emit::entries::LEAVE;
+use crate::emit::gather::end_number;
+use crate::hops::HopRow;
+use crate::hops::Hops;
+use crate::hops::hop_at;
+use crate::hops::hop_count;
+use crate::part::EXCEPTION_UNWIND;
+use crate::slots::set_at;
+use crate::tries::store::Counts;
+use crate::tries::store::branch_at;
+use crate::tries::store::node_at;
+use crate::tries::store::number_at;
+use graph::blockset::Lowest;
+use graph::blockset::lowest_in;
+use graph::blockset::rank_in;
+use graph::blockset::sixteen;
+use graph::blockset::take_from;
+use graph::record::Edge;
+use graph::store::Words;
+use graph::store::edges::add_edge;
+use image::section::RouteLayout;
+ghost use mathlib.Core.Path.{_≡_};
+ghost use mathlib.Core.List.{List, [], _∷_, map};
+ghost use Prim.Native.Nat.{ℕ, _+_, _*_, _≤_, _<_};
+ghost use lib.ListN.{length, getD};
+ghost use Rattle.image.specs.Image.{RouteImage, routesIn};
+ghost use Rattle.image.specs.Accepted.{AcceptedRoutes};
+ghost use Rattle.graph.specs.Words.{heldIn};
+ghost use Rattle.graph.specs.Fold.{flat};
+ghost use Rattle.graph.specs.Adding.{Added};
+ghost use Rattle.unwind.specs.Interning.{isLt};
+ghost use Rattle.unwind.specs.Nodes.{branchIn, recordIn};
+ghost use Rattle.unwind.specs.Routed.{TriesIn};
+ghost use Rattle.unwind.specs.Ways.{compareLeaps, hopsOf, routeEdge, routeEdges};
+ghost use Rattle.unwind.specs.Gather.{edgeExits, endNumber, endExits};
+ghost use Rattle.unwind.specs.HopWords.{hopsIn};
+ghost use Rattle.unwind.specs.Wanted.{wayOf, recordWays, guardWays, returnWays, lentWays, RunsFit};
+ghost use Rattle.unwind.specs.Flags.{pair, leapTo, wayTo, rowLeap, HopsRise, HopIs, HopStands, WaysStand, EdgesWanted, placeOf, setWays};
+
+// A flag for each hop.
+type Flags = [bool; 2048];
+
+const ROUTE: u64 = 10;
+
+// Adds the route edges to the graph that has the copies, told the hops of the same ways.
+pub fn add_route_edges(
+    g: &mut Words,
+    h: &Hops,
+    s: &[u8],
+    y: RouteLayout,
+    nodes: &[u16],
+    edges: &[u16],
+    ends: &[u16],
+    heads: &[u16],
+    landings: &[u16],
+    roots: &[u16],
+    guards: &[u64],
+    bases: &[u16],
+    parts: &[u64],
+    returns: &[u64],
+    stored: Counts,
+)
+    requires { ⌜ AcceptedRoutes (routesIn (now s) y) × TriesIn (routesIn (now s) y) (now nodes) (now edges) (now ends) (now roots) stored × RunsFit (heldIn (now g) .graph) × (16 * length (routesIn (now s) y .routes) ≤ length (now guards)) × (16 * stored .nodes ≤ length (now parts)) × (16 * stored .nodes ≤ length (now returns)) × ((i : ℕ) → i < stored .nodes → getD (now bases) i 0 ≤ 1024) × (hopsIn (routesIn (now s) y) (now h) ≡ hopsOf (lentWays (routesIn (now s) y) (now nodes) (now edges) (now ends) (now heads) (now landings) (now roots) (now guards) (now bases) (now parts) (now returns) (length (routesIn (now s) y .routes)) (stored .nodes))) ⌝ }
+    ensures { λ _. ⌜ Added (now (g .entry)) (now (g .exit)) (routeEdges (heldIn (now (g .entry)) .graph) [] (lentWays (routesIn (now (s .entry)) y) (now (nodes .entry)) (now (edges .entry)) (now (ends .entry)) (now (heads .entry)) (now (landings .entry)) (now (roots .entry)) (now (guards .entry)) (now (bases .entry)) (now (parts .entry)) (now (returns .entry)) (length (routesIn (now (s .entry)) y .routes)) (stored .nodes))) [] [] ⌝ }
+{
+    let mut done = [false; 2048];
+    want_guarded(
+        g,
+        h,
+        s,
+        y,
+        nodes,
+        edges,
+        ends,
+        heads,
+        landings,
+        roots,
+        guards,
+        &mut done,
+    );
+    want_returned(
+        g,
+        h,
+        s,
+        y,
+        nodes,
+        edges,
+        ends,
+        heads,
+        landings,
+        bases,
+        parts,
+        returns,
+        stored.nodes,
+        &mut done,
+    );
+}
+
+// What each route wants out of the blocks that it guards.
+fn want_guarded(
+    g: &mut Words,
+    h: &Hops,
+    s: &[u8],
+    y: RouteLayout,
+    nodes: &[u16],
+    edges: &[u16],
+    ends: &[u16],
+    heads: &[u16],
+    landings: &[u16],
+    roots: &[u16],
+    guards: &[u64],
+    done: &mut Flags,
+)
+    requires { ⌜ WaysStand (now h) (flat (guardWays (routesIn (now s) y) (now nodes) (now edges) (now ends) (now heads) (now landings) (now roots) (now guards)) (length (routesIn (now s) y .routes))) × RunsFit (heldIn (now g) .graph) × (16 * length (routesIn (now s) y .routes) ≤ length (now guards)) ⌝ }
+    ensures { λ _. ⌜ EdgesWanted (now (h .entry)) (now (g .entry)) (now (done .entry)) (flat (guardWays (routesIn (now (s .entry)) y) (now (nodes .entry)) (now (edges .entry)) (now (ends .entry)) (now (heads .entry)) (now (landings .entry)) (now (roots .entry)) (now (guards .entry))) (length (routesIn (now (s .entry)) y .routes))) (now (g .exit)) (now (done .exit)) ⌝ }
+{
+    let n = y.routes.count as usize;
+    for r in 0..n {
+        let i = number_at(roots, r);
+        let set = set_at(guards, r);
+        want_set(
+            g,
+            h,
+            s,
+            y,
+            nodes,
+            edges,
+            ends,
+            heads,
+            landings,
+            i,
+            r,
+            0,
+            &set,
+            &set,
+            done,
+        );
+    }
+}
+
+// What each of the n nodes wants out of the blocks from which it returns.
+fn want_returned(
+    g: &mut Words,
+    h: &Hops,
+    s: &[u8],
+    y: RouteLayout,
+    nodes: &[u16],
+    edges: &[u16],
+    ends: &[u16],
+    heads: &[u16],
+    landings: &[u16],
+    bases: &[u16],
+    parts: &[u64],
+    returns: &[u64],
+    n: usize,
+    done: &mut Flags,
+)
+    requires { ⌜ WaysStand (now h) (flat (returnWays (routesIn (now s) y) (now nodes) (now edges) (now ends) (now heads) (now landings) (now bases) (now parts) (now returns)) n) × RunsFit (heldIn (now g) .graph) × (16 * n ≤ length (now parts)) × (16 * n ≤ length (now returns)) × ((i : ℕ) → i < n → getD (now bases) i 0 ≤ 1024) ⌝ }
+    ensures { λ _. ⌜ EdgesWanted (now (h .entry)) (now (g .entry)) (now (done .entry)) (flat (returnWays (routesIn (now (s .entry)) y) (now (nodes .entry)) (now (edges .entry)) (now (ends .entry)) (now (heads .entry)) (now (landings .entry)) (now (bases .entry)) (now (parts .entry)) (now (returns .entry))) n) (now (g .exit)) (now (done .exit)) ⌝ }
+{
+    for i in 0..n {
+        let r = node_at(nodes, i).route;
+        let base = number_at(bases, i);
+        let part = set_at(parts, i);
+        let set = set_at(returns, i);
+        want_set(
+            g,
+            h,
+            s,
+            y,
+            nodes,
+            edges,
+            ends,
+            heads,
+            landings,
+            i,
+            r,
+            base,
+            &part,
+            &set,
+            done,
+        );
+    }
+}
+
+// What node i wants for route r out of the blocks of a set; where `base` is not 0, out of the copies that it has of them.
+fn want_set(
+    g: &mut Words,
+    h: &Hops,
+    s: &[u8],
+    y: RouteLayout,
+    nodes: &[u16],
+    edges: &[u16],
+    ends: &[u16],
+    heads: &[u16],
+    landings: &[u16],
+    i: usize,
+    r: usize,
+    base: usize,
+    part: &[u64; 16],
+    set: &[u64; 16],
+    done: &mut Flags,
+)
+    requires { ⌜ WaysStand (now h) (setWays (routesIn (now s) y) (now nodes) (now edges) (now ends) (now heads) (now landings) i r base (now part) (now set)) × RunsFit (heldIn (now g) .graph) × (base ≤ 1024) ⌝ }
+    ensures { λ _. ⌜ EdgesWanted (now (h .entry)) (now (g .entry)) (now (done .entry)) (setWays (routesIn (now (s .entry)) y) (now (nodes .entry)) (now (edges .entry)) (now (ends .entry)) (now (heads .entry)) (now (landings .entry)) i r base (now (part .entry)) (now (set .entry))) (now (g .exit)) (now (done .exit)) ⌝ }
+{
+    sixteen(set);
+    let mut left = *set;
+    loop {
+        let Lowest::At(o) = lowest_in(&left) else {
+            return;
+        };
+        take_from(&mut left, o);
+        let b = place_of(base, part, o);
+        want_from(
+            g,
+            h,
+            s,
+            y,
+            nodes,
+            edges,
+            ends,
+            heads,
+            landings,
+            i,
+            r,
+            b,
+            done,
+        );
+    }
+}
+
+// Where a node has block o.
+fn place_of(base: usize, part: &[u64; 16], o: usize) -> usize
+    requires { ⌜ (base ≤ 1024) × (o < 1024) ⌝ }
+    ensures { λ r. ⌜ (r ≡ placeOf base (now (part .entry)) o) × (r < 65536) ⌝ }
+{
+    if base == 0 {
+        return o;
+    }
+    sixteen(part);
+    base + rank_in(part, o)
+}
+
+// What node i wants for route r out of block b.
+fn want_from(
+    g: &mut Words,
+    h: &Hops,
+    s: &[u8],
+    y: RouteLayout,
+    nodes: &[u16],
+    edges: &[u16],
+    ends: &[u16],
+    heads: &[u16],
+    landings: &[u16],
+    i: usize,
+    r: usize,
+    b: usize,
+    done: &mut Flags,
+)
+    requires { ⌜ WaysStand (now h) (recordWays (routesIn (now s) y) (now nodes) (now edges) (now ends) (now heads) (now landings) r b (recordIn (now nodes) i)) × RunsFit (heldIn (now g) .graph) × (b < 65536) ⌝ }
+    ensures { λ _. ⌜ EdgesWanted (now (h .entry)) (now (g .entry)) (now (done .entry)) (recordWays (routesIn (now (s .entry)) y) (now (nodes .entry)) (now (edges .entry)) (now (ends .entry)) (now (heads .entry)) (now (landings .entry)) r b (recordIn (now (nodes .entry)) i)) (now (g .exit)) (now (done .exit)) ⌝ }
+{
+    let node = node_at(nodes, i);
+    want_edges(g, h, edges, heads, node.first_edge, node.edges, r, b, done);
+    want_ends(
+        g,
+        h,
+        s,
+        y,
+        ends,
+        landings,
+        node.first_end,
+        node.ends,
+        r,
+        b,
+        done,
+    );
+}
+
+// By its `count` edges from `first` on.
+fn want_edges(
+    g: &mut Words,
+    h: &Hops,
+    edges: &[u16],
+    heads: &[u16],
+    first: usize,
+    count: usize,
+    r: usize,
+    b: usize,
+    done: &mut Flags,
+)
+    requires { ⌜ HopsRise (now h) × ((j : ℕ) → j < count → HopStands (now h) (leapTo b (getD (now heads) (branchIn (now edges) (first + j) .what) 0))) × RunsFit (heldIn (now g) .graph) × (first < 65536) × (count < 65536) ⌝ }
+    ensures { λ _. ⌜ ((m : RouteImage) → EdgesWanted (now (h .entry)) (now (g .entry)) (now (done .entry)) (map (wayOf r) (edgeExits m b (now (edges .entry)) (now (heads .entry)) first count)) (now (g .exit)) (now (done .exit))) ⌝ }
+{
+    for k in 0..count {
+        let e = branch_at(edges, first + k);
+        let t = number_at(heads, e.what);
+        want(g, h, r, b, t, done);
+    }
+}
+
+// By its `count` ends from `first` on.
+fn want_ends(
+    g: &mut Words,
+    h: &Hops,
+    s: &[u8],
+    y: RouteLayout,
+    ends: &[u16],
+    landings: &[u16],
+    first: usize,
+    count: usize,
+    r: usize,
+    b: usize,
+    done: &mut Flags,
+)
+    requires { ⌜ HopsRise (now h) × ((j : ℕ) → j < count → HopStands (now h) (leapTo b (endNumber (routesIn (now s) y) b (now landings) (branchIn (now ends) (first + j) .what) (first + j)))) × RunsFit (heldIn (now g) .graph) × (first < 65536) × (count < 65536) × (b < 65536) ⌝ }
+    ensures { λ _. ⌜ EdgesWanted (now (h .entry)) (now (g .entry)) (now (done .entry)) (map (wayOf r) (endExits (routesIn (now (s .entry)) y) b (now (ends .entry)) (now (landings .entry)) first count)) (now (g .exit)) (now (done .exit)) ⌝ }
+{
+    for k in 0..count {
+        let e = branch_at(ends, first + k);
+        let t = end_number(s, y, landings, e.what, first + k, b);
+        want(g, h, r, b, t, done);
+    }
+}
+
+// Route r wants an edge from block b to the end of number t: it is added unless it was wanted before, and none leaves.
+fn want(g: &mut Words, h: &Hops, r: usize, b: usize, t: usize, done: &mut Flags)
+    requires { ⌜ HopsRise (now h) × HopStands (now h) (leapTo b t) × RunsFit (heldIn (now g) .graph) ⌝ }
+    ensures { λ _. ⌜ ((calls : List ℕ) → EdgesWanted (now (h .entry)) (now (g .entry)) (now (done .entry)) (wayTo r b t calls ∷ []) (now (g .exit)) (now (done .exit))) ⌝ }
+{
+    if t == LEAVE {
+        return;
+    }
+    let k = find_hop(h, b, t);
+    if done[k] {
+        return;
+    }
+    done[k] = true;
+    let e = route_edge(g, r, b, t);
+    add_edge(g, e);
+}
+
+// The edge from block b to block t, for route r.
+fn route_edge(g: &Words, r: usize, b: usize, t: usize) -> Edge
+    requires { ⌜ RunsFit (heldIn (now g) .graph) ⌝ }
+    ensures { λ e. ⌜ e ≡ routeEdge (heldIn (now (g .entry)) .graph) r b t ⌝ }
+{
+    Edge {
+        source: b as u64,
+        target: t as u64,
+        kind: EXCEPTION_UNWIND,
+        role: ROUTE,
+        number: r as u64,
+        key: 0,
+        source_address: last_of(g, b).address,
+        target_address: first_of(g, t).address,
+    }
+}
+
+// The hop from block b to block t, which there is.
+fn find_hop(h: &Hops, b: usize, t: usize) -> usize
+    requires { ⌜ HopsRise (now h) × HopStands (now h) (pair b t) ⌝ }
+    ensures { λ k. ⌜ HopIs (now (h .entry)) (pair b t) k × (k < 2048) ⌝ }
+{
+    let mut lo = 0;
+    let mut hi = hop_count(h);
+    while lo < hi {
+        let mid = lo + (hi - lo) / 2;
+        if comes_before(hop_at(h, mid), b as u64, t as u64) {
+            lo = mid + 1;
+        } else {
+            hi = mid;
+        }
+    }
+    lo
+}
+
+// Whether a hop stands before the one from block b to block t.
+fn comes_before(x: HopRow, b: u64, t: u64) -> bool
+    ensures { λ r. ⌜ r ≡ isLt (compareLeaps (rowLeap x) (pair b t)) ⌝ }
+{
+    if x.source != b {
+        return x.source < b;
+    }
+    (x.has_end != 0) & (x.end < t)
+}
