@@ -1,6 +1,7 @@
 -- Charts, computed.
 --     example       the one of document 01: the chart of the image's build is the text that stands there
 --     each-kind     records of every kind, with what may be absent there and absent
+--     each-hop      hops to a block and out of the function, with tags and without
 -- Assumes nothing.
 use mathlib.Core.Path.{_≡_, refl, ap, _∙_, sym}
 use mathlib.Core.Bool.{true, false}
@@ -17,7 +18,9 @@ use Rattle.graph.specs.Reached.{along, rounds, reachedBlocks}
 use Rattle.graph.specs.Fold.{flat, among}
 use Rattle.graph.proofs.Computed.{computed, computed-is}
 use Rattle.text.specs.Line.{bytes, digitsOf, decimal, field, line}
-use Rattle.text.specs.Chart.{builtLine, blockLine, edgeLine, regionLine, handlerLine, computes, unresolvedLine, callLine, graphLines, reachedLine, refusedLine, chartOf}
+use Rattle.unwind.specs.Lists.{joined}
+use Rattle.unwind.specs.Ways.{HopEnd, Hop}
+use Rattle.text.specs.Chart.{builtLine, blockLine, edgeLine, regionLine, handlerLine, computes, unresolvedLine, callLine, graphLines, endField, tagFields, hopLine, hopLines, reachedLine, refusedLine, chartLines, chartOf}
 
 abbrev op : ℕ → ℕ → ℕ → ℕ → Instruction
 op from to flow target = record { address = from; end = to; «has_end» = true; keeps = false; flow = flow; target = target; cases = 0 }
@@ -50,7 +53,7 @@ text =
 
 computed-example : chartOf (computed image) ≡ text
 unfolding image text computed bytes digitsOf decimal field line table entryAt along rounds reachedBlocks flat among
-    builtLine blockLine edgeLine regionLine handlerLine computes unresolvedLine callLine graphLines reachedLine refusedLine chartOf
+    builtLine blockLine edgeLine regionLine handlerLine computes unresolvedLine callLine graphLines joined hopLines reachedLine refusedLine chartLines chartOf
 computed-example = refl
 
 pub example : chartOf (buildOf image) ≡ text
@@ -90,3 +93,12 @@ pub each-kind : graphLines records ≡
 unfolding records bytes digitsOf decimal field line table entryAt
     builtLine blockLine edgeLine regionLine handlerLine computes unresolvedLine callLine graphLines
 each-kind = refl
+
+pub each-hop : hopLines
+    (record { source = 3; end = HopEnd.block 12; calls = [] ∷ (7 ∷ 4294967295 ∷ []) ∷ [] } ∷
+    record { source = 3; end = HopEnd.leave; calls = (0 ∷ []) ∷ [] } ∷
+    [])
+    ≡
+    map bytes ("hop 3 12 -\n" ∷ "hop 3 12 7 4294967295\n" ∷ "hop 3 leave 0\n" ∷ [])
+unfolding bytes digitsOf decimal field line joined endField tagFields hopLine hopLines
+each-hop = refl

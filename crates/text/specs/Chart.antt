@@ -1,17 +1,23 @@
 -- 'The program chart': its lines, 'kind by kind in this order'.
-use mathlib.Core.Bool.{Bool, not, _||_}
-use mathlib.Core.List.{List, [], _∷_, _++_}
+use mathlib.Core.Bool.{Bool, cond, not, _||_}
+use mathlib.Core.List.{List, [], _∷_, _++_, map}
 use Prim.Native.Nat.{ℕ}
 use lib.Dec.{eqb}
-use lib.ListN.{length}
+use lib.ListN.{length, drop}
 use Rattle.image.specs.Image.{table}
+use Rattle.image.specs.Little.{le1}
+use Rattle.image.specs.Read.{codeLayoutOf, endOf}
 use Rattle.image.specs.Refusal.{Refusal}
-use Rattle.graph.specs.Graph.{Graph, block, edge, region, handler, unresolvedTransfer, callSite}
+use Rattle.graph.specs.Graph.{Graph, held, block, edge, region, handler, unresolvedTransfer, callSite}
 use Rattle.graph.specs.Table.{entryAt}
 use Rattle.graph.specs.Flow.{HandlerKind, Unresolved}
-use Rattle.graph.specs.Build.{Outcome, built, refused}
+use Rattle.graph.specs.Build.{Outcome, built, refused, buildFrom}
 use Rattle.graph.specs.Reached.{reachedBlocks}
-use Rattle.text.specs.declared.field.Field.the-variants.{Number}
+use Rattle.unwind.specs.Lists.{joined}
+use Rattle.unwind.specs.Ways.{HopEnd, Hop}
+use Rattle.unwind.specs.Add.{Outcome as Adding, added, refused as notAdded, addRoutes}
+use Rattle.text.specs.declared.field.Field.{Field}
+use Rattle.text.specs.declared.field.Field.the-variants.{Number, Leave, Absent}
 use Rattle.text.specs.Line.{bytes, presentIf, line}
 
 -- '`built` blocks edges regions unresolved calls'
@@ -75,6 +81,22 @@ graphLines g =
     ++ (table (unresolvedLine g) (length (g .unresolved))
     ++ table (callLine g) (length (g .calls)))))))
 
+-- '`hop` source, end block or `leave`, tags'; 'What is absent, an empty tag list too, is `-`.'
+unfoldable pub endField : HopEnd → Field
+endField (HopEnd.block b) = Number b
+endField HopEnd.leave = Leave
+
+unfoldable pub tagFields : List ℕ → List Field
+tagFields [] = Absent ∷ []
+tagFields (t ∷ ts) = Number t ∷ map Number ts
+
+unfoldable pub hopLine : Hop → List ℕ → List ℕ
+hopLine h tags = line (bytes "hop") (Number (h .source) ∷ endField (h .end) ∷ tagFields tags)
+
+-- 'one line a list, sorted': as the hops of an addition stand, and the lists of each
+unfoldable pub hopLines : List Hop → List (List ℕ)
+hopLines hs = joined (λ h. map (hopLine h) (h .calls)) hs
+
 -- '`reached` count'
 unfoldable pub reachedLine : ℕ → List ℕ
 reachedLine n = line (bytes "reached") (Number n ∷ [])
@@ -83,7 +105,28 @@ reachedLine n = line (bytes "reached") (Number n ∷ [])
 unfoldable pub refusedLine : Refusal → List ℕ
 refusedLine r = line (bytes "refused") (Number (r .number) ∷ Number (r .first) ∷ Number (r .second) ∷ [])
 
--- the chart of a build
+-- a graph and the hops of the addition that made it: 'Lines, kind by kind in this order'
+unfoldable pub chartLines : Graph → List Hop → List (List ℕ)
+chartLines g hs = graphLines g ++ (hopLines hs ++ (reachedLine (length (reachedBlocks g)) ∷ []))
+
+-- the chart of a build, and of an addition
 unfoldable pub chartOf : Outcome → List (List ℕ)
 chartOf (refused r) = refusedLine r ∷ []
-chartOf (built g) = graphLines g ++ (reachedLine (length (reachedBlocks g)) ∷ [])
+chartOf (built g) = chartLines g []
+
+unfoldable pub addedChart : Adding → List (List ℕ)
+addedChart (notAdded r) = refusedLine r ∷ []
+addedChart (added a) = chartLines (a .graph) (a .hops)
+
+-- 'Routes for a later call are the last three sections alone.'
+unfoldable pub routeBytes : List ℕ → List ℕ
+routeBytes l = drop (endOf (codeLayoutOf l .handlers)) l
+
+-- 'in modes 1 and 2, adds the routes too; the lines then show the graph after the addition'
+unfoldable pub withRoutes : List ℕ → Outcome → List (List ℕ)
+withRoutes l (refused r) = chartOf (refused r)
+withRoutes l (built g) = cond (eqb (le1 l 1) 0) (chartOf (built g)) (addedChart (addRoutes (held g) (routeBytes l)))
+
+-- THE PROGRAM'S LINES for an image
+unfoldable pub chartFrom : List ℕ → List (List ℕ)
+chartFrom l = withRoutes l (buildFrom l)

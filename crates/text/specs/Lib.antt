@@ -1,3 +1,4 @@
 pub mod Line
 pub mod Put
 pub mod Chart
+pub mod HopText

@@ -5,7 +5,7 @@ use Prim.Native.Char.{code}
 use Prim.Native.Nat.{ℕ, zero, suc, _+_, _/_, _%_}
 use Prim.Native.String.{String}
 use Rattle.text.specs.declared.field.Field.{Field}
-use Rattle.text.specs.declared.field.Field.the-variants.{Number, Absent}
+use Rattle.text.specs.declared.field.Field.the-variants.{Number, Leave, Absent}
 
 -- the bytes of a plain text
 unfoldable pub bytes : String → List ℕ
@@ -22,10 +22,16 @@ digitsOf (suc k) (suc q) d = digitsOf k (suc q / 10) (suc q % 10) ++ ((48 + d) �
 unfoldable pub decimal : ℕ → List ℕ
 decimal n = digitsOf n (n / 10) (n % 10)
 
--- 'What is absent .. is `-`.'
+-- 'end block or `leave`'; 'What is absent .. is `-`.'
 unfoldable pub field : Field → List ℕ
 field (Number n) = 32 ∷ decimal n
+field Leave = 32 ∷ bytes "leave"
 field Absent = 32 ∷ 45 ∷ []
+
+-- fields one behind the other
+unfoldable pub fields : List Field → List ℕ
+fields [] = []
+fields (f ∷ fs) = field f ++ fields fs
 
 abbrev pub presentIf : Bool → ℕ → Field
 presentIf present n = cond present (Number n) Absent

@@ -2,9 +2,10 @@
 ghost use mathlib.Core.Path.{_≡_};
 ghost use Rattle.text.specs.Line.{presentIf};
 
-// A number, or what is absent.
+// A number, the way out of the function, or what is absent.
 pub enum Field {
     Number(u64),
+    Leave,
     Absent,
 }
 

@@ -11,10 +11,7 @@ pub fn put_word(out: &mut [u8], word: &[u8]) -> usize
     requires { ⌜ length (now word) ≤ length (now out) ⌝ }
     ensures { λ r. ⌜ Puts (now (word .entry)) (now (out .entry)) 0 (now (out .exit)) r ⌝ }
 {
-    for k in 0..word.len() {
-        out[k] = word[k];
-    }
-    word.len()
+    put_bytes(out, 0, word)
 }
 
 // A space and the field.
@@ -25,6 +22,7 @@ pub fn put_field(out: &mut [u8], at: usize, f: Field) -> usize
     let next = put_byte(out, at, 32);
     match f {
         Field::Number(n) => put_number(out, next, n),
+        Field::Leave => put_bytes(out, next, b"leave"),
         Field::Absent => put_byte(out, next, 45),
     }
 }
@@ -35,6 +33,16 @@ pub fn put_end(out: &mut [u8], at: usize) -> usize
     ensures { λ r. ⌜ Puts (10 ∷ []) (now (out .entry)) at (now (out .exit)) r ⌝ }
 {
     put_byte(out, at, 10)
+}
+
+fn put_bytes(out: &mut [u8], at: usize, word: &[u8]) -> usize
+    requires { ⌜ at + length (now word) ≤ length (now out) ⌝ }
+    ensures { λ r. ⌜ Puts (now (word .entry)) (now (out .entry)) at (now (out .exit)) r ⌝ }
+{
+    for k in 0..word.len() {
+        out[at + k] = word[k];
+    }
+    at + word.len()
 }
 
 // A number's digits.

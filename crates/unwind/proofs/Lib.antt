@@ -43,6 +43,7 @@ pub mod ClonesAre
 pub mod SideLaws
 pub mod HopLaws
 pub mod RowLaws
+pub mod ListRowLaws
 pub mod HeldLaws
 pub mod LentInstances
 pub mod SizeChecks

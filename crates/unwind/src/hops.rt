@@ -1,9 +1,10 @@
 // The hops of an addition as words that a caller lends. No contract above this module says where a word stands.
+ghost use mathlib.Core.List.{[]};
 ghost use mathlib.Core.Path.{_≡_};
 ghost use Prim.Native.Nat.{_+_, _-_, _≤_, _<_, min};
 ghost use lib.ListN.{length, getD};
 ghost use lib.Seq.{sets};
-ghost use Rattle.unwind.specs.HopWords.{hopAt, rowsIn, withHop, withRun, withWider, HopsStored, HopsEmptied};
+ghost use Rattle.unwind.specs.HopWords.{listRow, hopAt, rowsIn, withHop, withRun, withWider, HopsStored, HopsEmptied};
 
 pub type Hops = [u64; 18440];
 
@@ -92,6 +93,19 @@ pub fn hop_at(h: &Hops, i: usize) -> HopRow
         end: h[at + 2],
         first: h[at + 3],
         lists: h[at + 4],
+    }
+}
+
+// List k, one of those that there are.
+pub fn list_at(h: &Hops, k: usize) -> ListRow
+    requires { ⌜ k < length (rowsIn (now h) .lists) ⌝ }
+    ensures { λ r. ⌜ r ≡ getD (rowsIn (now (h .entry)) .lists) k (listRow []) ⌝ }
+{
+    list_count(h);
+    let at = LIST_BASE + 2 * k;
+    ListRow {
+        step: h[at],
+        calls: h[at + 1],
     }
 }
 

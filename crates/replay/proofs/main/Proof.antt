@@ -7,10 +7,10 @@ use Rattle.replay.proofs.main.Statement.{statement}
 use Rattle.replay.proofs.main.Tie as tie
 
 abbrev Inv-loop : tie.InvT-loop
-Inv-loop buffer₀ g₀ counter₀ buffer g counter = (counter ≤ 1000000) × (length buffer ≡ 65536)
+Inv-loop buffer₀ counter₀ buffer counter = (counter ≤ 1000000) × (length buffer ≡ 65536)
 
 abbrev μ-loop : tie.MeasureT-loop
-μ-loop buffer₀ g₀ counter₀ buffer g counter = 1000000 - counter
+μ-loop buffer₀ counter₀ buffer counter = 1000000 - counter
 
 pub main-spec : {M : Type 1} → statement M
 main-spec =

@@ -1,9 +1,9 @@
--- `put_field` meets its contract: a space, then the number's digits or the dash. Assumes nothing.
+-- `put_field` meets its contract: a space, then the number's digits, the word or the dash. Assumes nothing.
 use Prim.Native.Nat.{_≤_}
 use native.Mathlib.Omega.{arith}
 use borrow.Author.Needs.{needs}
 use lib.ListN.{length}
-use Rattle.text.specs.Line.{decimal, field}
+use Rattle.text.specs.Line.{bytes, decimal, field}
 use Rattle.text.proofs.PutLaws.{_then_}
 use Rattle.text.proofs.DecimalLaws.{decimal-word}
 use Rattle.text.proofs.put.put_field.Statement.{statement}
@@ -26,11 +26,18 @@ returns c =
     (rw (c .before .before .before .before .before .f .given .1) (space .ensures then digits .ensures), omega (arith, few (c .before .before .before .before), space .ensures .next, digits .ensures .next))
 
 returns-2 : tie.Need-returns-2
-unfolding field
+unfolding field bytes
 returns-2 c =
+    let space = c .before .before .before .before .before .before .before .before .before .put-byte in
+    let word = c .before .before .put-bytes in
+    (rw (c .before .before .before .before .before .enum-told .given .1) (space .ensures then word .ensures), omega (arith, space .ensures .next, word .ensures .next))
+
+returns-3 : tie.Need-returns-3
+unfolding field
+returns-3 c =
     let space = c .before .before .before .before .before .before .before .before .put-byte in
     let dash = c .before .before .put-byte2 in
-    (rw (c .before .before .before .before .enum-told .given .1) (space .ensures then dash .ensures), omega (arith, space .ensures .next, dash .ensures .next))
+    (rw (c .before .before .before .before .enum-told2 .given .1) (space .ensures then dash .ensures), omega (arith, space .ensures .next, dash .ensures .next))
 
 pub put-field-spec : {M : Type 1} → statement M
 put-field-spec =
@@ -40,8 +47,13 @@ put-field-spec =
     (λ c. search needs)
     put-number-requires
     (λ c. search needs)
+    (λ c. search needs)
+    (λ c κs. search needs)
+    (λ c. search needs)
     (λ c κs. search needs)
     (λ c. search needs)
     returns
     (λ c. search needs)
-    returns-2)
+    returns-2
+    (λ c. search needs)
+    returns-3)
