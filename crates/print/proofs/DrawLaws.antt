@@ -16,7 +16,7 @@ use Rattle.graph.specs.Words.{heldIn}
 use Rattle.graph.specs.Build.{Outcome, built, buildFrom}
 use Rattle.unwind.specs.declared.add.AddedRoutes.{AddedRoutes}
 use Rattle.unwind.specs.HopWords.{rowsIn, noRows, rowHops, hopsIn}
-use Rattle.unwind.specs.Add.{addRoutes}
+use Rattle.addition.specs.Add.{addRoutes}
 use Rattle.unwind.specs.Answers.{imageOf, answerOf}
 use Rattle.text.specs.Chart.{refusedLine, chartLines, chartOf, addedChart, routeBytes, withRoutes, chartFrom}
 

@@ -17,9 +17,9 @@ use Rattle.image.proofs.Accepted.{accepted-routes}
 use Rattle.graph.specs.Fold.{flat, checks}
 use Rattle.graph.specs.Graph.{Graph, Held, held}
 use Rattle.graph.specs.WellFormed.{wellFormed}
-use Rattle.unwind.specs.Trie.{tries, nodeAt}
-use Rattle.unwind.specs.Ways.{ways, hopsOf}
-use Rattle.unwind.specs.Add.{Addition, addition, Outcome, added, refused, outcome, routeCheck, nodeCheck, sizeCheck, addRoutesTo, addRead, addRoutes}
+use Rattle.addition.specs.Trie.{tries, nodeAt}
+use Rattle.addition.specs.Ways.{ways, hopsOf}
+use Rattle.addition.specs.Add.{Addition, addition, Outcome, added, refused, outcome, routeCheck, nodeCheck, sizeCheck, addRoutesTo, addRead, addRoutes}
 use Rattle.text.specs.Chart.{hopLines, routeBytes}
 use Rattle.text.specs.HopText.{hopIn, toldAt}
 use Rattle.text.proofs.HopTextLaws.{Short, all-told}

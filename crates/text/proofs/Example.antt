@@ -18,8 +18,8 @@ use Rattle.graph.specs.Reached.{along, rounds, reachedBlocks}
 use Rattle.graph.specs.Fold.{flat, among}
 use Rattle.graph.proofs.Computed.{computed, computed-is}
 use Rattle.text.specs.Line.{bytes, digitsOf, decimal, field, line}
-use Rattle.unwind.specs.Lists.{joined}
-use Rattle.unwind.specs.Ways.{HopEnd, Hop}
+use Rattle.addition.specs.Lists.{joined}
+use Rattle.addition.specs.Ways.{HopEnd, Hop}
 use Rattle.text.specs.Chart.{builtLine, blockLine, edgeLine, regionLine, handlerLine, computes, unresolvedLine, callLine, graphLines, endField, tagFields, hopLine, hopLines, reachedLine, refusedLine, chartLines, chartOf}
 
 abbrev op : ℕ → ℕ → ℕ → ℕ → Instruction

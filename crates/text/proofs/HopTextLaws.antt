@@ -26,9 +26,9 @@ use Rattle.graph.proofs.FoldLaws.{decided, flat-front}
 use Rattle.graph.proofs.SectionLaws.{size-most}
 use Rattle.unwind.specs.declared.hops.HopRow.{HopRow}
 use Rattle.unwind.specs.declared.hops.ListRow.{ListRow}
-use Rattle.unwind.specs.Lists.{joined}
-use Rattle.unwind.specs.Walk.{_∈_}
-use Rattle.unwind.specs.Ways.{Hop}
+use Rattle.addition.specs.Lists.{joined}
+use Rattle.addition.specs.Walk.{_∈_}
+use Rattle.addition.specs.Ways.{Hop}
 use Rattle.unwind.specs.Nodes.{stepIn, tagsIn}
 use Rattle.unwind.specs.HopWords.{listRows, listRow, rowsIn, hopAt, endFrom, tagsFrom, rowHop, rowHops, hopsIn}
 use Rattle.unwind.proofs.EntryLaws.{table-front}

@@ -20,18 +20,18 @@ use Rattle.image.specs.declared.record.Step.{Step}
 use Rattle.image.specs.Deal.{UnwindStep, funclet, call, UnwindEnd, UnwindPath, UnwindRoute, deal, stepOf, endOf, pathsOf, routesOf}
 use Rattle.graph.specs.Graph.{Graph}
 use Rattle.graph.specs.Fold.{flat}
-use Rattle.unwind.specs.Lists.{joined}
-use Rattle.unwind.specs.Order.{Tagged, tagged, compareTagged, sorted}
-use Rattle.unwind.specs.Blocks.{guarded}
-use Rattle.unwind.specs.Part.{funclets}
-use Rattle.unwind.specs.Instance.{entryOf, returnsOf}
-use Rattle.unwind.specs.Trie.{Node, endsOf, groups, rest, Interned, placeOf, created, create, internEach, nodeOf, intern, longest, internRoutes, tries, nodeAt}
-use Rattle.unwind.specs.Walk.{_∈_}
-use Rattle.unwind.specs.Ways.{HopEnd, Hop, Way, endAt, waysFrom, routeWays, nodeWays, ways, hopsOf}
-use Rattle.unwind.proofs.Lists.{none-in, joined-mem, map-mem, flat-mem}
-use Rattle.unwind.proofs.Order.{sorted-mem}
-use Rattle.unwind.proofs.Paths.{path, steps-of, ends-mem, rest-mem, groups-mem}
-use Rattle.unwind.proofs.HopWays.{ways-split, hop-way}
+use Rattle.addition.specs.Lists.{joined}
+use Rattle.addition.specs.Order.{Tagged, tagged, compareTagged, sorted}
+use Rattle.addition.specs.Blocks.{guarded}
+use Rattle.addition.specs.Part.{funclets}
+use Rattle.addition.specs.Instance.{entryOf, returnsOf}
+use Rattle.addition.specs.Trie.{Node, endsOf, groups, rest, Interned, placeOf, created, create, internEach, nodeOf, intern, longest, internRoutes, tries, nodeAt}
+use Rattle.addition.specs.Walk.{_∈_}
+use Rattle.addition.specs.Ways.{HopEnd, Hop, Way, endAt, waysFrom, routeWays, nodeWays, ways, hopsOf}
+use Rattle.addition.proofs.Lists.{none-in, joined-mem, map-mem, flat-mem}
+use Rattle.addition.proofs.Order.{sorted-mem}
+use Rattle.addition.proofs.Paths.{path, steps-of, ends-mem, rest-mem, groups-mem}
+use Rattle.addition.proofs.HopWays.{ways-split, hop-way}
 use Rattle.text.proofs.HopTextLaws.{Short}
 
 steps-long : (l : List ℕ) (f : ℕ) (s : List UnwindStep) → length (steps-of l f s) ≡ length l + suc (length s)

@@ -13,9 +13,9 @@ use Rattle.graph.specs.Table.{entryAt}
 use Rattle.graph.specs.Flow.{HandlerKind, Unresolved}
 use Rattle.graph.specs.Build.{Outcome, built, refused, buildFrom}
 use Rattle.graph.specs.Reached.{reachedBlocks}
-use Rattle.unwind.specs.Lists.{joined}
-use Rattle.unwind.specs.Ways.{HopEnd, Hop}
-use Rattle.unwind.specs.Add.{Outcome as Adding, added, refused as notAdded, addRoutes}
+use Rattle.addition.specs.Lists.{joined}
+use Rattle.addition.specs.Ways.{HopEnd, Hop}
+use Rattle.addition.specs.Add.{Outcome as Adding, added, refused as notAdded, addRoutes}
 use Rattle.text.specs.declared.field.Field.{Field}
 use Rattle.text.specs.declared.field.Field.the-variants.{Number, Leave, Absent}
 use Rattle.text.specs.Line.{bytes, presentIf, line}

@@ -2,7 +2,7 @@
 use mathlib.Core.List.{List, [], map}
 use Prim.Native.Nat.{ℕ}
 use lib.ListN.{getD, take}
-use Rattle.unwind.specs.Ways.{HopEnd, Hop}
+use Rattle.addition.specs.Ways.{HopEnd, Hop}
 use Rattle.text.specs.Chart.{hopLine}
 
 -- hop i, past the last one without lists
