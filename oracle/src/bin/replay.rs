@@ -1,6 +1,6 @@
 //! `replay DIR [FAMILY SEED COUNT]`: writes DIR/stdin, images for the program
 //! `replay`, each after its length in 4 bytes, and DIR/stdout, the chart of
-//! what the published Rust builds of each, routes not added.
+//! each by the published Rust.
 //!
 //! Without a family these are the stored ones: small images of every family,
 //! and one of any size for each refusal that no image before it met.
@@ -62,7 +62,7 @@ impl Files {
         for index in 0..TRIED {
             let bytes = generate::image(family, SEED, index * step);
             let small = bytes.len() <= MOST && left > 0;
-            if small || self.is_new(&answer::build(&bytes)) {
+            if small || self.is_new(&answer::whole(&bytes)) {
                 self.put(&bytes);
                 left -= usize::from(small);
             }
@@ -74,7 +74,7 @@ impl Files {
     }
 
     fn put(&mut self, bytes: &[u8]) {
-        let outcome = answer::build(bytes);
+        let outcome = answer::whole(bytes);
         if let Err(refusal) = &outcome {
             self.met.insert(refusal.number);
         }
