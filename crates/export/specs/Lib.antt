@@ -1,3 +1,4 @@
 pub mod Told
 pub mod Answers
 pub mod Additions
+pub mod Charts

@@ -1,4 +1,5 @@
 // What Rust and C call: numbers, slices and the words of a graph.
 pub mod add;
 pub mod build;
+pub mod chart;
 pub mod read;
