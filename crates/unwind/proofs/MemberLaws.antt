@@ -11,6 +11,8 @@
 --     returns-own, returns-not     the set of a node, if it has the original blocks
 --     busy-joined                  the blocks that have a way out
 --     busy-quiet, busy-below       no hop goes out of the others, and they stood
+--     originals-none, originals-more, originals-skip     the nodes on the original blocks, one after the other
+--     originals-records            they give what all nodes give
 --     nodes-sets, block-sets       the sets of nodes that are placed, and of routes
 -- Assumes nothing.
 use mathlib.Core.Path.{_≡_, refl, sym, ap, _∙_, subst}
@@ -24,14 +26,15 @@ use native.Mathlib.Decide.{ℕ-discrete, decLt}
 use native.Mathlib.Omega.{arith}
 use borrow.Author.Tests.{eq-eqb, ne-eqb}
 use lib.Dec.{eqb}
-use lib.ListN.{length, getD}
+use lib.ListN.{length, getD, set}
+use lib.Seq.{getD-set-same, getD-set-other}
 use Rattle.image.specs.Image.{RouteImage}
 use Rattle.image.specs.Deal.{routesOf}
 use Rattle.graph.specs.Graph.{Graph}
 use Rattle.graph.specs.Fold.{flat, some, count}
 use Rattle.graph.specs.Route.{routeAt}
 use Rattle.graph.specs.BlockSet.{member, none, excluding, Union}
-use Rattle.graph.proofs.FoldLaws.{decided, some-none, some-where, flat-none, count-yes, count-no, length-table}
+use Rattle.graph.proofs.FoldLaws.{decided, some-none, some-where, flat-none, flat-same, flat-more, count-yes, count-no, length-table}
 use Rattle.graph.proofs.BlockLaws.{member-none, member-excluding, length-excluding}
 use Rattle.unwind.specs.declared.emit.count.Sizes.{Sizes}
 use Rattle.unwind.specs.declared.tries.store.Counts.{Counts}
@@ -47,13 +50,14 @@ use Rattle.unwind.specs.Lent.{Sides, blockRecords, blockHops}
 use Rattle.unwind.specs.Sizes.{HopsSize, sizesBoth}
 use Rattle.unwind.specs.Copies.{copyNumber, hopsFrom, hopsIf, copyHops, SumSize}
 use Rattle.unwind.specs.HopWords.{HopsHeld, HopsFit, ReturnsWithin}
-use Rattle.unwind.specs.Members.{NodeSets, NodesSets, originalReturns, Joins, Busy, BlockSets}
+use Rattle.unwind.specs.Members.{NodeSets, NodesSets, originalReturns, Joins, Busy, BlockSets, Originals}
 use Rattle.addition.proofs.Lists.{and-both, keep-mem, among-mem}
 use Rattle.addition.proofs.Accepted.{guarded-mem}
 use Rattle.addition.proofs.Instance.{blocks-lt}
 use Rattle.unwind.proofs.SizeLaws.{Summed, summed-none, summed-more}
 use Rattle.unwind.proofs.SlotLaws.{set-run}
 use Rattle.unwind.proofs.PlaceLaws.{rank-most}
+use Rattle.unwind.proofs.PoolLaws.{node-copy}
 use Rattle.unwind.proofs.HeldLaws.{held-up, step-is, fit-step}
 
 pub flat-quiet : {A : Type 0} (f : ℕ → List A) (k n : ℕ) → k ≤ n → ((c : ℕ) → k ≤ c → c < n → f c ≡ []) → flat f n ≡ flat f k
@@ -330,6 +334,44 @@ module _ (m : RouteImage) (nodes edges ends heads landings roots guards bases re
       (λ g. let x = some-where (λ r. inSet guards r b) routes g in sets .guards-below (x .0) b (omega (arith, x .1, is)) (x .2))
       (λ g. let x = some-where (λ i. originalReturns bases returns i b) (c .nodes) g in sets .returns-below (x .0) b (x .1) (and-both (eqb (getD bases (x .0) 0) 0) (inSet returns (x .0) b) (x .2) .1))
       (either _ _ (sym (busy .has b) ∙ e))
+
+-- ---- nodes on the original blocks
+
+pub originals-none : (bases l : List ℕ) → Originals bases l 0 0
+unfolding flat
+originals-none bases l = record { few = omega arith; within = λ k h. absurd (not-suc-le-zero h); all = λ f quiet. refl }
+
+module _ (bases l : List ℕ) (n c : ℕ) (p : Originals bases l n c) where
+  pub originals-more : c < length l → Originals bases (set l c n) (n + 1) (c + 1)
+  originals-more fit =
+      let here : getD (set l c n) c 0 ≡ n = getD-set-same l c n 0 fit in
+      record {
+        few = omega (arith, p .few);
+        within = λ k h. elim (ℕ-discrete c k) [
+          | yes e ↦ (let at : getD (set l c n) k 0 ≡ n = ap (λ (j : ℕ). getD (set l c n) j 0) (sym e) ∙ here in omega (arith, at))
+          | no ne ↦ omega (arith, getD-set-other l c k n 0 (λ e. ne (sym e)), p .within k (omega arith))
+        ];
+        all = λ f quiet.
+            flat-more f n
+            ∙ (λ t. (p .all f (λ i h. quiet i (omega arith)) ∙ flat-same (λ k. f (getD l k 0)) (λ k. f (getD (set l c n) k 0)) c (λ k h. ap f (sym (getD-set-other l c k n 0 (omega arith))))) t ++ f (sym here t))
+            ∙ sym (flat-more (λ k. f (getD (set l c n) k 0)) c);
+      }
+
+  pub originals-skip : (getD bases n 0 ≡ 0 → ⊥) → Originals bases l (n + 1) c
+  originals-skip copies =
+      record {
+        few = omega (arith, p .few);
+        within = λ k h. omega (arith, p .within k h);
+        all = λ f quiet.
+            flat-more f n
+            ∙ ap (λ (t : List Exit). flat f n ++ t) (quiet n (omega arith) copies)
+            ∙ append-nil (flat f n)
+            ∙ p .all f (λ i h. quiet i (omega arith));
+      }
+
+pub originals-records : (m : RouteImage) (b : ℕ) (nodes edges ends heads landings bases returns originals : List ℕ) (n c : ℕ) → Originals bases originals n c → flat (λ k. nodeRecords m b edges ends heads landings nodes bases returns (getD originals k 0)) c ≡ flat (nodeRecords m b edges ends heads landings nodes bases returns) n
+originals-records m b nodes edges ends heads landings bases returns originals n c p =
+    sym (p .all (nodeRecords m b edges ends heads landings nodes bases returns) (λ i h copies. sym (node-copy m b edges ends heads landings nodes bases returns i copies)))
 
 -- ---- nodes that are placed
 

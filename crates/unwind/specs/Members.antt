@@ -1,12 +1,13 @@
 -- The sets of blocks that hops are gathered from, read as sixteen words each.
 use mathlib.Core.Path.{_≡_}
 use mathlib.Core.Bool.{Bool, true, _&&_, _||_}
-use mathlib.Core.List.{List}
+use mathlib.Core.List.{List, []}
 use Prim.Native.Nat.{ℕ, _+_, _*_, _≤_, _<_}
 use lib.Dec.{eqb}
 use lib.ListN.{length, getD}
-use Rattle.graph.specs.Fold.{some}
+use Rattle.graph.specs.Fold.{flat, some}
 use Rattle.graph.specs.BlockSet.{member}
+use Rattle.unwind.specs.Sources.{Exit}
 use Rattle.unwind.specs.Gather.{inSet}
 
 -- the sets of node i stand in the slices, and it returns from the first `blocks` blocks alone
@@ -40,3 +41,11 @@ pub record BlockSets (guards returns : List ℕ) (blocks routes n : ℕ) : Type 
   pub returns-fit : 16 * n ≤ length returns
   pub guards-below : (r o : ℕ) → r < routes → inSet guards r o ≡ true → o < blocks
   pub returns-below : (i o : ℕ) → i < n → inSet returns i o ≡ true → o < blocks
+
+-- ---- the nodes on the original blocks
+
+-- `count` of the first n nodes are listed: where those that have copies give nothing, the listed give all
+pub record Originals (bases originals : List ℕ) (n count : ℕ) : Type 0 where
+  pub few : count ≤ n
+  pub within : (k : ℕ) → k < count → getD originals k 0 < n
+  pub all : (f : ℕ → List Exit) → ((i : ℕ) → i < n → (getD bases i 0 ≡ 0 → ⊥) → f i ≡ []) → flat f n ≡ flat (λ k. f (getD originals k 0)) count

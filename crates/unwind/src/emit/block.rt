@@ -13,8 +13,9 @@ ghost use Rattle.unwind.specs.Nodes.{recordIn};
 ghost use Rattle.unwind.specs.Gather.{inSet, NodeFits, AllFit, routeRecords, nodeRecords, Pooled, Adds};
 ghost use Rattle.unwind.specs.Routed.{TriesIn};
 ghost use Rattle.unwind.specs.Lent.{blockRecords, BlockHeld};
+ghost use Rattle.unwind.specs.Members.{Originals};
 
-// All of them, and how many there are.
+// All of them, and how many there are. `originals` are the nodes on the original blocks.
 pub fn gather_block(
     s: &[u8],
     y: RouteLayout,
@@ -27,11 +28,13 @@ pub fn gather_block(
     guards: &[u64],
     bases: &[u16],
     returns: &[u64],
+    originals: &[u16],
+    listed: usize,
     stored: Counts,
     b: usize,
     exits: &mut [u16],
 ) -> usize
-    requires { ⌜ AcceptedRoutes (routesIn (now s) y) × TriesIn (routesIn (now s) y) (now nodes) (now edges) (now ends) (now roots) stored × (b < 65536) × (2 * (length (now edges) + length (now ends)) ≤ length (now exits)) ⌝ }
+    requires { ⌜ AcceptedRoutes (routesIn (now s) y) × TriesIn (routesIn (now s) y) (now nodes) (now edges) (now ends) (now roots) stored × (b < 65536) × (2 * (length (now edges) + length (now ends)) ≤ length (now exits)) × Originals (now bases) (now originals) (stored .nodes) listed ⌝ }
     ensures { λ r. ⌜ BlockHeld (routesIn (now (s .entry)) y) b (blockRecords (routesIn (now (s .entry)) y) b (now (nodes .entry)) (now (edges .entry)) (now (ends .entry)) (now (heads .entry)) (now (landings .entry)) (now (roots .entry)) (now (guards .entry)) (now (bases .entry)) (now (returns .entry)) stored) (now (edges .entry)) (now (ends .entry)) (now (exits .entry)) (now (exits .exit)) r ⌝ }
 {
     let count = y.routes.count as usize;
@@ -60,7 +63,8 @@ pub fn gather_block(
         landings,
         bases,
         returns,
-        stored.nodes,
+        originals,
+        listed,
         b,
         exits,
         n,
@@ -133,7 +137,7 @@ fn gather_route(
     held
 }
 
-// Those of the nodes.
+// Those of the nodes that are listed.
 fn gather_nodes(
     s: &[u8],
     y: RouteLayout,
@@ -144,16 +148,18 @@ fn gather_nodes(
     landings: &[u16],
     bases: &[u16],
     returns: &[u64],
+    originals: &[u16],
     count: usize,
     b: usize,
     exits: &mut [u16],
     held: usize,
 ) -> usize
-    requires { ⌜ Pooled (routesIn (now s) y) b (now edges) (now ends) (now heads) (now landings) (now exits) held × (b < 65536) × (count < 65536) × AllFit (now nodes) (now edges) (now ends) (λ i. i) count ⌝ }
-    ensures { λ r. ⌜ Adds (routesIn (now (s .entry)) y) b (now (edges .entry)) (now (ends .entry)) (now (heads .entry)) (now (landings .entry)) (now (exits .entry)) held (flat (nodeRecords (routesIn (now (s .entry)) y) b (now (edges .entry)) (now (ends .entry)) (now (heads .entry)) (now (landings .entry)) (now (nodes .entry)) (now (bases .entry)) (now (returns .entry))) count) (now (exits .exit)) r ⌝ }
+    requires { ⌜ Pooled (routesIn (now s) y) b (now edges) (now ends) (now heads) (now landings) (now exits) held × (b < 65536) × AllFit (now nodes) (now edges) (now ends) (λ k. getD (now originals) k 0) count ⌝ }
+    ensures { λ r. ⌜ Adds (routesIn (now (s .entry)) y) b (now (edges .entry)) (now (ends .entry)) (now (heads .entry)) (now (landings .entry)) (now (exits .entry)) held (flat (λ k. nodeRecords (routesIn (now (s .entry)) y) b (now (edges .entry)) (now (ends .entry)) (now (heads .entry)) (now (landings .entry)) (now (nodes .entry)) (now (bases .entry)) (now (returns .entry)) (getD (now (originals .entry)) k 0)) count) (now (exits .exit)) r ⌝ }
 {
     let mut n = held;
-    for i in 0..count {
+    for k in 0..count {
+        let i = number_at(originals, k);
         n = gather_original(
             s,
             y,

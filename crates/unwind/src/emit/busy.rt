@@ -6,7 +6,7 @@ use graph::blockset::sixteen;
 ghost use Prim.Native.Nat.{_*_, _≤_};
 ghost use lib.ListN.{length};
 ghost use Rattle.unwind.specs.Gather.{inSet};
-ghost use Rattle.unwind.specs.Members.{originalReturns, Joins, Busy};
+ghost use Rattle.unwind.specs.Members.{originalReturns, Joins, Busy, Originals};
 
 // Those that one of the routes guards, or that one of the first n nodes returns from, on the original blocks.
 pub fn busy_blocks(
@@ -52,4 +52,19 @@ fn returned_blocks(bases: &[u16], returns: &[u64], n: usize) -> [u64; 16]
         }
     }
     all
+}
+
+// The nodes on the original blocks: those of the first n whose base is 0, and how many there are.
+pub fn original_nodes(bases: &[u16], n: usize, list: &mut [u16]) -> usize
+    requires { ⌜ (n ≤ length (now list)) × (n ≤ 544) ⌝ }
+    ensures { λ r. ⌜ Originals (now (bases .entry)) (now (list .exit)) n r ⌝ }
+{
+    let mut count = 0;
+    for i in 0..n {
+        if number_at(bases, i) == 0 {
+            list[count] = i as u16;
+            count += 1;
+        }
+    }
+    count
 }

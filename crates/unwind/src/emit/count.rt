@@ -1,6 +1,7 @@
 // The sizes of what is added, before any of it is stored.
 use crate::emit::block::gather_block;
 use crate::emit::busy::busy_blocks;
+use crate::emit::busy::original_nodes;
 use crate::emit::entries::LEAVE;
 use crate::tries::store::Counts;
 use crate::tries::store::branch_at;
@@ -57,6 +58,8 @@ pub fn count_blocks(
         returns,
         stored.nodes,
     );
+    let mut originals = [0u16; 544];
+    let listed = original_nodes(bases, stored.nodes, &mut originals);
     let mut sizes = Sizes {
         hops: 0,
         lists: 0,
@@ -79,6 +82,8 @@ pub fn count_blocks(
             guards,
             bases,
             returns,
+            &originals,
+            listed,
             stored,
             b,
             exits,

@@ -2,6 +2,7 @@
 use crate::emit::append::add_exits;
 use crate::emit::block::gather_block;
 use crate::emit::busy::busy_blocks;
+use crate::emit::busy::original_nodes;
 use crate::hops::Hops;
 use crate::tries::store::Counts;
 use graph::blockset::Lowest;
@@ -47,6 +48,8 @@ pub fn add_blocks(
         returns,
         stored.nodes,
     );
+    let mut originals = [0u16; 544];
+    let listed = original_nodes(bases, stored.nodes, &mut originals);
     loop {
         let Lowest::At(b) = lowest_in(&left) else {
             return;
@@ -64,6 +67,8 @@ pub fn add_blocks(
             guards,
             bases,
             returns,
+            &originals,
+            listed,
             stored,
             b,
             exits,

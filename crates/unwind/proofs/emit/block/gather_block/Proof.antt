@@ -5,13 +5,15 @@ use Rattle.image.specs.Record.{routeFrom}
 use Rattle.image.specs.Image.{routesIn}
 use Rattle.image.proofs.Tables.{length-records}
 use Rattle.unwind.proofs.LentLaws.{pooled-none, node-fits, block-held}
+use Rattle.unwind.proofs.PoolLaws.{adds-some}
+use Rattle.unwind.proofs.MemberLaws.{originals-records}
 use borrow.Author.Needs.{needs}
 use Rattle.unwind.proofs.emit.block.gather_block.Statement.{statement}
 use Rattle.unwind.proofs.emit.block.gather_block.Tie as tie
 
 gather-routes-requires : tie.Need-gather-routes-requires
 gather-routes-requires c κs =
-    let start = c .before .before .before .before .before .before .before .before .before .before .before .before .before in
+    let start = c .before .before .before .before .before .before .before .before .before .before .before .before .before .before in
     let a = start .args in
     let count = length-records routeFrom (a .s .now) (a .y .routes) in
     let t = start .pre .1 in (
@@ -23,21 +25,22 @@ gather-routes-requires c κs =
 
 gather-nodes-requires : tie.Need-gather-nodes-requires
 gather-nodes-requires c κs =
-    let start = c .before .before .before .before .before .before .before .before .before .before .before .before .before .before .before .before .before in
+    let start = c .before .before .before .before .before .before .before .before .before .before .before .before .before .before .before .before .before .before in
     let a = start .args in
     let t = start .pre .1 in (
       c .before .before .before .gather-routes .ensures .pooled,
       start .pre .2,
-      omega (arith, t .nodes-most),
-      record { fits = λ i h. node-fits (routesIn (a .s .now) (a .y)) (a .nodes .now) (a .edges .now) (a .ends .now) (a .roots .now) (a .stored) t i h },
+      record { fits = λ k h. node-fits (routesIn (a .s .now) (a .y)) (a .nodes .now) (a .edges .now) (a .ends .now) (a .roots .now) (a .stored) t (getD (a .originals .now) k 0) (start .pre .4 .within k h) },
     )
 
 returns : tie.Need-returns
 returns c =
-    let a = c .before .before .before .before .before .before .before .before .before .before .before .before .before .before .before .before .before .before .before .before .args in
+    let start = c .before .before .before .before .before .before .before .before .before .before .before .before .before .before .before .before .before .before .before .before .before in
+    let a = start .args in
+    let all = originals-records (routesIn (a .s .now) (a .y)) (a .b) (a .nodes .now) (a .edges .now) (a .ends .now) (a .heads .now) (a .landings .now) (a .bases .now) (a .returns .now) (a .originals .now) (a .stored .nodes) (a .listed) (start .pre .4) in
     let count = length-records routeFrom (a .s .now) (a .y .routes) in
     block-held (routesIn (a .s .now) (a .y)) (a .b) (a .nodes .now) (a .edges .now) (a .ends .now) (a .heads .now) (a .landings .now) (a .roots .now) (a .guards .now) (a .bases .now) (a .returns .now) (a .stored)
-    (a .y .routes .count) count (c .before .before .before .before .before .before .gather-routes .ensures) (c .before .before .gather-nodes .ensures)
+    (a .y .routes .count) count (c .before .before .before .before .before .before .gather-routes .ensures) (adds-some (routesIn (a .s .now) (a .y)) (a .b) (a .edges .now) (a .ends .now) (a .heads .now) (a .landings .now) all (c .before .before .gather-nodes .ensures))
 
 pub gather-block-spec : {M : Type 1} → statement M
 gather-block-spec = tie.close (tie.spec (λ c. search needs) gather-routes-requires gather-nodes-requires (λ c. search needs) returns)

@@ -16,11 +16,11 @@ use Rattle.unwind.proofs.emit.count.count_blocks.Statement.{statement}
 use Rattle.unwind.proofs.emit.count.count_blocks.Tie as tie
 
 abbrev Inv-loop : tie.InvT-loop
-Inv-loop s y nodes edges ends heads landings roots guards bases returns stored blocks exits₀ left₀ sizes₀ exits left sizes =
+Inv-loop s y nodes edges ends heads landings roots guards bases returns stored blocks exits₀ left₀ originals listed sizes₀ exits left sizes =
     (length exits ≡ length exits₀) × SetCounting (blockHops (routesIn s y) nodes edges ends heads landings roots guards bases returns stored) left₀ blocks left sizes
 
 abbrev μ-loop : tie.MeasureT-loop
-μ-loop s y nodes edges ends heads landings roots guards bases returns stored blocks exits₀ left₀ sizes₀ exits left sizes = sizeOf left
+μ-loop s y nodes edges ends heads landings roots guards bases returns stored blocks exits₀ left₀ originals listed sizes₀ exits left sizes = sizeOf left
 
 busy-blocks-requires : tie.Need-busy-blocks-requires Inv-loop μ-loop
 busy-blocks-requires c κs =
@@ -28,49 +28,54 @@ busy-blocks-requires c κs =
     let count = length-records routeFrom (start .args .s .now) (start .args .y .routes) in
     (omega (arith, count, start .pre .4 .guards-fit), start .pre .4 .returns-fit)
 
+original-nodes-requires : tie.Need-original-nodes-requires Inv-loop μ-loop
+original-nodes-requires c κs =
+    let most = c .before .before .before .before .before .before .before .before .before .before .before .before .before .before .pre .1 .nodes-most in
+    (most, most)
+
 same-length : tie.Need-same-length Inv-loop μ-loop
 same-length c = c .before .before .before .before .loop .inv .0
 
 gather-block-requires : tie.Need-gather-block-requires Inv-loop μ-loop
 gather-block-requires c κs =
-    let start = c .before .before .before .before .before .before .before .before .before .before .before .before .before .before .before .before .before .before .before .before .before .before in
-    let top = c .before .before .before .before .before .before .before .before .loop in
-    let low = rw (c .before .before .before .before .b .given .1) at (c .before .before .before .before .before .before .lowest-in .ensures) in
-    (start .pre .0, start .pre .1, omega (arith, low .0), omega (arith, start .pre .3 .room, top .inv .0))
+    let start = c .before .before .before .before .before .before .before .before .before .before .before .before .before .before .before .before .before .before .before .before .before .before .before .before .before .before in
+    let top = c .before .before .before .before .before .before .before .before .before .loop in
+    let low = rw (c .before .before .before .before .before .b .given .1) at (c .before .before .before .before .before .before .before .lowest-in .ensures) in
+    (start .pre .0, start .pre .1, omega (arith, low .0), omega (arith, start .pre .3 .room, top .inv .0), c .before .before .before .before .before .before .before .before .before .before .before .original-nodes .ensures)
 
 loop-less : tie.Need-loop-less Inv-loop μ-loop
 loop-less c =
-    let top = c .before .before .before .before .before .before .before .before .before .before .before .before .before .before .loop in
-    let low = rw (c .before .before .before .before .before .before .before .before .before .before .b .given .1) at (c .before .before .before .before .before .before .before .before .before .before .before .before .lowest-in .ensures) in
-    rw (c .before .before .before .before .before .before .before .take-from .ensures) (omega (arith, size-excluding (top .left) (top .inv .1 .walked .long) _ (low .0) (low .1)))
+    let top = c .before .before .before .before .before .before .before .before .before .before .before .before .before .before .before .loop in
+    let low = rw (c .before .before .before .before .before .before .before .before .before .before .before .b .given .1) at (c .before .before .before .before .before .before .before .before .before .before .before .before .before .lowest-in .ensures) in
+    rw (c .before .before .before .before .before .before .before .before .take-from .ensures) (omega (arith, size-excluding (top .left) (top .inv .1 .walked .long) _ (low .0) (low .1)))
 
 loop-holds : tie.Need-loop-holds Inv-loop μ-loop
 loop-holds c =
-    let start = c .before .before .before .before .before .before .before .before .before .before .before .before .before in
+    let start = c .before .before .before .before .before .before .before .before .before .before .before .before .before .before .before .before in
     let a = start .args in
     let m = routesIn (a .s .now) (a .y) in
-    let busy = c .busy-blocks in
+    let busy = c .before .before .before .busy-blocks in
     (refl, counting-start (blockHops m (a .nodes .now) (a .edges .now) (a .ends .now) (a .heads .now) (a .landings .now) (a .roots .now) (a .guards .now) (a .bases .now) (a .returns .now) (a .stored)) (busy .result) (a .blocks) (busy .ensures .long) (busy-below m (a .nodes .now) (a .edges .now) (a .ends .now) (a .heads .now) (a .landings .now) (a .roots .now) (a .guards .now) (a .bases .now) (a .returns .now) (a .stored) (a .y .routes .count) (length-records routeFrom (a .s .now) (a .y .routes)) (busy .result) (busy .ensures) (a .blocks) (start .pre .4)))
 
 returns : tie.Need-returns Inv-loop μ-loop
 returns c =
-    let start = c .before .before .before .before .before .before .before .before .before .before .before .before .before .before .before .before .before .before in
+    let start = c .before .before .before .before .before .before .before .before .before .before .before .before .before .before .before .before .before .before .before .before .before in
     let a = start .args in
     let m = routesIn (a .s .now) (a .y) in
-    let busy = c .before .before .before .before .before .busy-blocks in
+    let busy = c .before .before .before .before .before .before .before .before .busy-blocks in
     let top = c .before .before .before .before .loop in
     counting-end (blockHops m (a .nodes .now) (a .edges .now) (a .ends .now) (a .heads .now) (a .landings .now) (a .roots .now) (a .guards .now) (a .bases .now) (a .returns .now) (a .stored)) (busy .result) (busy-quiet m (a .nodes .now) (a .edges .now) (a .ends .now) (a .heads .now) (a .landings .now) (a .roots .now) (a .guards .now) (a .bases .now) (a .returns .now) (a .stored) (a .y .routes .count) (length-records routeFrom (a .s .now) (a .y .routes)) (busy .result) (busy .ensures)) (top .inv .1) (rw (c .enum-told .given .1) at (c .before .before .lowest-in .ensures)) (start .pre .2) (a .exits .now) (top .exits) (top .inv .0)
 
 sizes-of-requires : tie.Need-sizes-of-requires Inv-loop μ-loop
 sizes-of-requires c κs =
-    let start = c .before .before .before .before .before .before .before .before .before .before .before .before .before .before .before .before .before .before .before .before .before .before .before .before .before .before in
+    let start = c .before .before .before .before .before .before .before .before .before .before .before .before .before .before .before .before .before .before .before .before .before .before .before .before .before .before .before .before .before .before in
     let held = c .before .before .before .gather-block .ensures in
     (held .holds .ordered .fit, omega (arith, held .most, start .pre .3 .edges-few, start .pre .3 .ends-few))
 
 sizes-both-requires : tie.Need-sizes-both-requires Inv-loop μ-loop
 sizes-both-requires c κs =
-    let start = c .before .before .before .before .before .before .before .before .before .before .before .before .before .before .before .before .before .before .before .before .before .before .before .before .before .before .before in
-    let was = counting-few (c .before .before .before .before .before .before .before .before .before .before .before .before .before .loop .inv .1) (start .pre .2) in
+    let start = c .before .before .before .before .before .before .before .before .before .before .before .before .before .before .before .before .before .before .before .before .before .before .before .before .before .before .before .before .before .before .before in
+    let was = counting-few (c .before .before .before .before .before .before .before .before .before .before .before .before .before .before .loop .inv .1) (start .pre .2) in
     let held = c .before .before .before .before .gather-block .ensures in
     let more = c .sizes-of .ensures in
     let few : c .before .before .before .before .gather-block .result < 65536 = omega (arith, held .most, start .pre .3 .edges-few, start .pre .3 .ends-few) in
@@ -78,17 +83,17 @@ sizes-both-requires c κs =
 
 loop-again : tie.Need-loop-again Inv-loop μ-loop
 loop-again c =
-    let start = c .before .before .before .before .before .before .before .before .before .before .before .before .before .before .before .before .before .before .before .before .before .before .before .before .before .before .before .before in
+    let start = c .before .before .before .before .before .before .before .before .before .before .before .before .before .before .before .before .before .before .before .before .before .before .before .before .before .before .before .before .before .before .before .before in
     let a = start .args in
     let m = routesIn (a .s .now) (a .y) in
-    let busy = c .before .before .before .before .before .before .before .before .before .before .before .before .before .before .before .busy-blocks in
-    let top = c .before .before .before .before .before .before .before .before .before .before .before .before .before .before .loop in
-    let low = rw (c .before .before .before .before .before .before .before .before .before .before .b .given .1) at (c .before .before .before .before .before .before .before .before .before .before .before .before .lowest-in .ensures) in
+    let busy = c .before .before .before .before .before .before .before .before .before .before .before .before .before .before .before .before .before .before .before .busy-blocks in
+    let top = c .before .before .before .before .before .before .before .before .before .before .before .before .before .before .before .loop in
+    let low = rw (c .before .before .before .before .before .before .before .before .before .before .before .b .given .1) at (c .before .before .before .before .before .before .before .before .before .before .before .before .before .lowest-in .ensures) in
     let held = c .before .before .before .before .before .gather-block .ensures in
     let more = c .before .sizes-of .ensures in
     let few : c .before .before .before .before .before .gather-block .result < 65536 = omega (arith, held .most, start .pre .3 .edges-few, start .pre .3 .ends-few) in
     let size = block-size m _ (a .nodes .now) (a .edges .now) (a .ends .now) (a .heads .now) (a .landings .now) (a .roots .now) (a .guards .now) (a .bases .now) (a .returns .now) (a .stored) (held .holds) more in
-    rw (c .before .before .before .before .before .before .before .take-from .ensures, c .sizes-both .ensures) (
+    rw (c .before .before .before .before .before .before .before .before .take-from .ensures, c .sizes-both .ensures) (
       held .long ∙ top .inv .0,
       counting-next (blockHops m (a .nodes .now) (a .edges .now) (a .ends .now) (a .heads .now) (a .landings .now) (a .roots .now) (a .guards .now) (a .bases .now) (a .returns .now) (a .stored)) (busy .result) (busy-quiet m (a .nodes .now) (a .edges .now) (a .ends .now) (a .heads .now) (a .landings .now) (a .roots .now) (a .guards .now) (a .bases .now) (a .returns .now) (a .stored) (a .y .routes .count) (length-records routeFrom (a .s .now) (a .y .routes)) (busy .result) (busy .ensures)) (top .inv .1) _ low (c .before .sizes-of .result) size (omega (arith, more .hops-most, few)) (omega (arith, more .lists-most, few)) (omega (arith, more .blocks-most, few)),
     )
@@ -101,6 +106,8 @@ count-blocks-spec =
     μ-loop
     (λ c. search needs)
     busy-blocks-requires
+    (λ c. search needs)
+    original-nodes-requires
     loop-holds
     (λ c κs. search needs)
     (λ c. search needs)
@@ -108,6 +115,7 @@ count-blocks-spec =
     same-length
     returns
     (λ c κs. search needs)
+    (λ c. search needs)
     gather-block-requires
     sizes-of-requires
     sizes-both-requires

@@ -17,11 +17,11 @@ use Rattle.unwind.proofs.emit.standing.add_blocks.Statement.{statement}
 use Rattle.unwind.proofs.emit.standing.add_blocks.Tie as tie
 
 abbrev Inv-loop : tie.InvT-loop
-Inv-loop h₀ s y nodes edges ends heads landings roots guards bases returns stored blocks exits₀ left₀ h exits left =
+Inv-loop h₀ s y nodes edges ends heads landings roots guards bases returns stored blocks exits₀ left₀ originals listed h exits left =
     (length exits ≡ length exits₀) × SetHolding (routesIn s y) (blockHops (routesIn s y) nodes edges ends heads landings roots guards bases returns stored) (λ n. n) [] left₀ blocks left h₀ h
 
 abbrev μ-loop : tie.MeasureT-loop
-μ-loop h₀ s y nodes edges ends heads landings roots guards bases returns stored blocks exits₀ left₀ h exits left = sizeOf left
+μ-loop h₀ s y nodes edges ends heads landings roots guards bases returns stored blocks exits₀ left₀ originals listed h exits left = sizeOf left
 
 busy-blocks-requires : tie.Need-busy-blocks-requires Inv-loop μ-loop
 busy-blocks-requires c κs =
@@ -29,47 +29,52 @@ busy-blocks-requires c κs =
     let count = length-records routeFrom (start .args .s .now) (start .args .y .routes) in
     (omega (arith, count, start .pre .6 .guards-fit), start .pre .6 .returns-fit)
 
+original-nodes-requires : tie.Need-original-nodes-requires Inv-loop μ-loop
+original-nodes-requires c κs =
+    let most = c .before .before .before .before .before .before .before .before .before .before .before .before .before .before .pre .1 .nodes-most in
+    (most, most)
+
 same-length : tie.Need-same-length Inv-loop μ-loop
 same-length c = c .before .before .before .before .loop .inv .0
 
 gather-block-requires : tie.Need-gather-block-requires Inv-loop μ-loop
 gather-block-requires c κs =
-    let start = c .before .before .before .before .before .before .before .before .before .before .before .before .before .before .before .before .before .before .before .before .before .before in
-    let top = c .before .before .before .before .before .before .before .before .loop in
-    let low = rw (c .before .before .before .before .b .given .1) at (c .before .before .before .before .before .before .lowest-in .ensures) in
-    (start .pre .0, start .pre .1, omega (arith, low .0), omega (arith, start .pre .3 .room, top .inv .0))
+    let start = c .before .before .before .before .before .before .before .before .before .before .before .before .before .before .before .before .before .before .before .before .before .before .before .before .before .before in
+    let top = c .before .before .before .before .before .before .before .before .before .loop in
+    let low = rw (c .before .before .before .before .before .b .given .1) at (c .before .before .before .before .before .before .before .lowest-in .ensures) in
+    (start .pre .0, start .pre .1, omega (arith, low .0), omega (arith, start .pre .3 .room, top .inv .0), c .before .before .before .before .before .before .before .before .before .before .before .original-nodes .ensures)
 
 loop-less : tie.Need-loop-less Inv-loop μ-loop
 loop-less c =
-    let top = c .before .before .before .before .before .before .before .before .before .before .before .before .before .before .loop in
-    let low = rw (c .before .before .before .before .before .before .before .before .before .before .b .given .1) at (c .before .before .before .before .before .before .before .before .before .before .before .before .lowest-in .ensures) in
-    rw (c .before .before .before .before .before .before .before .take-from .ensures) (omega (arith, size-excluding (top .left) (top .inv .1 .walked .long) _ (low .0) (low .1)))
+    let top = c .before .before .before .before .before .before .before .before .before .before .before .before .before .before .before .loop in
+    let low = rw (c .before .before .before .before .before .before .before .before .before .before .before .b .given .1) at (c .before .before .before .before .before .before .before .before .before .before .before .before .before .lowest-in .ensures) in
+    rw (c .before .before .before .before .before .before .before .before .take-from .ensures) (omega (arith, size-excluding (top .left) (top .inv .1 .walked .long) _ (low .0) (low .1)))
 
 loop-holds : tie.Need-loop-holds Inv-loop μ-loop
 loop-holds c =
-    let start = c .before .before .before .before .before .before .before .before .before .before .before .before .before in
+    let start = c .before .before .before .before .before .before .before .before .before .before .before .before .before .before .before .before in
     let a = start .args in
     let m = routesIn (a .s .now) (a .y) in
-    let busy = c .busy-blocks in
+    let busy = c .before .before .before .busy-blocks in
     (refl, holding-start m (blockHops m (a .nodes .now) (a .edges .now) (a .ends .now) (a .heads .now) (a .landings .now) (a .roots .now) (a .guards .now) (a .bases .now) (a .returns .now) (a .stored)) (λ n. n) [] (busy .result) (a .blocks) (a .h .now) (busy .ensures .long) (busy-below m (a .nodes .now) (a .edges .now) (a .ends .now) (a .heads .now) (a .landings .now) (a .roots .now) (a .guards .now) (a .bases .now) (a .returns .now) (a .stored) (a .y .routes .count) (length-records routeFrom (a .s .now) (a .y .routes)) (busy .result) (busy .ensures) (a .blocks) (start .pre .6)) (held-none m (a .h .now) (start .pre .4)))
 
 returns : tie.Need-returns Inv-loop μ-loop
 returns c =
-    let start = c .before .before .before .before .before .before .before .before .before .before .before .before .before .before .before .before .before .before in
+    let start = c .before .before .before .before .before .before .before .before .before .before .before .before .before .before .before .before .before .before .before .before .before in
     let a = start .args in
     let m = routesIn (a .s .now) (a .y) in
-    let busy = c .before .before .before .before .before .busy-blocks in
+    let busy = c .before .before .before .before .before .before .before .before .busy-blocks in
     let top = c .before .before .before .before .loop in
     (holding-end m (blockHops m (a .nodes .now) (a .edges .now) (a .ends .now) (a .heads .now) (a .landings .now) (a .roots .now) (a .guards .now) (a .bases .now) (a .returns .now) (a .stored)) (λ n. n) [] (busy .result) (a .blocks) (busy-quiet m (a .nodes .now) (a .edges .now) (a .ends .now) (a .heads .now) (a .landings .now) (a .roots .now) (a .guards .now) (a .bases .now) (a .returns .now) (a .stored) (a .y .routes .count) (length-records routeFrom (a .s .now) (a .y .routes)) (busy .result) (busy .ensures)) (λ k n h. h) (top .inv .1) (rw (c .enum-told .given .1) at (c .before .before .lowest-in .ensures)), top .inv .0)
 
 add-exits-requires : tie.Need-add-exits-requires Inv-loop μ-loop
 add-exits-requires c κs =
-    let start = c .before .before .before .before .before .before .before .before .before .before .before .before .before .before .before .before .before .before .before .before .before .before .before .before .before .before .before in
+    let start = c .before .before .before .before .before .before .before .before .before .before .before .before .before .before .before .before .before .before .before .before .before .before .before .before .before .before .before .before .before .before .before in
     let a = start .args in
     let m = routesIn (a .s .now) (a .y) in
-    let busy = c .before .before .before .before .before .before .before .before .before .before .before .before .before .before .busy-blocks in
-    let top = c .before .before .before .before .before .before .before .before .before .before .before .before .before .loop in
-    let low = rw (c .before .before .before .before .before .before .before .before .before .b .given .1) at (c .before .before .before .before .before .before .before .before .before .before .before .lowest-in .ensures) in
+    let busy = c .before .before .before .before .before .before .before .before .before .before .before .before .before .before .before .before .before .before .busy-blocks in
+    let top = c .before .before .before .before .before .before .before .before .before .before .before .before .before .before .loop in
+    let low = rw (c .before .before .before .before .before .before .before .before .before .before .b .given .1) at (c .before .before .before .before .before .before .before .before .before .before .before .before .lowest-in .ensures) in
     let all = c .before .before .before .before .gather-block in
     let own = block-own m _ (a .nodes .now) (a .edges .now) (a .ends .now) (a .heads .now) (a .landings .now) (a .roots .now) (a .guards .now) (a .bases .now) (a .returns .now) (a .stored) _ (all .result) (all .ensures .holds) in
     let here = holding-here m (blockHops m (a .nodes .now) (a .edges .now) (a .ends .now) (a .heads .now) (a .landings .now) (a .roots .now) (a .guards .now) (a .bases .now) (a .returns .now) (a .stored)) (λ n. n) [] (busy .result) (a .blocks) (busy-quiet m (a .nodes .now) (a .edges .now) (a .ends .now) (a .heads .now) (a .landings .now) (a .roots .now) (a .guards .now) (a .bases .now) (a .returns .now) (a .stored) (a .y .routes .count) (length-records routeFrom (a .s .now) (a .y .routes)) (busy .result) (busy .ensures)) (λ k n h. h) (top .inv .1) _ low in
@@ -77,16 +82,16 @@ add-exits-requires c κs =
 
 loop-again : tie.Need-loop-again Inv-loop μ-loop
 loop-again c =
-    let start = c .before .before .before .before .before .before .before .before .before .before .before .before .before .before .before .before .before .before .before .before .before .before .before .before .before .before .before .before in
+    let start = c .before .before .before .before .before .before .before .before .before .before .before .before .before .before .before .before .before .before .before .before .before .before .before .before .before .before .before .before .before .before .before .before in
     let a = start .args in
     let m = routesIn (a .s .now) (a .y) in
-    let busy = c .before .before .before .before .before .before .before .before .before .before .before .before .before .before .before .busy-blocks in
-    let top = c .before .before .before .before .before .before .before .before .before .before .before .before .before .before .loop in
-    let low = rw (c .before .before .before .before .before .before .before .before .before .before .b .given .1) at (c .before .before .before .before .before .before .before .before .before .before .before .before .lowest-in .ensures) in
+    let busy = c .before .before .before .before .before .before .before .before .before .before .before .before .before .before .before .before .before .before .before .busy-blocks in
+    let top = c .before .before .before .before .before .before .before .before .before .before .before .before .before .before .before .loop in
+    let low = rw (c .before .before .before .before .before .before .before .before .before .before .before .b .given .1) at (c .before .before .before .before .before .before .before .before .before .before .before .before .before .lowest-in .ensures) in
     let all = c .before .before .before .before .before .gather-block in
     let own = block-own m _ (a .nodes .now) (a .edges .now) (a .ends .now) (a .heads .now) (a .landings .now) (a .roots .now) (a .guards .now) (a .bases .now) (a .returns .now) (a .stored) _ (all .result) (all .ensures .holds) in
     let here = holding-here m (blockHops m (a .nodes .now) (a .edges .now) (a .ends .now) (a .heads .now) (a .landings .now) (a .roots .now) (a .guards .now) (a .bases .now) (a .returns .now) (a .stored)) (λ n. n) [] (busy .result) (a .blocks) (busy-quiet m (a .nodes .now) (a .edges .now) (a .ends .now) (a .heads .now) (a .landings .now) (a .roots .now) (a .guards .now) (a .bases .now) (a .returns .now) (a .stored) (a .y .routes .count) (length-records routeFrom (a .s .now) (a .y .routes)) (busy .result) (busy .ensures)) (λ k n h. h) (top .inv .1) _ low in
-    rw (c .before .before .before .before .before .before .before .take-from .ensures) (
+    rw (c .before .before .before .before .before .before .before .before .take-from .ensures) (
       all .ensures .long ∙ top .inv .0,
       holding-next m (blockHops m (a .nodes .now) (a .edges .now) (a .ends .now) (a .heads .now) (a .landings .now) (a .roots .now) (a .guards .now) (a .bases .now) (a .returns .now) (a .stored)) (λ n. n) [] (busy .result) (a .blocks) (busy-quiet m (a .nodes .now) (a .edges .now) (a .ends .now) (a .heads .now) (a .landings .now) (a .roots .now) (a .guards .now) (a .bases .now) (a .returns .now) (a .stored) (a .y .routes .count) (length-records routeFrom (a .s .now) (a .y .routes)) (busy .result) (busy .ensures)) (λ k n h. h) (top .inv .1) _ low _ own _ (omega arith) (held-more m _ here _ (all .result) (c .add-exits .ensures)),
     )
@@ -99,6 +104,8 @@ add-blocks-spec =
     μ-loop
     (λ c. search needs)
     busy-blocks-requires
+    (λ c. search needs)
+    original-nodes-requires
     loop-holds
     (λ c κs. search needs)
     (λ c. search needs)
@@ -106,6 +113,7 @@ add-blocks-spec =
     same-length
     returns
     (λ c κs. search needs)
+    (λ c. search needs)
     gather-block-requires
     add-exits-requires
     loop-less
