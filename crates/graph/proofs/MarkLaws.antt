@@ -178,16 +178,16 @@ module _ {n : ℕ} {t : List Bool} (l : List ℕ) (y : Layout) where
   no-routes e = mark-none (routeMark (imageIn l y)) (λ p h. rw (any-routes l y, e))
 
 -- one collector after the other, from no mark on
-pub leading : {a b c r : List Bool} (l : List ℕ) (y : Layout) → Passed (imageIn l y)
-    → Marked (y .code .instructions .count) (entryMark (imageIn l y)) (replicate 512 false) a → Marked (y .code .instructions .count) (instructionMark (imageIn l y)) a b
+pub leading : {b c r : List Bool} (l : List ℕ) (y : Layout) → Passed (imageIn l y)
+    → Marked (y .code .instructions .count) (λ p. entryMark (imageIn l y) p || instructionMark (imageIn l y) p) (replicate 512 false) b
     → Marked (y .code .instructions .count) (handlerMark (imageIn l y)) b c → Marked (y .code .instructions .count) (routeMark (imageIn l y)) c r
     → Leading (imageIn l y) r
 unfolding isLeader
-leading l y passed entry code handlers routed p h =
+leading l y passed code handlers routed p h =
     let within = rw (length-records instructionFrom l (y .code .instructions)) at h in
     let m = imageIn l y in
     let none = getD-replicate 512 p false false (omega (arith, within, few l y passed)) in
-    rw none at (mark-then (mark-then (mark-then entry code) handlers) routed .at p within)
+    rw none at (mark-then (mark-then code handlers) routed .at p within)
     ∙ in-order (entryMark m p) (sequenceMark m p) (flowMark m p) (exceptionalMark m p) (funcletEnd m p) (handlerMark m p) (routeMark m p)
   where
     in-order : (e s f x u h r : Bool) → (e || (s || f || x || u) || h || r) ≡ (e || s || f || x || h || r || u)

@@ -23,7 +23,7 @@ use crate::marks::mark_target_if;
 use image::access::handler_at;
 use image::record::Instruction;
 use image::section::Layout;
-ghost use mathlib.Core.Bool.{_&&_};
+ghost use mathlib.Core.Bool.{_&&_, _||_};
 ghost use mathlib.Core.Path.{_≡_};
 ghost use Prim.Native.Nat.{_+_, _<_};
 ghost use lib.Dec.{eqb, ltb};
@@ -49,8 +49,7 @@ pub fn leaders(s: &[u8], y: Layout, hints: &Hints, code_end: u64) -> [bool; 512]
 {
     let handlers = y.code.handlers;
     let routes = y.routes.routes;
-    let marks = mark_entry([false; 512], s, y, hints);
-    let marks = mark_instructions(marks, s, y, hints);
+    let marks = mark_code([false; 512], s, y, hints);
     if routes.count == 0 {
         if handlers.count == 0 {
             return marks;
@@ -62,22 +61,22 @@ pub fn leaders(s: &[u8], y: Layout, hints: &Hints, code_end: u64) -> [bool; 512]
 }
 
 // The first instruction, and the entry.
-fn mark_entry(mut marks: [bool; 512], s: &[u8], y: Layout, hints: &Hints) -> [bool; 512]
+fn mark_entry(marks: &mut [bool; 512], s: &[u8], y: Layout, hints: &Hints)
     requires { ⌜ Passed (imageIn (now s) y) ⌝ }
-    ensures { λ r. ⌜ Marked (y .code .instructions .count) (entryMark (imageIn (now (s .entry)) y)) marks r ⌝ }
+    ensures { λ _. ⌜ Marked (y .code .instructions .count) (entryMark (imageIn (now (s .entry)) y)) (now (marks .entry)) (now (marks .exit)) ⌝ }
 {
     let header = y.header;
     let table = y.code.instructions;
-    mark_at(&mut marks, 0);
-    mark_target_if(&mut marks, s, table, hints, header.has_entry, header.entry);
-    marks
+    mark_at(marks, 0);
+    mark_target_if(marks, s, table, hints, header.has_entry, header.entry);
 }
 
-// Instruction by instruction.
-fn mark_instructions(mut marks: [bool; 512], s: &[u8], y: Layout, hints: &Hints) -> [bool; 512]
+// The entry, and instruction by instruction.
+fn mark_code(mut marks: [bool; 512], s: &[u8], y: Layout, hints: &Hints) -> [bool; 512]
     requires { ⌜ Passed (imageIn (now s) y) ⌝ }
-    ensures { λ r. ⌜ Marked (y .code .instructions .count) (instructionMark (imageIn (now (s .entry)) y)) marks r ⌝ }
+    ensures { λ r. ⌜ Marked (y .code .instructions .count) (λ p. entryMark (imageIn (now (s .entry)) y) p || instructionMark (imageIn (now (s .entry)) y) p) marks r ⌝ }
 {
+    mark_entry(&mut marks, s, y, hints);
     let n = y.code.instructions.count as usize;
     let routed = y.routes.routes.count > 0;
     let mut c = cursor_start();

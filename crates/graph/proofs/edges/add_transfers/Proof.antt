@@ -1,7 +1,7 @@
 -- The invariant: what the first k slots give is added. Assumes nothing.
 use mathlib.Core.Path.{_≡_, sym, ap, _∙_}
 use mathlib.Core.List.{[]}
-use Prim.Native.Nat.{_-_, _<_, _≤_}
+use Prim.Native.Nat.{_-_, _≤_}
 use Rattle.image.specs.Image.{imageIn}
 use Rattle.image.specs.declared.record.Instruction.{Instruction}
 use Rattle.graph.specs.Fold.{flat}

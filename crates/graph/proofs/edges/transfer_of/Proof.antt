@@ -1,8 +1,7 @@
 -- The first slot, a case of a Switch, or the second slot. Assumes nothing.
 use mathlib.Core.Path.{_≡_, sym, ap, _∙_}
-use Prim.Native.Nat.{ℕ, suc, _-_, _<_, _≤_}
+use Prim.Native.Nat.{suc, _-_, _<_}
 use Rattle.image.specs.Image.{imageIn}
-use Rattle.image.specs.declared.record.Instruction.{Instruction}
 use Rattle.image.specs.declared.record.Case.{Case}
 use Rattle.graph.specs.Transfer.{instructionAt, caseTransfer, transferAt}
 use Rattle.graph.proofs.CursorLaws.{cases-length}

@@ -1,4 +1,4 @@
--- The invariant: the cursor stands at q, and the marks are those of the instructions before. Assumes nothing.
+-- The entry first. The invariant: the cursor stands at q, and the marks are those of the instructions before. Assumes nothing.
 use mathlib.Core.Path.{_≡_, sym, ap, _∙_}
 use Prim.Native.Nat.{ℕ, _≤_, _-_}
 use Rattle.image.specs.Record.{instructionFrom}
@@ -9,12 +9,12 @@ use Rattle.graph.specs.Fold.{some}
 use Rattle.graph.specs.Transfer.{size}
 use Rattle.graph.specs.Cursor.{cursorAt}
 use Rattle.graph.specs.Marks.{Marked, visitMark}
-use Rattle.graph.proofs.MarkLaws.{marks-none, marks-more, any-routes}
+use Rattle.graph.proofs.MarkLaws.{marks-none, marks-more, mark-then, any-routes}
 use Rattle.graph.proofs.FlowLaws.{visits-all}
 use native.Mathlib.Omega.{arith}
 use borrow.Author.Needs.{needs}
-use Rattle.graph.proofs.leaders.mark_instructions.Statement.{statement}
-use Rattle.graph.proofs.leaders.mark_instructions.Tie as tie
+use Rattle.graph.proofs.leaders.mark_code.Statement.{statement}
+use Rattle.graph.proofs.leaders.mark_code.Tie as tie
 
 abbrev Inv-loop : tie.InvT-loop
 Inv-loop s y hints marks₀ n routed c₀ q₀ marks c q =
@@ -22,6 +22,9 @@ Inv-loop s y hints marks₀ n routed c₀ q₀ marks c q =
 
 abbrev μ-loop : tie.MeasureT-loop
 μ-loop s y hints marks₀ n routed c₀ q₀ marks c q = n - q
+
+mark-entry-requires : tie.Need-mark-entry-requires Inv-loop μ-loop
+mark-entry-requires c κs = c .before .before .pre
 
 cast-n : tie.Need-cast-n Inv-loop μ-loop
 cast-n c = search needs
@@ -34,7 +37,7 @@ loop-holds c = (search needs, c .cursor-start .ensures (imageIn _ _), marks-none
 
 mark-visit-requires : tie.Need-mark-visit-requires Inv-loop μ-loop
 mark-visit-requires c κs =
-    let start = c .before .before .before .before .before .before .before in
+    let start = c .before .before .before .before .before .before .before .before .before in
     let a = start .args in
     let top = c .before .before .loop in
     let at = ap (λ (x : Cursor). x .at) (top .inv .1) in
@@ -56,18 +59,19 @@ loop-again c =
 returns : tie.Need-returns Inv-loop μ-loop
 returns c =
     let end = c .before .loop in
-    let a = c .before .before .before .before .before .before .args in
+    let a = c .before .before .before .before .before .before .before .before .args in
     let m = imageIn (a .s .now) (a .y) in
     let size-is = length-records instructionFrom (a .s .now) (a .y .code .instructions) in
     let all : end .q ≡ size m = omega (arith, size-is) in
-    visits-all m (end .q) all (sym size-is) (end .inv .2)
+    mark-then (c .before .before .before .before .before .mark-entry .ensures) (visits-all m (end .q) all (sym size-is) (end .inv .2))
 
-pub mark-instructions-spec : {M : Type 1} → statement M
-mark-instructions-spec =
+pub mark-code-spec : {M : Type 1} → statement M
+mark-code-spec =
     tie.close
     (tie.spec
     Inv-loop
     μ-loop
+    mark-entry-requires
     cast-n
     cursor-start-requires
     loop-holds
