@@ -84,11 +84,11 @@ typedef struct {
     uint64_t second;
 } foldzine_answer;
 
-/* Number 0 and how many blocks are reached; or 21 and 0, where words hold no graph. */
+/* Number 0 and a count; or 21 and 0, where words hold no graph. */
 typedef struct {
     uint64_t number;
     uint64_t count;
-} foldzine_reached_count;
+} foldzine_counted;
 
 /*
  * Builds the graph of a sequence image in `words`. Words that the graph does
@@ -105,7 +105,22 @@ foldzine_answer foldzine_add_routes(uint64_t words[FOLDZINE_WORDS], const uint8_
                                     uint64_t hops[FOLDZINE_HOP_WORDS]);
 
 /* Counts the blocks that edges of any kind lead to from the entry, itself among them. */
-foldzine_reached_count foldzine_reached(const uint64_t words[FOLDZINE_WORDS]);
+foldzine_counted foldzine_reached(const uint64_t words[FOLDZINE_WORDS]);
+
+/*
+ * The text of document 01's chart, line by line, each with its newline: the
+ * lines of a graph up to its hops, then those of the hops, one for each call
+ * list. A line is put at the start of `out`, and its length returned; 0 where
+ * there is no such line. Whether words hold a graph is asked once, with the count.
+ */
+#define FOLDZINE_LINE 256
+#define FOLDZINE_HOP_LINE 10816
+
+foldzine_counted foldzine_line_count(const uint64_t words[FOLDZINE_WORDS]);
+size_t foldzine_line(const uint64_t words[FOLDZINE_WORDS], size_t line, uint8_t out[FOLDZINE_LINE]);
+size_t foldzine_hop_lines(const uint64_t hops[FOLDZINE_HOP_WORDS], size_t hop);
+size_t foldzine_hop_line(const uint64_t hops[FOLDZINE_HOP_WORDS], const uint8_t *routes, size_t length, size_t hop,
+                         size_t list, uint8_t out[FOLDZINE_HOP_LINE]);
 
 /*
  * Reads an image and tells how many records its eight sections have, in file

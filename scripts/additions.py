@@ -26,8 +26,8 @@ use Rattle.graph.specs.declared.record.TableEntry.{TableEntry}
 use Rattle.graph.specs.declared.record.Block.{Block}
 use Rattle.graph.specs.declared.record.Edge.{Edge}
 use Rattle.graph.specs.Graph.{held}
-use Rattle.unwind.specs.Ways.{HopEnd, block, leave}
-use Rattle.unwind.specs.Add.{Outcome, added, refused, addRoutes}
+use Rattle.addition.specs.Ways.{HopEnd, block, leave}
+use Rattle.addition.specs.Add.{Outcome, added, refused, addRoutes}
 
 unfoldable pub join : List (List ℕ) → List ℕ
 join [] = []
@@ -61,7 +61,7 @@ holds t b e l n =
 def unfoldable():
     """Every definition that opens only where it is named."""
     names = ['mathlib.Core.List.zipWith']
-    for file in sorted(sum((glob.glob(f'crates/{c}/specs/*.antt', root_dir=ROOT) for c in ('image', 'graph', 'unwind')), [])):
+    for file in sorted(sum((glob.glob(f'crates/{c}/specs/*.antt', root_dir=ROOT) for c in ('image', 'graph', 'addition')), [])):
         _, crate, _, module = file[:-5].split('/')
         text = open(os.path.join(ROOT, file), encoding='utf-8').read()
         names += [f'Rattle.{crate}.specs.{module}.{name}' for name in re.findall(r'^ *unfoldable pub (?!use )(\S+)', text, re.M)]
@@ -133,10 +133,10 @@ def main():
         os.makedirs(os.path.dirname(os.path.join(folder, path)), exist_ok=True)
         open(os.path.join(folder, path), 'w', encoding='utf-8').write(text)
 
-    for file in sum((glob.glob(f'crates/{crate}/s*/**/*.*t', root_dir=ROOT, recursive=True) for crate in ('image', 'graph', 'unwind')), []):
+    for file in sum((glob.glob(f'crates/{crate}/s*/**/*.*t', root_dir=ROOT, recursive=True) for crate in ('image', 'graph', 'addition')), []):
         text = open(os.path.join(ROOT, file), encoding='utf-8').read()
         write(file, types(text) if file.endswith('.rt') else text)
-    write('crates.txt', 'image:\ngraph: image\nunwind: graph image\nrows: unwind graph image\n')
+    write('crates.txt', 'image:\ngraph: image\naddition: graph image\nrows: addition graph image\n')
     write('crates/rows/src/lib.rt', '// Rows to compute.\n')
     write('crates/rows/specs/Dump.antt', DUMP.replace('UNFOLD', unfoldable()))
     many = lambda items: '(' + ' ∷ '.join([str(i) for i in items] + ['[]']) + ')'

@@ -55,6 +55,20 @@ impl Graph {
         unsafe { raw::foldzine_reached(&*self.words) }.count as usize
     }
 
+    /// The lines of document 01's chart up to the hops.
+    pub fn chart(&self) -> String {
+        // SAFETY: arrays pass as pointers; the words are only read. They hold a graph, so the number is 0.
+        let lines = unsafe { raw::foldzine_line_count(&*self.words) }.count as usize;
+        let mut out = [0; raw::LINE];
+        let mut text = String::new();
+        for line in 0..lines {
+            // SAFETY: the same.
+            let length = unsafe { raw::foldzine_line(&*self.words, line, &mut out) };
+            text.extend(out[..length].iter().map(|&byte| char::from(byte)));
+        }
+        text
+    }
+
     /// The entry block.
     pub fn entry(&self) -> usize {
         self.words[ENTRY] as usize

@@ -1,6 +1,7 @@
 //! The hops of an addition: ways out of a block, each with the lists of calls
 //! that may come before it.
 
+use crate::raw;
 use crate::section::{HOPS, LISTS};
 use crate::{zeros, HOP_WORDS};
 
@@ -26,6 +27,7 @@ impl Default for HopBuffer {
 #[derive(Clone, Copy)]
 pub struct Hops<'h> {
     words: &'h [u64; HOP_WORDS],
+    routes: &'h [u8],
     /// The steps of the route image: a call list is a run of them.
     steps: &'h [u8],
 }
@@ -51,11 +53,11 @@ impl<'h> Hops<'h> {
     pub(crate) fn new(words: &'h [u64; HOP_WORDS], routes: &'h [u8]) -> Self {
         let paths = &routes[4 + ROUTE * count(routes)..];
         let steps = &paths[4 + PATH * count(paths)..];
-        Self { words, steps: &steps[4..] }
+        Self { words, routes, steps: &steps[4..] }
     }
 
     pub fn iter(&self) -> impl ExactSizeIterator<Item = Hop<'h>> {
-        let Self { words, steps } = *self;
+        let Self { words, steps, .. } = *self;
         HOPS.rows(&words[..]).map(move |row| {
             let at = |list: u64| LISTS.base + LISTS.stride * list as usize;
             Hop {
@@ -65,6 +67,25 @@ impl<'h> Hops<'h> {
                 steps,
             }
         })
+    }
+}
+
+impl Hops<'_> {
+    /// The lines of document 01's chart, one for each call list.
+    pub fn chart(&self) -> String {
+        let (bytes, length) = (self.routes.as_ptr(), self.routes.len());
+        let mut out = [0; raw::HOP_LINE];
+        let mut text = String::new();
+        for hop in 0..self.iter().len() {
+            // SAFETY: arrays pass as pointers, a slice as a pointer and a length; all but `out` are only read.
+            for list in 0..unsafe { raw::foldzine_hop_lines(self.words, hop) } {
+                let length = unsafe {
+                    raw::foldzine_hop_line(self.words, bytes, length, hop, list, &mut out)
+                };
+                text.extend(out[..length].iter().map(|&byte| char::from(byte)));
+            }
+        }
+        text
     }
 }
 

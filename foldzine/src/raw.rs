@@ -2,6 +2,10 @@
 
 use crate::{HOP_WORDS, WORDS};
 
+/// The longest line of a graph, and of a hop.
+pub const LINE: usize = 256;
+pub const HOP_LINE: usize = 10_816;
+
 #[repr(C)]
 pub struct Answer {
     pub number: u64,
@@ -9,8 +13,9 @@ pub struct Answer {
     pub second: u64,
 }
 
+/// Of reached blocks, and of lines.
 #[repr(C)]
-pub struct ReachedCount {
+pub struct Counted {
     pub number: u64,
     pub count: u64,
 }
@@ -23,5 +28,16 @@ extern "C" {
         length: usize,
         hops: *mut [u64; HOP_WORDS],
     ) -> Answer;
-    pub fn foldzine_reached(words: *const [u64; WORDS]) -> ReachedCount;
+    pub fn foldzine_reached(words: *const [u64; WORDS]) -> Counted;
+    pub fn foldzine_line_count(words: *const [u64; WORDS]) -> Counted;
+    pub fn foldzine_line(words: *const [u64; WORDS], line: usize, out: *mut [u8; LINE]) -> usize;
+    pub fn foldzine_hop_lines(hops: *const [u64; HOP_WORDS], hop: usize) -> usize;
+    pub fn foldzine_hop_line(
+        hops: *const [u64; HOP_WORDS],
+        routes: *const u8,
+        length: usize,
+        hop: usize,
+        list: usize,
+        out: *mut [u8; HOP_LINE],
+    ) -> usize;
 }

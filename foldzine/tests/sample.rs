@@ -101,6 +101,17 @@ fn the_routes_are_added() {
 }
 
 #[test]
+fn the_chart_is_told() {
+    let mut graph = Graph::build(IMAGE).expect("the sample is accepted");
+    let mut buffer = HopBuffer::new();
+    let hops = graph.add_routes(ROUTES, &mut buffer).expect("the routes fit");
+    assert_eq!(hops.chart(), "hop 0 3 -\nhop 0 5 7\nhop 2 leave 8\nhop 3 2 -\nhop 5 4 -\n");
+    let chart = graph.chart();
+    assert!(chart.starts_with("built 6 5 0 0 0\nblock 0 "), "{chart}");
+    assert_eq!(chart.lines().count(), 12);
+}
+
+#[test]
 fn a_refusal_changes_nothing() {
     let mut graph = Graph::build(IMAGE).expect("the sample is accepted");
     let edges: Vec<Edge> = graph.edges().collect();
