@@ -2,6 +2,7 @@
 // and promises what that one does.
 use graph::record::Edge;
 use graph::store::Words;
+use unwind::add::AddedRoutes;
 use unwind::hops::HopRow;
 use unwind::hops::Hops;
 ghost use mathlib.Core.Path.{_≡_};
@@ -10,6 +11,8 @@ ghost use lib.ListN.{length};
 ghost use Rattle.graph.specs.Graph.{edge};
 ghost use Rattle.graph.specs.Words.{heldIn};
 ghost use Rattle.graph.specs.Stored.{withEdge, Stored};
+ghost use Rattle.addition.specs.Add.{addRoutes};
+ghost use Rattle.unwind.specs.Answers.{addAnswer, AddLeaves, Spells};
 ghost use Rattle.unwind.specs.HopWords.{hopAt, rowsIn, withHop, HopsStored};
 
 pub struct Graph {
@@ -48,4 +51,11 @@ pub fn hop_at(h: &HopList, i: usize) -> HopRow
     ensures { λ r. ⌜ r ≡ hopAt (rowsIn (now (h .entry) .words)) i ⌝ }
 {
     unwind::hops::hop_at(&h.words, i)
+}
+
+// To a graph that any words hold, and routes that any bytes hold: the edges and copies that they want, and their hops.
+pub fn add_unwind_routes(g: &mut Graph, s: &[u8], h: &mut HopList) -> AddedRoutes
+    ensures { λ r. ⌜ (addAnswer (now (s .entry)) (now (g .exit) .words) (now (h .exit) .words) r ≡ addRoutes (heldIn (now (g .entry) .words)) (now (s .entry))) × AddLeaves (now (g .entry) .words) (now (g .exit) .words) (now (h .entry) .words) (now (h .exit) .words) r × Spells (now (s .entry)) (now (g .entry) .words) (now (g .exit) .words) (now (h .exit) .words) r ⌝ }
+{
+    unwind::add::add_unwind_routes(&mut g.words, s, &mut h.words)
 }
