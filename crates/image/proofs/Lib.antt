@@ -1,4 +1,5 @@
 pub mod Past
+pub mod Padded
 pub mod Checks
 pub mod Tables
 pub mod Sections

@@ -1,9 +1,8 @@
 // Record i of a section, straight from the bytes. Past the section's end it is the record of zeros.
 use crate::little::byte_at;
 use crate::little::octet;
+use crate::little::padded;
 use crate::little::quad;
-use crate::little::u32_at;
-use crate::little::u64_at;
 use crate::record::Case;
 use crate::record::GivenEdge;
 use crate::record::GivenSource;
@@ -143,7 +142,7 @@ fn instruction_from(s: &[u8], at: usize) -> Instruction
     ensures { λ r. ⌜ r ≡ instructionFrom (now (s .entry)) at ⌝ }
 {
     if s.len() < at + 31 {
-        instruction_cut(s, at)
+        instruction_there(&padded(s, at), 0)
     } else {
         instruction_there(s, at)
     }
@@ -167,31 +166,24 @@ fn instruction_there(s: &[u8], at: usize) -> Instruction
     }
 }
 
-// A record of which some bytes may be past the end.
-fn instruction_cut(s: &[u8], at: usize) -> Instruction
-    requires { ⌜ at ≤ 18446744069414584320 ⌝ }
-    ensures { λ r. ⌜ r ≡ instructionFrom (now (s .entry)) at ⌝ }
-{
-    let has_end = byte_at(s, at + 16) == 1;
-    let keeps = byte_at(s, at + 17) == 1;
-    Instruction {
-        address: u64_at(s, at),
-        end: u64_at(s, at + 8),
-        has_end,
-        keeps,
-        flow: byte_at(s, at + 18),
-        target: u64_at(s, at + 19),
-        cases: u32_at(s, at + 27) as usize,
-    }
-}
-
 fn case_from(s: &[u8], at: usize) -> Case
     requires { ⌜ at ≤ 18446744069414584320 ⌝ }
     ensures { λ r. ⌜ r ≡ caseFrom (now (s .entry)) at ⌝ }
 {
+    if s.len() < at + 12 {
+        case_there(&padded(s, at), 0)
+    } else {
+        case_there(s, at)
+    }
+}
+
+fn case_there(s: &[u8], at: usize) -> Case
+    requires { ⌜ at + 12 ≤ length (now s) ⌝ }
+    ensures { λ r. ⌜ r ≡ caseFrom (now (s .entry)) at ⌝ }
+{
     Case {
-        key: u32_at(s, at),
-        target: u64_at(s, at + 4),
+        key: quad(s, at),
+        target: octet(s, at + 4),
     }
 }
 
@@ -199,9 +191,20 @@ fn source_from(s: &[u8], at: usize) -> GivenSource
     requires { ⌜ at ≤ 18446744069414584320 ⌝ }
     ensures { λ r. ⌜ r ≡ sourceFrom (now (s .entry)) at ⌝ }
 {
+    if s.len() < at + 12 {
+        source_there(&padded(s, at), 0)
+    } else {
+        source_there(s, at)
+    }
+}
+
+fn source_there(s: &[u8], at: usize) -> GivenSource
+    requires { ⌜ at + 12 ≤ length (now s) ⌝ }
+    ensures { λ r. ⌜ r ≡ sourceFrom (now (s .entry)) at ⌝ }
+{
     GivenSource {
-        address: u64_at(s, at),
-        edges: u32_at(s, at + 8) as usize,
+        address: octet(s, at),
+        edges: quad(s, at + 8) as usize,
     }
 }
 
@@ -209,10 +212,21 @@ fn edge_from(s: &[u8], at: usize) -> GivenEdge
     requires { ⌜ at ≤ 18446744069414584320 ⌝ }
     ensures { λ r. ⌜ r ≡ edgeFrom (now (s .entry)) at ⌝ }
 {
+    if s.len() < at + 13 {
+        edge_there(&padded(s, at), 0)
+    } else {
+        edge_there(s, at)
+    }
+}
+
+fn edge_there(s: &[u8], at: usize) -> GivenEdge
+    requires { ⌜ at + 13 ≤ length (now s) ⌝ }
+    ensures { λ r. ⌜ r ≡ edgeFrom (now (s .entry)) at ⌝ }
+{
     GivenEdge {
-        target: u64_at(s, at),
+        target: octet(s, at),
         kind: byte_at(s, at + 8),
-        payload: u32_at(s, at + 9),
+        payload: quad(s, at + 9),
     }
 }
 
@@ -220,12 +234,23 @@ fn handler_from(s: &[u8], at: usize) -> Handler
     requires { ⌜ at ≤ 18446744069414584320 ⌝ }
     ensures { λ r. ⌜ r ≡ handlerFrom (now (s .entry)) at ⌝ }
 {
+    if s.len() < at + 29 {
+        handler_there(&padded(s, at), 0)
+    } else {
+        handler_there(s, at)
+    }
+}
+
+fn handler_there(s: &[u8], at: usize) -> Handler
+    requires { ⌜ at + 29 ≤ length (now s) ⌝ }
+    ensures { λ r. ⌜ r ≡ handlerFrom (now (s .entry)) at ⌝ }
+{
     Handler {
-        start: u64_at(s, at),
-        end: u64_at(s, at + 8),
-        entry: u64_at(s, at + 16),
+        start: octet(s, at),
+        end: octet(s, at + 8),
+        entry: octet(s, at + 16),
         kind: byte_at(s, at + 24),
-        filter: u32_at(s, at + 25),
+        filter: quad(s, at + 25),
     }
 }
 
@@ -233,10 +258,21 @@ fn route_from(s: &[u8], at: usize) -> Route
     requires { ⌜ at ≤ 18446744069414584320 ⌝ }
     ensures { λ r. ⌜ r ≡ routeFrom (now (s .entry)) at ⌝ }
 {
+    if s.len() < at + 20 {
+        route_there(&padded(s, at), 0)
+    } else {
+        route_there(s, at)
+    }
+}
+
+fn route_there(s: &[u8], at: usize) -> Route
+    requires { ⌜ at + 20 ≤ length (now s) ⌝ }
+    ensures { λ r. ⌜ r ≡ routeFrom (now (s .entry)) at ⌝ }
+{
     Route {
-        start: u64_at(s, at),
-        end: u64_at(s, at + 8),
-        paths: u32_at(s, at + 16) as usize,
+        start: octet(s, at),
+        end: octet(s, at + 8),
+        paths: quad(s, at + 16) as usize,
     }
 }
 
@@ -244,10 +280,21 @@ fn path_from(s: &[u8], at: usize) -> Path
     requires { ⌜ at ≤ 18446744069414584320 ⌝ }
     ensures { λ r. ⌜ r ≡ pathFrom (now (s .entry)) at ⌝ }
 {
+    if s.len() < at + 13 {
+        path_there(&padded(s, at), 0)
+    } else {
+        path_there(s, at)
+    }
+}
+
+fn path_there(s: &[u8], at: usize) -> Path
+    requires { ⌜ at + 13 ≤ length (now s) ⌝ }
+    ensures { λ r. ⌜ r ≡ pathFrom (now (s .entry)) at ⌝ }
+{
     Path {
         end: byte_at(s, at),
-        handler: u64_at(s, at + 1),
-        steps: u32_at(s, at + 9) as usize,
+        handler: octet(s, at + 1),
+        steps: quad(s, at + 9) as usize,
     }
 }
 
@@ -255,8 +302,19 @@ fn step_from(s: &[u8], at: usize) -> Step
     requires { ⌜ at ≤ 18446744069414584320 ⌝ }
     ensures { λ r. ⌜ r ≡ stepFrom (now (s .entry)) at ⌝ }
 {
+    if s.len() < at + 9 {
+        step_there(&padded(s, at), 0)
+    } else {
+        step_there(s, at)
+    }
+}
+
+fn step_there(s: &[u8], at: usize) -> Step
+    requires { ⌜ at + 9 ≤ length (now s) ⌝ }
+    ensures { λ r. ⌜ r ≡ stepFrom (now (s .entry)) at ⌝ }
+{
     Step {
         code: byte_at(s, at),
-        value: u64_at(s, at + 1),
+        value: octet(s, at + 1),
     }
 }

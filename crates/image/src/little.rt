@@ -1,6 +1,6 @@
 // Numbers in bytes, the lowest first. Past the end of the bytes each byte is 0.
 ghost use mathlib.Core.Path.{_≡_};
-ghost use Prim.Native.Nat.{_+_, _≤_, _<_};
+ghost use Prim.Native.Nat.{ℕ, _+_, _≤_, _<_};
 ghost use lib.ListN.{length};
 ghost use Rattle.image.specs.Little.{le1, le4, le8};
 
@@ -13,7 +13,13 @@ fn wide(x: u8) -> u64
 pub fn byte_at(s: &[u8], at: usize) -> u64
     ensures { λ r. ⌜ (r ≡ le1 (now (s .entry)) at) × (r < 256) ⌝ }
 {
-    if at < s.len() { wide(s[at]) } else { 0 }
+    wide(small_at(s, at))
+}
+
+fn small_at(s: &[u8], at: usize) -> u8
+    ensures { λ r. ⌜ r ≡ le1 (now (s .entry)) at ⌝ }
+{
+    if at < s.len() { s[at] } else { 0 }
 }
 
 pub fn u32_at(s: &[u8], at: usize) -> u64
@@ -25,7 +31,7 @@ pub fn u32_at(s: &[u8], at: usize) -> u64
     if 4 <= s.len() - at {
         quad(s, at)
     } else {
-        quad_cut(s, at)
+        quad(&padded(s, at), 0)
     }
 }
 
@@ -38,7 +44,7 @@ pub fn u64_at(s: &[u8], at: usize) -> u64
     if 8 <= s.len() - at {
         octet(s, at)
     } else {
-        quad_cut(s, at) + 0x100000000 * quad_cut(s, at + 4)
+        octet(&padded(s, at), 0)
     }
 }
 
@@ -57,13 +63,14 @@ pub fn quad(s: &[u8], at: usize) -> u64
     wide(s[at]) + 0x100 * wide(s[at + 1]) + 0x10000 * wide(s[at + 2]) + 0x1000000 * wide(s[at + 3])
 }
 
-// Four bytes of which some may be past the end.
-fn quad_cut(s: &[u8], at: usize) -> u64
-    requires { ⌜ at < 9223372036854775816 ⌝ }
-    ensures { λ r. ⌜ (r ≡ le4 (now (s .entry)) at) × (r < 4294967296) ⌝ }
+// The 31 bytes from `at` on, as many as the widest record has.
+pub fn padded(s: &[u8], at: usize) -> [u8; 31]
+    requires { ⌜ at ≤ 18446744069414584320 ⌝ }
+    ensures { λ r. ⌜ (length r ≡ 31) × ((k : ℕ) → k < 31 → le1 r k ≡ le1 (now (s .entry)) (at + k)) ⌝ }
 {
-    byte_at(s, at)
-        + 0x100 * byte_at(s, at + 1)
-        + 0x10000 * byte_at(s, at + 2)
-        + 0x1000000 * byte_at(s, at + 3)
+    let mut b = [0u8; 31];
+    for k in 0..31 {
+        b[k] = small_at(s, at + k);
+    }
+    b
 }

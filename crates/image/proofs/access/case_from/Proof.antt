@@ -1,19 +1,23 @@
--- Field by field. Assumes nothing.
+-- The same record, there or from a copy. Assumes nothing.
+use mathlib.Core.Path.{_∙_}
+use Rattle.image.proofs.Padded.{moved-case}
 use borrow.Author.Needs.{needs}
 use Rattle.image.proofs.access.case_from.Statement.{statement}
 use Rattle.image.proofs.access.case_from.Tie as tie
 
-u32-at-requires : tie.Need-u32-at-requires
-u32-at-requires c κs = search needs
-
-add-u64-at : tie.Need-add-u64-at
-add-u64-at c = search needs
-
-u64-at-requires : tie.Need-u64-at-requires
-u64-at-requires c κs = search needs
-
 returns : tie.Need-returns
-returns c = rw (c .before .u32-at .ensures .0, c .u64-at .ensures)
+returns c =
+    let a = c .before .before .before .before .before .args in
+    c .case-there .ensures ∙ moved-case (c .before .before .padded .result) (a .s .now) (a .at) (c .before .before .padded .ensures .1)
 
 pub case-from-spec : {M : Type 1} → statement M
-case-from-spec = tie.close (tie.spec u32-at-requires add-u64-at u64-at-requires returns)
+case-from-spec =
+    tie.close
+    (tie.spec
+    (λ c. search needs)
+    (λ c κs. search needs)
+    (λ c. search needs)
+    (λ c κs. search needs)
+    (λ c κs. search needs)
+    returns
+    (λ c. search needs))

@@ -1,49 +1,23 @@
--- Field by field. Assumes nothing.
+-- The same record, there or from a copy. Assumes nothing.
+use mathlib.Core.Path.{_∙_}
+use Rattle.image.proofs.Padded.{moved-handler}
 use borrow.Author.Needs.{needs}
 use Rattle.image.proofs.access.handler_from.Statement.{statement}
 use Rattle.image.proofs.access.handler_from.Tie as tie
 
-u64-at-requires : tie.Need-u64-at-requires
-u64-at-requires c κs = search needs
-
-add-u64-at : tie.Need-add-u64-at
-add-u64-at c = search needs
-
-u64-at-requires-2 : tie.Need-u64-at-requires-2
-u64-at-requires-2 c κs = search needs
-
-add-u64-at-2 : tie.Need-add-u64-at-2
-add-u64-at-2 c = search needs
-
-u64-at-requires-3 : tie.Need-u64-at-requires-3
-u64-at-requires-3 c κs = search needs
-
-add-byte-at : tie.Need-add-byte-at
-add-byte-at c = search needs
-
-byte-at-requires : tie.Need-byte-at-requires
-byte-at-requires c κs = search needs
-
-add-u32-at : tie.Need-add-u32-at
-add-u32-at c = search needs
-
-u32-at-requires : tie.Need-u32-at-requires
-u32-at-requires c κs = search needs
-
 returns : tie.Need-returns
-returns c = rw (c .before .before .before .before .u64-at .ensures, c .before .before .before .u64-at2 .ensures, c .before .before .u64-at3 .ensures, c .before .byte-at .ensures .0, c .u32-at .ensures .0)
+returns c =
+    let a = c .before .before .before .before .before .args in
+    c .handler-there .ensures ∙ moved-handler (c .before .before .padded .result) (a .s .now) (a .at) (c .before .before .padded .ensures .1)
 
 pub handler-from-spec : {M : Type 1} → statement M
 handler-from-spec =
     tie.close
     (tie.spec
-    u64-at-requires
-    add-u64-at
-    u64-at-requires-2
-    add-u64-at-2
-    u64-at-requires-3
-    add-byte-at
-    byte-at-requires
-    add-u32-at
-    u32-at-requires
-    returns)
+    (λ c. search needs)
+    (λ c κs. search needs)
+    (λ c. search needs)
+    (λ c κs. search needs)
+    (λ c κs. search needs)
+    returns
+    (λ c. search needs))

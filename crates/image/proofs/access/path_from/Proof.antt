@@ -1,27 +1,23 @@
--- Field by field. Assumes nothing.
+-- The same record, there or from a copy. Assumes nothing.
+use mathlib.Core.Path.{_∙_}
+use Rattle.image.proofs.Padded.{moved-path}
 use borrow.Author.Needs.{needs}
 use Rattle.image.proofs.access.path_from.Statement.{statement}
 use Rattle.image.proofs.access.path_from.Tie as tie
 
-byte-at-requires : tie.Need-byte-at-requires
-byte-at-requires c κs = search needs
-
-add-u64-at : tie.Need-add-u64-at
-add-u64-at c = search needs
-
-u64-at-requires : tie.Need-u64-at-requires
-u64-at-requires c κs = search needs
-
-add-u32-at : tie.Need-add-u32-at
-add-u32-at c = search needs
-
-u32-at-requires : tie.Need-u32-at-requires
-u32-at-requires c κs = search needs
-
 returns : tie.Need-returns
-returns c = rw (c .before .before .byte-at .ensures .0, c .before .u64-at .ensures, c .u32-at .ensures .0)
+returns c =
+    let a = c .before .before .before .before .before .args in
+    c .path-there .ensures ∙ moved-path (c .before .before .padded .result) (a .s .now) (a .at) (c .before .before .padded .ensures .1)
 
 pub path-from-spec : {M : Type 1} → statement M
 path-from-spec =
     tie.close
-    (tie.spec byte-at-requires add-u64-at u64-at-requires add-u32-at u32-at-requires returns)
+    (tie.spec
+    (λ c. search needs)
+    (λ c κs. search needs)
+    (λ c. search needs)
+    (λ c κs. search needs)
+    (λ c κs. search needs)
+    returns
+    (λ c. search needs))

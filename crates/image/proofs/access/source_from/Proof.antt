@@ -1,19 +1,23 @@
--- Field by field. Assumes nothing.
+-- The same record, there or from a copy. Assumes nothing.
+use mathlib.Core.Path.{_∙_}
+use Rattle.image.proofs.Padded.{moved-source}
 use borrow.Author.Needs.{needs}
 use Rattle.image.proofs.access.source_from.Statement.{statement}
 use Rattle.image.proofs.access.source_from.Tie as tie
 
-u64-at-requires : tie.Need-u64-at-requires
-u64-at-requires c κs = search needs
-
-add-u32-at : tie.Need-add-u32-at
-add-u32-at c = search needs
-
-u32-at-requires : tie.Need-u32-at-requires
-u32-at-requires c κs = search needs
-
 returns : tie.Need-returns
-returns c = rw (c .before .u64-at .ensures, c .u32-at .ensures .0)
+returns c =
+    let a = c .before .before .before .before .before .args in
+    c .source-there .ensures ∙ moved-source (c .before .before .padded .result) (a .s .now) (a .at) (c .before .before .padded .ensures .1)
 
 pub source-from-spec : {M : Type 1} → statement M
-source-from-spec = tie.close (tie.spec u64-at-requires add-u32-at u32-at-requires returns)
+source-from-spec =
+    tie.close
+    (tie.spec
+    (λ c. search needs)
+    (λ c κs. search needs)
+    (λ c. search needs)
+    (λ c κs. search needs)
+    (λ c κs. search needs)
+    returns
+    (λ c. search needs))

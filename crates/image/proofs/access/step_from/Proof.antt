@@ -1,19 +1,23 @@
--- Field by field. Assumes nothing.
+-- The same record, there or from a copy. Assumes nothing.
+use mathlib.Core.Path.{_∙_}
+use Rattle.image.proofs.Padded.{moved-step}
 use borrow.Author.Needs.{needs}
 use Rattle.image.proofs.access.step_from.Statement.{statement}
 use Rattle.image.proofs.access.step_from.Tie as tie
 
-byte-at-requires : tie.Need-byte-at-requires
-byte-at-requires c κs = search needs
-
-add-u64-at : tie.Need-add-u64-at
-add-u64-at c = search needs
-
-u64-at-requires : tie.Need-u64-at-requires
-u64-at-requires c κs = search needs
-
 returns : tie.Need-returns
-returns c = rw (c .before .byte-at .ensures .0, c .u64-at .ensures)
+returns c =
+    let a = c .before .before .before .before .before .args in
+    c .step-there .ensures ∙ moved-step (c .before .before .padded .result) (a .s .now) (a .at) (c .before .before .padded .ensures .1)
 
 pub step-from-spec : {M : Type 1} → statement M
-step-from-spec = tie.close (tie.spec byte-at-requires add-u64-at u64-at-requires returns)
+step-from-spec =
+    tie.close
+    (tie.spec
+    (λ c. search needs)
+    (λ c κs. search needs)
+    (λ c. search needs)
+    (λ c κs. search needs)
+    (λ c κs. search needs)
+    returns
+    (λ c. search needs))

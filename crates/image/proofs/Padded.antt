@@ -1,0 +1,75 @@
+-- Bytes that are copied, with zeros past the end, say the same numbers.
+--     Same, same-none, same-more   the first k bytes are copied
+--     moved4, moved8               the numbers that it says
+--     moved-instruction, ..        the records that it says
+-- Assumes nothing.
+use mathlib.Core.Path.{_≡_, refl, ap, _∙_}
+use mathlib.Core.List.{List}
+use Prim.Native.Nat.{ℕ, _+_, _≤_, _<_}
+use native.Mathlib.Nat.{not-suc-le-zero}
+use native.Mathlib.Decide.{ℕ-discrete}
+use native.Mathlib.Omega.{arith}
+use lib.ListN.{length, set, length-set}
+use lib.Seq.{getD-set-same, getD-set-other}
+use Rattle.image.specs.Little.{le1, le4, le8}
+use Rattle.image.specs.Record.{instructionFrom, caseFrom, sourceFrom, edgeFrom, handlerFrom, routeFrom, pathFrom, stepFrom}
+
+-- the first k bytes of b are those of l from `at` on
+pub record Same (b l : List ℕ) (at k : ℕ) : Type 0 where
+  pub long : length b ≡ 31
+  pub each : (j : ℕ) → j < k → le1 b j ≡ le1 l (at + j)
+
+pub same-none : (b l : List ℕ) (at : ℕ) → length b ≡ 31 → Same b l at 0
+same-none b l at long = record { long = long; each = λ j h. absurd (not-suc-le-zero h) }
+
+pub same-more : (b l : List ℕ) (at k x : ℕ) → Same b l at k → k < 31 → x ≡ le1 l (at + k) → Same (set b k x) l at (k + 1)
+same-more b l at k x f h e =
+    record {
+      long = length-set b k x ∙ f .long;
+      each = λ j lt.
+          elim (ℕ-discrete j k) [
+            | yes q ↦ rw q (getD-set-same b k x 0 (omega (arith, f .long)) ∙ e)
+            | no ne ↦ getD-set-other b k j x 0 ne ∙ f .each j (omega arith)
+          ];
+    }
+
+module _ (b l : List ℕ) (at : ℕ) (same : (k : ℕ) → k < 31 → le1 b k ≡ le1 l (at + k)) where
+  pub moved1 : (k j : ℕ) → k < 31 → at + k ≡ j → le1 b k ≡ le1 l j
+  moved1 k j h e = same k h ∙ ap (le1 l) e
+
+  pub moved4 : (k j : ℕ) → k + 4 ≤ 31 → at + k ≡ j → le4 b k ≡ le4 l j
+  moved4 k j h e =
+      omega (
+        arith,
+        moved1 k j (omega arith) e,
+        moved1 (k + 1) (j + 1) (omega arith) (omega (arith, e)),
+        moved1 (k + 2) (j + 2) (omega arith) (omega (arith, e)),
+        moved1 (k + 3) (j + 3) (omega arith) (omega (arith, e)),
+      )
+
+  pub moved8 : (k j : ℕ) → k + 8 ≤ 31 → at + k ≡ j → le8 b k ≡ le8 l j
+  moved8 k j h e = omega (arith, moved4 k j (omega arith) e, moved4 (k + 4) (j + 4) (omega arith) (omega (arith, e)))
+
+  pub moved-instruction : instructionFrom b 0 ≡ instructionFrom l at
+  moved-instruction = rw (moved8 0 at (omega arith) (omega arith), moved8 8 (at + 8) (omega arith) (omega arith), moved1 16 (at + 16) (omega arith) (omega arith), moved1 17 (at + 17) (omega arith) (omega arith), moved1 18 (at + 18) (omega arith) (omega arith), moved8 19 (at + 19) (omega arith) (omega arith), moved4 27 (at + 27) (omega arith) (omega arith))
+
+  pub moved-case : caseFrom b 0 ≡ caseFrom l at
+  moved-case = rw (moved4 0 at (omega arith) (omega arith), moved8 4 (at + 4) (omega arith) (omega arith))
+
+  pub moved-source : sourceFrom b 0 ≡ sourceFrom l at
+  moved-source = rw (moved8 0 at (omega arith) (omega arith), moved4 8 (at + 8) (omega arith) (omega arith))
+
+  pub moved-edge : edgeFrom b 0 ≡ edgeFrom l at
+  moved-edge = rw (moved8 0 at (omega arith) (omega arith), moved1 8 (at + 8) (omega arith) (omega arith), moved4 9 (at + 9) (omega arith) (omega arith))
+
+  pub moved-handler : handlerFrom b 0 ≡ handlerFrom l at
+  moved-handler = rw (moved8 0 at (omega arith) (omega arith), moved8 8 (at + 8) (omega arith) (omega arith), moved8 16 (at + 16) (omega arith) (omega arith), moved1 24 (at + 24) (omega arith) (omega arith), moved4 25 (at + 25) (omega arith) (omega arith))
+
+  pub moved-route : routeFrom b 0 ≡ routeFrom l at
+  moved-route = rw (moved8 0 at (omega arith) (omega arith), moved8 8 (at + 8) (omega arith) (omega arith), moved4 16 (at + 16) (omega arith) (omega arith))
+
+  pub moved-path : pathFrom b 0 ≡ pathFrom l at
+  moved-path = rw (moved1 0 at (omega arith) (omega arith), moved8 1 (at + 1) (omega arith) (omega arith), moved4 9 (at + 9) (omega arith) (omega arith))
+
+  pub moved-step : stepFrom b 0 ≡ stepFrom l at
+  moved-step = rw (moved1 0 at (omega arith) (omega arith), moved8 1 (at + 1) (omega arith) (omega arith))
