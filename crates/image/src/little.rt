@@ -13,13 +13,7 @@ fn wide(x: u8) -> u64
 pub fn byte_at(s: &[u8], at: usize) -> u64
     ensures { λ r. ⌜ (r ≡ le1 (now (s .entry)) at) × (r < 256) ⌝ }
 {
-    wide(small_at(s, at))
-}
-
-fn small_at(s: &[u8], at: usize) -> u8
-    ensures { λ r. ⌜ r ≡ le1 (now (s .entry)) at ⌝ }
-{
-    if at < s.len() { s[at] } else { 0 }
+    if at < s.len() { wide(s[at]) } else { 0 }
 }
 
 pub fn u32_at(s: &[u8], at: usize) -> u64
@@ -68,9 +62,21 @@ pub fn padded(s: &[u8], at: usize) -> [u8; 31]
     requires { ⌜ at ≤ 18446744069414584320 ⌝ }
     ensures { λ r. ⌜ (length r ≡ 31) × ((k : ℕ) → k < 31 → le1 r k ≡ le1 (now (s .entry)) (at + k)) ⌝ }
 {
+    let n = left_from(s, at);
     let mut b = [0u8; 31];
-    for k in 0..31 {
-        b[k] = small_at(s, at + k);
+    for k in 0..n {
+        b[k] = s[at + k];
     }
     b
+}
+
+// How many of them there are.
+fn left_from(s: &[u8], at: usize) -> usize
+    ensures { λ r. ⌜ (r ≤ 31) × (0 < r → at + r ≤ length (now (s .entry))) × (r < 31 → length (now (s .entry)) ≤ at + r) ⌝ }
+{
+    if s.len() <= at {
+        return 0;
+    }
+    let n = s.len() - at;
+    if n < 31 { n } else { 31 }
 }
