@@ -13,7 +13,7 @@ ghost use Rattle.unwind.specs.Interning.{sameSteps, Starts, GroupIn, Lef
 
 pub const FUNCLET: u64 = 0;
 
-// Of a route's paths, which are the `count` from `first` on, those that begin with the `depth` steps from `from` on.
+// Of a route's paths, those of the `count` from `first` on that begin with the `depth` steps from `from` on.
 pub struct Group {
     pub route: usize,
     pub first: usize,
