@@ -35,7 +35,7 @@ use Rattle.unwind.proofs.SizeChecks.{placed-in, bounded-in}
 
 module _ (g : Graph) (m : RouteImage) (steps paths routes : ℕ) (steps-few : length (m .steps) ≤ steps) (paths-few : length (m .paths) ≤ paths) (routes-few : length (m .routes) ≤ routes) (steps-most : steps ≤ 512) (paths-most : paths ≤ 128) where
   pub framed : {starts nodes edges ends stack roots head next bases heads parts returns guards landings exits : List ℕ}
-      → length starts ≡ paths → length nodes ≡ 6 * (routes + steps) → length edges ≡ 3 * steps → length ends ≡ 3 * paths → length stack ≡ 3 * steps → length roots ≡ routes
+      → length starts ≡ paths + 1 → length nodes ≡ 6 * (routes + steps) → length edges ≡ 3 * steps → length ends ≡ 3 * paths → length stack ≡ 3 * steps → length roots ≡ routes
       → Roomy g head next → head ≡ replicate (length head) 0
       → length bases ≡ routes + steps → length heads ≡ routes + steps → length parts ≡ 16 * (routes + steps) → length returns ≡ 16 * (routes + steps)
       → length guards ≡ 16 * routes → length landings ≡ paths → length exits ≡ 6 * (steps + paths)

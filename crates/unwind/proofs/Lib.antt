@@ -8,6 +8,7 @@ pub mod TrieOrder
 pub mod TrieCompare
 pub mod TriePaths
 pub mod TrieKeys
+pub mod TrieSpans
 pub mod TrieRuns
 pub mod TrieLaid
 pub mod TrieNodes

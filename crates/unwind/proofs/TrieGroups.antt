@@ -1,30 +1,34 @@
 -- What is left of a group's paths behind the calls and the funclet of a key, and how much the rest may still store.
 --     strip-append, strip-key          steps that begin with others, one behind the other; with those of a key
+--     flat-part                        lists one behind the other of which the first and the last ones are empty
 --     rest-paths                       the group behind a key has the paths that are left
 --     stepsAhead, pathsAhead           how many steps and paths there are whose key comes after `last`
 --     steps-start, paths-start, steps-step, paths-step     none is passed, and one key more
 --     rest-some                        something is left of a key's paths
 -- Assumes nothing.
-use mathlib.Core.Path.{_≡_, refl, sym, ap, _∙_}
+use mathlib.Core.Path.{_≡_, refl, sym, ap, ap₂, _∙_}
 use mathlib.Core.Bool.{Bool, true, false, cond}
-use mathlib.Core.List.{List, [], _∷_, _++_, map}
+use mathlib.Core.List.{List, [], _∷_, _++_, map, append-nil}
+use mathlib.Core.Logic.{_⊎_, inl, inr, ⊎-elim}
 use mathlib.Core.Option.{Option, none, some}
-use Prim.Native.Nat.{ℕ, suc, _+_, _-_, _≤_, compare, Ordering, Ordering·lt, Ordering·eq, Ordering·gt}
+use Prim.Native.Nat.{ℕ, zero, suc, _+_, _-_, _≤_, _<_, compare, Ordering, Ordering·lt, Ordering·eq, Ordering·gt}
+use native.Mathlib.Decide.{decLt}
 use native.Mathlib.Omega.{arith}
 use lib.Dec.{eqb, isEq}
 use lib.ListN.{length, length-append}
 use Rattle.image.specs.Image.{RouteImage}
 use Rattle.image.specs.Deal.{UnwindStep, funclet, call, UnwindEnd, UnwindPath}
+use Rattle.graph.specs.Fold.{flat}
 use Rattle.graph.specs.Route.{pathIn}
-use Rattle.graph.proofs.FoldLaws.{flat-same}
+use Rattle.graph.proofs.FoldLaws.{flat-none, flat-same}
 use Rattle.unwind.specs.declared.tries.paths.Group.{Group}
 use Rattle.unwind.specs.declared.tries.keys.Key.{Key}
 use Rattle.addition.specs.Lists.{joined}
 use Rattle.addition.specs.Order.{Tagged, tagged, _and-then_, compareTags, compareTagged}
-use Rattle.addition.specs.Trie.{Cut, over, enters, behind, cut, endOn, groups, restOn, rest}
+use Rattle.addition.specs.Trie.{Cut, over, enters, behind, cut, endOn, groupOn, groups, restOn, rest}
 use Rattle.addition.specs.Walk.{_∈_}
 use Rattle.unwind.specs.Interning.{isLt, after, sameStep, strip, leftWith, stepsIn, leftAt, pathsOf}
-use Rattle.unwind.specs.Keys.{keySteps, keysOf, keyIn, Stands}
+use Rattle.unwind.specs.Keys.{keySteps, keysOf, keyIn, Stands, Spans}
 use Rattle.unwind.specs.Laid.{endsList}
 use Rattle.unwind.specs.Interns.{weight, groupBehind}
 use Rattle.addition.proofs.Lists.{none-in}
@@ -33,6 +37,9 @@ use Rattle.addition.proofs.Paths.{exact-key, enters-path, groups-mem}
 use Rattle.unwind.proofs.TrieOrder.{total-key, self-eq, eq-same, is-lt}
 use Rattle.unwind.proofs.TriePaths.{steps-append}
 use Rattle.unwind.proofs.TrieKeys.{joined-flat, joined-one}
+
+abbrev order : Tagged ℕ → Tagged ℕ → Ordering
+order = compareTagged compare
 
 -- ---- steps that begin with others
 
@@ -86,6 +93,39 @@ module _ (f : ℕ) (e : UnwindEnd) where
   rest-left k none w = refl
   rest-left k (some s) w = joined-one (λ (p : UnwindPath). restOn k (cut (p .steps)) (p .end)) _ ∙ rw w (strip-key (k .calls) s)
 
+-- what is left behind a key of paths that have another, or none
+left-others : (e : UnwindEnd) (x : Tagged ℕ) (o : Option (List UnwindStep)) → (keysOf (leftWith e o) ≡ x ∷ [] → ⊥) → joined (λ (p : UnwindPath). restOn x (cut (p .steps)) (p .end)) (leftWith e o) ≡ []
+unfolding keysOf joined groupOn restOn
+left-others e x none other = refl
+left-others e x (some s) other = rw append-nil (go (cut s) (λ k. other (append-nil (groupOn (cut s)) ∙ k)))
+  where
+    go : (k : Cut) → (groupOn k ≡ x ∷ [] → ⊥) → restOn x k e ≡ []
+    go (over l) apart = refl
+    go (enters l f u) apart = tell (order x (tagged l f)) refl
+      where
+        tell : (o : Ordering) → order x (tagged l f) ≡ o → cond {A = List UnwindPath} (isEq (order x (tagged l f))) (record { steps = u; end = e } ∷ []) [] ≡ []
+        tell Ordering·lt q = rw q
+        tell Ordering·eq q = absurd (apart (ap (λ (y : Tagged ℕ). y ∷ []) (sym (eq-same order total-key x (tagged l f) q))))
+        tell Ordering·gt q = rw q
+
+-- of lists one behind the other, those from b on: the others are empty
+flat-part : {A : Type 0} (f : ℕ → List A) (a b n k : ℕ) → a ≤ b → b + k ≤ a + n → ((i : ℕ) → i < n → (a + i < b) ⊎ (b + k ≤ a + i) → f (a + i) ≡ []) → flat (λ i. f (a + i)) n ≡ flat (λ i. f (b + i)) k
+unfolding flat
+flat-part f a b zero zero low high empty = refl
+flat-part f a b zero (suc k) low high empty = absurd (omega arith)
+flat-part f a b (suc n) zero low high empty = flat-none (λ i. f (a + i)) (suc n) (λ i h. elim (decLt (a + i) b) [
+  | yes lt ↦ empty i h (inl lt)
+  | no ge ↦ empty i h (inr (omega arith))
+])
+flat-part {A} f a b (suc n) (suc k) low high empty = elim (decLt (b + suc k) (a + suc n)) [
+  | yes lt ↦
+      rw (empty n (omega arith) (inr (omega arith)))
+      (append-nil (flat (λ i. f (a + i)) n) ∙ flat-part f a b n (suc k) low (omega arith) (λ i h. empty i (omega arith)))
+  | no ge ↦
+      let same : a + n ≡ b + k = omega arith in
+      ap₂ (λ (l r : List A). l ++ r) (flat-part f a b n k low (omega arith) (λ i h out. empty i (omega arith) (⊎-elim (λ lt. inl lt) (λ le. inr (omega arith)) out))) (ap f same)
+]
+
 -- ---- the group behind a key
 
 module _ (m : RouteImage) (g : Group) (key : Key) (stands : Stands m g key) where
@@ -102,16 +142,25 @@ module _ (m : RouteImage) (g : Group) (key : Key) (stands : Stands m g key) wher
       rest-left (keyIn m key .what) (pathIn m q .end) (keyIn m key) (strip (stepsIn m (g .from) (g .depth)) (pathIn m q .steps)) refl
       ∙ rw prefix (ap (leftWith (pathIn m q .end)) (sym (strip-append (stepsIn m (g .from) (g .depth)) (keySteps (keyIn m key)) (pathIn m q .steps))))
 
-  pub rest-paths : rest (keyIn m key) (pathsOf m g) ≡ pathsOf m (groupBehind g key)
-  unfolding rest pathsOf groupBehind
-  rest-paths =
-      joined-flat (λ (p : UnwindPath). restOn (keyIn m key) (cut (p .steps)) (p .end)) (λ k. leftAt m g (g .first + k)) (g .count)
-      ∙ flat-same _ _ (g .count) (λ k h. rest-at (g .first + k))
+  -- a path with another key, or none, is not among them
+  not-behind : (q : ℕ) → (keysOf (leftAt m g q) ≡ keyIn m key ∷ [] → ⊥) → leftAt m (groupBehind g key) q ≡ []
+  unfolding leftAt
+  not-behind q other = sym (rest-at q) ∙ left-others (pathIn m q .end) (keyIn m key) (strip (stepsIn m (g .from) (g .depth)) (pathIn m q .steps)) other
+
+  module _ (spans : Spans m g (g .count) key) where
+    pub rest-paths : rest (keyIn m key) (pathsOf m g) ≡ pathsOf m (groupBehind g key)
+    unfolding rest pathsOf groupBehind
+    rest-paths =
+        joined-flat (λ (p : UnwindPath). restOn (keyIn m key) (cut (p .steps)) (p .end)) (λ k. leftAt m g (g .first + k)) (g .count)
+        ∙ flat-same _ _ (g .count) (λ k h. rest-at (g .first + k))
+        ∙ flat-part (leftAt m (groupBehind g key)) (g .first) (key .first) (g .count) (key .last - key .first + 1) (spans .low) (omega (arith, spans .mid, spans .high))
+        (λ i h out. not-behind (g .first + i) (λ e. outside i (spans .all i h e) out))
+      where
+        outside : (i : ℕ) → (key .first ≤ g .first + i) × (g .first + i ≤ key .last) → (g .first + i < key .first) ⊎ (key .first + (key .last - key .first + 1) ≤ g .first + i) → ⊥
+        outside i within (inl h) = omega (arith, within .0)
+        outside i within (inr h) = omega (arith, within .1, spans .mid)
 
 -- ---- how much the paths behind `last` count for
-
-abbrev order : Tagged ℕ → Tagged ℕ → Ordering
-order = compareTagged compare
 
 pub sumOf : (UnwindPath → ℕ) → List UnwindPath → ℕ
 sumOf φ [] = 0

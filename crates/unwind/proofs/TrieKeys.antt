@@ -116,7 +116,7 @@ module _ (m : RouteImage) (g : Group) where
       unfolding groupOn cutOf
       key-over k = key-on (over (tagsIn m a n)) (k .is)
 
-      pub key-enters : {c : ℕ} → Cuts m a n (Enters c) → KeyOf m g q (At (record { step = a; calls = c }))
+      pub key-enters : {c : ℕ} → Cuts m a n (Enters c) → KeyOf m g q (At (record { step = a; calls = c; first = q; last = q }))
       unfolding groupOn cutOf keyOf keyIn
       key-enters {c} k =
           record {
@@ -127,6 +127,7 @@ module _ (m : RouteImage) (g : Group) where
               begins = l .stands .2;
               steps = k .stands .1;
             };
+            here = (refl, refl);
           }
 
 pub key-small : (m : RouteImage) → AcceptedRoutes m → (g : Group) (k : NextKey) → KeyIn m g k → KeySmall k

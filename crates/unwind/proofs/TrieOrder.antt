@@ -6,6 +6,7 @@
 --     put-member                   a member is put again
 --     put-least                    one that comes before all others
 --     next-none, next-in, next-some     the next in order behind `last`: there is none, or it is the least of what is left
+--     next-new                     one that comes before it stands not in the list
 use mathlib.Core.Path.{_≡_, refl, sym, _∙_, ap}
 use mathlib.Core.Bool.{Bool, true, false, cond, _&&_, false≢true}
 use mathlib.Core.Option.{Option, none, some, Option·none-ne-some}
@@ -39,7 +40,7 @@ pub record Total {A : Type 0} (c : A → A → Ordering) : Type 0 where
 not-lt-eq : Ordering·lt ≡ Ordering·eq → ⊥
 not-lt-eq e = false≢true (ap isEq e)
 
-not-gt-eq : Ordering·gt ≡ Ordering·eq → ⊥
+pub not-gt-eq : Ordering·gt ≡ Ordering·eq → ⊥
 not-gt-eq e = false≢true (ap isEq e)
 
 pub not-gt-lt : Ordering·gt ≡ Ordering·lt → ⊥
@@ -402,6 +403,13 @@ module _ {A : Type 0} (c : A → A → Ordering) (total : Total c) where
 
     pub next-in : (l : List A) (x : A) → nearest c last none l ≡ some x → (x ∈ l) × (after c last x ≡ true)
     next-in l x e = found l x (near none l x e .from)
+
+    pub next-new : (l : List A) (x : A) → x ∈ l → after c last x ≡ true → before c x (nearest c last none l) ≡ true → ⊥
+    next-new l x m a = go (nearest c last none l) refl
+      where
+        go : (o : Option A) → nearest c last none l ≡ o → before c x o ≡ true → ⊥
+        go none e b = List·Memᴰ·not-nil (rw (next-none l e) at (mem-keep (after c last) m a))
+        go (some k) e b = false≢true (sym (ap isLe (total .turns x k ∙ ap turned (is-lt (c x k) b))) ∙ near none l k e .least x m a)
 
     pub next-some : (l : List A) (x : A) → nearest c last none l ≡ some x → sorted c (keep (after c last) l) ≡ x ∷ sorted c (keep (after c (some x)) l)
     next-some l x e =

@@ -75,14 +75,14 @@ module _ (m : RouteImage) (g : Group) where
     pub next-falls : longest (pathsOf m (groupBehind g key)) < longest (pathsOf m g)
     unfolding groups keysOf
     next-falls =
-        rw (← rest-paths m g key (next .stands))
+        rw (← rest-paths m g key (next .stands) (next .spans))
         (rest-falls (keyIn m key) (pathsOf m g) (mem-sorted order exact-key (here .0)))
 
     -- what the paths behind it count for
     counted : (stepsAhead (keyOf m (At key)) (pathsOf m g) + weight (pathsOf m (groupBehind g key)) + length (pathsOf m (groupBehind g key)) ≤ stepsAhead (keyOf m last) (pathsOf m g)) × (pathsAhead (keyOf m (At key)) (pathsOf m g) + length (pathsOf m (groupBehind g key)) ≤ pathsAhead (keyOf m last) (pathsOf m g)) × (1 ≤ length (pathsOf m (groupBehind g key)))
     unfolding keyOf
     counted =
-        rw (← rest-paths m g key (next .stands)) (
+        rw (← rest-paths m g key (next .stands) (next .spans)) (
           steps-step (keyOf m last) (keyIn m key) (here .1) (pathsOf m g),
           paths-step (keyOf m last) (keyIn m key) (here .1) (pathsOf m g),
           rest-some (pathsOf m g) (keyIn m key) (here .0),
@@ -94,7 +94,10 @@ module _ (m : RouteImage) (g : Group) where
         record {
           accepted = grouped .accepted;
           starts = grouped .starts;
-          within = record { paths = grouped .within .paths; steps = omega (arith, next .stands .within, next .stands .behind) };
+          within = record {
+            paths = omega (arith, grouped .within .paths, next .spans .mid, next .spans .high);
+            steps = omega (arith, next .stands .within, next .stands .behind);
+          };
           route = grouped .route;
         }
 
@@ -207,7 +210,7 @@ module _ (m : RouteImage) (g : Group) where
           unfolding child groupBehind
           same-child =
               ap₂ (λ (f : Option ℕ) (ps : List UnwindPath). made f ps (nodesIn m nodes edges ends (c .nodes)))
-              (funclet-behind m g key (next .stands)) (sym (rest-paths m g key (next .stands)))
+              (funclet-behind m g key (next .stands)) (sym (rest-paths m g key (next .stands) (next .spans)))
 
           child-trie : child .trie ≡ nodesIn m nodes′ edges′ ends′ (r .counts .nodes)
           child-trie = sym (done .trie ∙ ap (λ (x : Made). x .trie) same-child)

@@ -93,9 +93,9 @@ module _ (m : RouteImage) where
   sameSteps a b zero = true
   sameSteps a b (suc n) = sameStep (stepOf (stepIn m a)) (stepOf (stepIn m b)) && sameSteps (suc a) (suc b) n
 
-  -- where the steps of each path start
+  -- where the steps of each path start, and where those of the last one end
   pub record Starts (l : List ℕ) : Type 0 where
-    pub at : (p : ℕ) → p < length (m .paths) → getD l p 0 ≡ stepsBefore m p
+    pub at : (p : ℕ) → p ≤ length (m .paths) → getD l p 0 ≡ stepsBefore m p
 
   -- ---- a group: the paths of a route that begin with the same steps
 

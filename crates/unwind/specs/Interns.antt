@@ -31,7 +31,13 @@ weight (p ∷ ps) = length (p .steps) + weight ps
 -- the paths that go on behind the calls and the funclet of a key
 unfoldable pub groupBehind : Group → Key → Group
 groupBehind g k =
-    record { route = g .route; first = g .first; count = g .count; from = k .step - g .depth; depth = g .depth + k .calls + 1 }
+    record {
+      route = g .route;
+      first = k .first;
+      count = k .last - k .first + 1;
+      from = k .step - g .depth;
+      depth = g .depth + k .calls + 1;
+    }
 
 -- the funclet that a group's paths have entered last: the step that names it, plus 1, or 0 if there is none
 unfoldable pub funcletOf : Group → ℕ

@@ -2,10 +2,11 @@
 use mathlib.Core.Path.{_≡_}
 use mathlib.Core.List.{List, [], _∷_, _++_, map}
 use mathlib.Core.Option.{Option, none, some}
-use Prim.Native.Nat.{ℕ, _+_, _-_, _≤_, _<_, compare}
+use Prim.Native.Nat.{ℕ, _+_, _-_, _≤_, _<_, compare, Ordering, Ordering·lt, Ordering·eq, Ordering·gt}
 use lib.ListN.{length}
 use Rattle.image.specs.Image.{RouteImage}
 use Rattle.image.specs.Deal.{UnwindStep, funclet, call, UnwindPath}
+use Rattle.graph.specs.Fold.{flat}
 use Rattle.unwind.specs.declared.tries.paths.Group.{Group}
 use Rattle.unwind.specs.declared.tries.keys.Key.{Key}
 use Rattle.unwind.specs.declared.tries.keys.NextKey.{NextKey}
@@ -32,6 +33,17 @@ abbrev pub KeySmall : NextKey → Type 0
 KeySmall (At k) = k .step + k .calls ≤ 512
 KeySmall Nothing = Unit {0}
 
+-- q is the one path that a key tells of
+abbrev pub KeyAt : ℕ → NextKey → Type 0
+KeyAt q (At k) = (k .first ≡ q) × (k .last ≡ q)
+KeyAt q Nothing = Unit {0}
+
+-- the one of a later path's key and another that comes first, with the paths that have it
+abbrev pub mergedOn : Ordering → Key → Key → NextKey
+mergedOn Ordering·lt k b = At k
+mergedOn Ordering·eq k b = At (record { step = b .step; calls = b .calls; first = b .first; last = k .last })
+mergedOn Ordering·gt k b = At b
+
 module _ (m : RouteImage) where
   unfoldable pub keyIn : Key → Tagged ℕ
   keyIn k = tagged (tagsIn m (k .step) (k .calls)) (stepIn m (k .step + k .calls) .value)
@@ -54,11 +66,35 @@ module _ (m : RouteImage) where
   pub record KeyOf (g : Group) (q : ℕ) (r : NextKey) : Type 0 where
     pub is : keysOf (leftAt m g q) ≡ listOf (keyOf r)
     pub stands : KeyIn g r
+    pub here : KeyAt q r
 
-  pub record NearerKey (g : Group) (last best : NextKey) (q : ℕ) (r : NextKey) : Type 0 where
-    pub is : keyOf r ≡ nearest (compareTagged compare) (keyOf last) (keyOf best) (keysOf (leftAt m g q))
+  unfoldable pub merged : Key → NextKey → NextKey
+  merged k (At b) = mergedOn (compareTagged compare (keyIn k) (keyIn b)) k b
+  merged k Nothing = At k
+
+  -- the keys of the n first paths of a group
+  abbrev pub firstKeys : Group → ℕ → List (Tagged ℕ)
+  firstKeys g n = flat (λ i. keysOf (leftAt m g (g .first + i))) n
+
+  -- those of the n first paths of a group that have a key stand from its first to its last
+  pub record Spans (g : Group) (n : ℕ) (k : Key) : Type 0 where
+    pub low : g .first ≤ k .first
+    pub mid : k .first ≤ k .last
+    pub high : k .last < g .first + n
+    pub all : (i : ℕ) → i < n → keysOf (leftAt m g (g .first + i)) ≡ keyIn k ∷ [] → (k .first ≤ g .first + i) × (g .first + i ≤ k .last)
+
+  abbrev pub SpansIn : Group → ℕ → NextKey → Type 0
+  SpansIn g n (At k) = Spans g n k
+  SpansIn g n Nothing = Unit {0}
+
+  -- the key that comes next after `last`, of the n first paths of a group
+  pub record NextAmong (g : Group) (last : NextKey) (n : ℕ) (r : NextKey) : Type 0 where
+    pub is : keyOf r ≡ nearest (compareTagged compare) (keyOf last) none (firstKeys g n)
     pub stands : KeyIn g r
+    pub spans : SpansIn g n r
 
+  -- and of all of them
   pub record NextOf (g : Group) (last r : NextKey) : Type 0 where
     pub is : keyOf r ≡ nearest (compareTagged compare) (keyOf last) none (keysOf (pathsOf m g))
     pub stands : KeyIn g r
+    pub spans : SpansIn g (g .count) r

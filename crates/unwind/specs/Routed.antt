@@ -11,7 +11,7 @@ use Rattle.unwind.specs.Nodes.{nodesIn, Stored}
 
 -- there is room for what the routes may want
 pub record Scratch (m : RouteImage) (starts nodes edges ends stack roots : List ℕ) : Type 0 where
-  pub starts-fit : length (m .paths) ≤ length starts
+  pub starts-fit : length (m .paths) < length starts
   pub nodes-fit : 6 * (length (m .routes) + length (m .steps)) ≤ length nodes
   pub edges-fit : 3 * length (m .steps) ≤ length edges
   pub ends-fit : 3 * length (m .paths) ≤ length ends

@@ -54,7 +54,7 @@ fn add_tiny(g: &mut Words, built: usize, s: &[u8], y: RouteLayout, h: &mut Hops)
     requires { ⌜ RoutesChecked (heldIn (now g)) built (routesIn (now s) y) × Few (heldIn (now g) .graph) y 8 8 4 ⌝ }
     ensures { λ r. ⌜ Adds (routesIn (now (s .entry)) y) (now (g .entry)) (now (g .exit)) (now (h .entry)) (now (h .exit)) r ⌝ }
 {
-    let mut starts = [0u16; 8];
+    let mut starts = [0u16; 9];
     let mut nodes = [0u16; 72];
     let mut edges = [0u16; 24];
     let mut ends = [0u16; 24];
@@ -98,7 +98,7 @@ fn add_small(g: &mut Words, built: usize, s: &[u8], y: RouteLayout, h: &mut Hops
     requires { ⌜ RoutesChecked (heldIn (now g)) built (routesIn (now s) y) × Few (heldIn (now g) .graph) y 64 32 8 ⌝ }
     ensures { λ r. ⌜ Adds (routesIn (now (s .entry)) y) (now (g .entry)) (now (g .exit)) (now (h .entry)) (now (h .exit)) r ⌝ }
 {
-    let mut starts = [0u16; 32];
+    let mut starts = [0u16; 33];
     let mut nodes = [0u16; 432];
     let mut edges = [0u16; 192];
     let mut ends = [0u16; 96];
@@ -142,7 +142,7 @@ fn add_full(g: &mut Words, built: usize, s: &[u8], y: RouteLayout, h: &mut Hops)
     requires { ⌜ RoutesChecked (heldIn (now g)) built (routesIn (now s) y) ⌝ }
     ensures { λ r. ⌜ Adds (routesIn (now (s .entry)) y) (now (g .entry)) (now (g .exit)) (now (h .entry)) (now (h .exit)) r ⌝ }
 {
-    let mut starts = [0u16; 128];
+    let mut starts = [0u16; 129];
     let mut nodes = [0u16; 3264];
     let mut edges = [0u16; 1536];
     let mut ends = [0u16; 384];

@@ -109,13 +109,13 @@ fn close_node(
 
 // The paths that go on behind a key.
 fn group_behind(g: Group, key: Key) -> Group
-    requires { ⌜ (g .depth ≤ key .step) × (key .step + key .calls < 512) ⌝ }
+    requires { ⌜ (g .depth ≤ key .step) × (key .step + key .calls < 512) × (key .first ≤ key .last) × (key .last < 128) ⌝ }
     ensures { λ r. ⌜ r ≡ groupBehind g key ⌝ }
 {
     Group {
         route: g.route,
-        first: g.first,
-        count: g.count,
+        first: key.first,
+        count: key.last - key.first + 1,
         from: key.step - g.depth,
         depth: g.depth + key.calls + 1,
     }

@@ -1,6 +1,7 @@
 // The next funclets of a group of paths, each with the calls before it, in order.
 use crate::tries::compare::Order;
 use crate::tries::compare::compare_calls;
+use crate::tries::compare::compare_numbers;
 use crate::tries::paths::CutAt;
 use crate::tries::paths::Group;
 use crate::tries::paths::Left;
@@ -14,13 +15,15 @@ ghost use lib.ListN.{length};
 ghost use Rattle.image.specs.Image.{routesIn};
 ghost use Rattle.image.specs.Accepted.{AcceptedRoutes};
 ghost use Rattle.addition.specs.Order.{compareTagged};
-ghost use Rattle.unwind.specs.Interning.{isLt, after, before, Starts, GroupIn};
-ghost use Rattle.unwind.specs.Keys.{keyIn, keyOf, KeySmall, KeyIn, KeyOf, NearerKey, NextOf};
+ghost use Rattle.unwind.specs.Interning.{orderingOf, after, Starts, GroupIn};
+ghost use Rattle.unwind.specs.Keys.{keyIn, keyOf, merged, KeySmall, KeyIn, KeyOf, NextAmong, NextOf};
 
-// The calls, which are consecutive steps, and the funclet behind them.
+// The calls, which are consecutive steps, and the funclet behind them; the first and the last path that has them.
 pub struct Key {
     pub step: usize,
     pub calls: usize,
+    pub first: usize,
+    pub last: usize,
 }
 
 pub enum NextKey {
@@ -33,16 +36,15 @@ pub fn next_key(s: &[u8], y: RouteLayout, starts: &[u16], g: Group, last: NextKe
     requires { ⌜ AcceptedRoutes (routesIn (now s) y) × Starts (routesIn (now s) y) (now starts) × GroupIn (routesIn (now s) y) g × KeyIn (routesIn (now s) y) g last ⌝ }
     ensures { λ r. ⌜ NextOf (routesIn (now (s .entry)) y) g last r ⌝ }
 {
-    let first = g.first;
     let count = g.count;
     let mut best = NextKey::Nothing;
     for k in 0..count {
-        best = nearer_key(s, y, starts, g, last, best, first + k);
+        best = nearer_key(s, y, starts, g, last, best, k);
     }
     best
 }
 
-// The key of path q where it comes after `last` and before `best`, and else `best`.
+// The next key of the group's first k paths is `best`: that of one path more.
 fn nearer_key(
     s: &[u8],
     y: RouteLayout,
@@ -50,18 +52,16 @@ fn nearer_key(
     g: Group,
     last: NextKey,
     best: NextKey,
-    q: usize,
+    k: usize,
 ) -> NextKey
-    requires { ⌜ AcceptedRoutes (routesIn (now s) y) × Starts (routesIn (now s) y) (now starts) × GroupIn (routesIn (now s) y) g × KeyIn (routesIn (now s) y) g last × KeyIn (routesIn (now s) y) g best × (q < length (routesIn (now s) y .paths)) ⌝ }
-    ensures { λ r. ⌜ NearerKey (routesIn (now (s .entry)) y) g last best q r ⌝ }
+    requires { ⌜ AcceptedRoutes (routesIn (now s) y) × Starts (routesIn (now s) y) (now starts) × GroupIn (routesIn (now s) y) g × KeyIn (routesIn (now s) y) g last × NextAmong (routesIn (now s) y) g last k best × (k < g .count) ⌝ }
+    ensures { λ r. ⌜ NextAmong (routesIn (now (s .entry)) y) g last (k + 1) r ⌝ }
 {
-    let NextKey::At(key) = key_of(s, y, starts, g, q) else {
+    let NextKey::At(key) = key_of(s, y, starts, g, g.first + k) else {
         return best;
     };
     if is_after(s, y, last, key) {
-        if is_before(s, y, key, best) {
-            return NextKey::At(key);
-        }
+        return merge_key(s, y, key, best);
     }
     best
 }
@@ -76,41 +76,61 @@ pub fn key_of(s: &[u8], y: RouteLayout, starts: &[u16], g: Group, q: usize) -> N
     };
     match cut_at(s, y, first, count) {
         CutAt::Over => NextKey::Nothing,
-        CutAt::Enters(calls) => NextKey::At(Key { step: first, calls }),
+        CutAt::Enters(calls) => NextKey::At(Key {
+            step: first,
+            calls,
+            first: q,
+            last: q,
+        }),
     }
 }
 
+// Whether a key comes after `last`.
 fn is_after(s: &[u8], y: RouteLayout, last: NextKey, key: Key) -> bool
     requires { ⌜ KeySmall last × (key .step + key .calls ≤ 512) ⌝ }
     ensures { λ r. ⌜ r ≡ after (compareTagged compare) (keyOf (routesIn (now (s .entry)) y) last) (keyIn (routesIn (now (s .entry)) y) key) ⌝ }
 {
-    match last {
-        NextKey::Nothing => true,
-        NextKey::At(other) => comes_before(s, y, other, key),
+    let NextKey::At(other) = last else {
+        return true;
+    };
+    match compare_keys(s, y, other, key) {
+        Order::Less => true,
+        Order::Equal => false,
+        Order::Greater => false,
     }
 }
 
-fn is_before(s: &[u8], y: RouteLayout, key: Key, best: NextKey) -> bool
+// The one of a path's key and `best` that comes first. If they are the same, the path is the last that has it.
+fn merge_key(s: &[u8], y: RouteLayout, key: Key, best: NextKey) -> NextKey
     requires { ⌜ (key .step + key .calls ≤ 512) × KeySmall best ⌝ }
-    ensures { λ r. ⌜ r ≡ before (compareTagged compare) (keyIn (routesIn (now (s .entry)) y) key) (keyOf (routesIn (now (s .entry)) y) best) ⌝ }
+    ensures { λ r. ⌜ r ≡ merged (routesIn (now (s .entry)) y) key best ⌝ }
 {
-    match best {
-        NextKey::Nothing => true,
-        NextKey::At(other) => comes_before(s, y, key, other),
+    let NextKey::At(other) = best else {
+        return NextKey::At(key);
+    };
+    match compare_keys(s, y, key, other) {
+        Order::Less => NextKey::At(key),
+        Order::Greater => best,
+        Order::Equal => NextKey::At(Key {
+            step: other.step,
+            calls: other.calls,
+            first: other.first,
+            last: key.last,
+        }),
     }
 }
 
-fn comes_before(s: &[u8], y: RouteLayout, a: Key, b: Key) -> bool
+fn compare_keys(s: &[u8], y: RouteLayout, a: Key, b: Key) -> Order
     requires { ⌜ (a .step + a .calls ≤ 512) × (b .step + b .calls ≤ 512) ⌝ }
-    ensures { λ r. ⌜ r ≡ isLt (compareTagged compare (keyIn (routesIn (now (s .entry)) y) a) (keyIn (routesIn (now (s .entry)) y) b)) ⌝ }
+    ensures { λ r. ⌜ orderingOf r ≡ compareTagged compare (keyIn (routesIn (now (s .entry)) y) a) (keyIn (routesIn (now (s .entry)) y) b) ⌝ }
 {
     match compare_calls(s, y, a.step, a.calls, b.step, b.calls) {
-        Order::Less => true,
-        Order::Greater => false,
+        Order::Less => Order::Less,
+        Order::Greater => Order::Greater,
         Order::Equal => {
             let x = step_at(s, y.steps, a.step + a.calls);
             let z = step_at(s, y.steps, b.step + b.calls);
-            x.value < z.value
+            compare_numbers(x.value, z.value)
         }
     }
 }

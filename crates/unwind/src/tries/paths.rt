@@ -13,7 +13,7 @@ ghost use Rattle.unwind.specs.Interning.{sameSteps, Starts, GroupIn, Lef
 
 pub const FUNCLET: u64 = 0;
 
-// Of a route's paths, which are the `count` from `first` on, those that begin with the `depth` steps from `from` on.
+// Of a route's paths, those of the `count` from `first` on that begin with the `depth` steps from `from` on.
 pub struct Group {
     pub route: usize,
     pub first: usize,
@@ -34,9 +34,9 @@ pub enum CutAt {
     Enters(usize),
 }
 
-// Where the steps of each path start.
+// Where the steps of each path start, and where those of the last one end.
 pub fn path_starts(s: &[u8], y: RouteLayout, starts: &mut [u16])
-    requires { ⌜ AcceptedRoutes (routesIn (now s) y) × (length (routesIn (now s) y .paths) ≤ length (now starts)) ⌝ }
+    requires { ⌜ AcceptedRoutes (routesIn (now s) y) × (length (routesIn (now s) y .paths) < length (now starts)) ⌝ }
     ensures { λ _. ⌜ Starts (routesIn (now (s .entry)) y) (now (starts .exit)) ⌝ }
 {
     let n = y.paths.count as usize;
@@ -45,6 +45,7 @@ pub fn path_starts(s: &[u8], y: RouteLayout, starts: &mut [u16])
         starts[p] = next as u16;
         next += path_at(s, y.paths, p).steps;
     }
+    starts[n] = next as u16;
 }
 
 // What is left of path q of a group.
@@ -53,7 +54,7 @@ pub fn left_of(s: &[u8], y: RouteLayout, starts: &[u16], g: Group, q: usize) -> 
     ensures { λ r. ⌜ LeftOf (routesIn (now (s .entry)) y) g q r ⌝ }
 {
     let first = number_at(starts, q);
-    let count = path_at(s, y.paths, q).steps;
+    let count = number_at(starts, q + 1) - first;
     let depth = g.depth;
     if count < depth {
         return Left::Nothing;

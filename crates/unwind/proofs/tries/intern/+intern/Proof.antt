@@ -208,7 +208,8 @@ intern-group-behind-requires : (t : ℕ) → intern-lts.Need-group-behind-requir
 ) (intern-at t) intern.Post intern-Inv-loop intern-μ-loop
 intern-group-behind-requires t c κs =
     let next = found _ _ _ _ (c .before .next .given .1) (c .before .before .before .next-key .ensures) in
-    (next .stands .behind, omega (arith, next .stands .within, c .before .before .before .before .before .before .before .before .before .before .before .pre .1 .0 .accepted .steps-most))
+    let grouped = c .before .before .before .before .before .before .before .before .before .before .before .pre .1 .0 in
+    (next .stands .behind, omega (arith, next .stands .within, grouped .accepted .steps-most), next .spans .mid, omega (arith, next .spans .high, grouped .within .paths, grouped .accepted .paths-most))
 
 intern-add-intern : (t : ℕ) → intern-lts.Need-add-intern (
   next-key-reads.Asked,

@@ -13,7 +13,7 @@ returns : tie.Need-returns
 unfolding keyOf
 returns c =
     let m = routesIn (c .before .before .before .before .before .args .s .now) (c .before .before .before .before .before .args .y) in
-    record { is = key-outside m (c .before .before .before .before .before .args .g) (c .before .before .before .before .before .args .q) (rw (c .enum-told .given .1) at (c .before .before .left-of .ensures)); stands = tt }
+    record { is = key-outside m (c .before .before .before .before .before .args .g) (c .before .before .before .before .before .args .q) (rw (c .enum-told .given .1) at (c .before .before .left-of .ensures)); stands = tt; here = tt }
 
 cut-at-requires : tie.Need-cut-at-requires
 cut-at-requires c κs =
@@ -24,7 +24,7 @@ returns-2 : tie.Need-returns-2
 unfolding keyOf
 returns-2 c =
     let m = routesIn (c .before .before .before .before .before .before .before .before .before .args .s .now) (c .before .before .before .before .before .before .before .before .before .args .y) in
-    record { is = key-over m (c .before .before .before .before .before .before .before .before .before .args .g) (c .before .before .before .before .before .before .before .before .before .args .q) (rw (c .before .before .before .before .first .given .1) at (c .before .before .before .before .before .before .left-of .ensures)) (rw (c .enum-told2 .given .1) at (c .before .before .cut-at .ensures)); stands = tt }
+    record { is = key-over m (c .before .before .before .before .before .before .before .before .before .args .g) (c .before .before .before .before .before .before .before .before .before .args .q) (rw (c .before .before .before .before .first .given .1) at (c .before .before .before .before .before .before .left-of .ensures)) (rw (c .enum-told2 .given .1) at (c .before .before .cut-at .ensures)); stands = tt; here = tt }
 
 returns-3 : tie.Need-returns-3
 returns-3 c =

@@ -1,12 +1,11 @@
 -- `left_of` meets its contract: the path has too few steps, or begins with those of the group, or with others. Assumes nothing.
-use mathlib.Core.Path.{_≡_, sym, ap, _∙_}
+use mathlib.Core.Path.{_≡_, sym, _∙_}
 use Prim.Native.Nat.{_+_, _-_, _≤_}
 use native.Mathlib.Omega.{arith}
 use lib.ListN.{length}
 use Rattle.image.specs.Image.{routesIn}
-use Rattle.image.specs.declared.record.Path.{Path}
 use Rattle.graph.specs.Route.{stepsBefore, pathIn}
-use Rattle.graph.proofs.RouteLaws.{steps-in}
+use Rattle.graph.proofs.RouteLaws.{steps-in, steps-next}
 use Rattle.unwind.specs.Nodes.{pathRecord}
 use Rattle.unwind.specs.Interning.{stepsIn, leftSteps}
 use Rattle.unwind.proofs.TriePaths.{path-steps, strip-short, strip-same, strip-other, same-run}
@@ -15,31 +14,35 @@ use Rattle.unwind.proofs.tries.paths.left_of.Statement.{statement}
 use Rattle.unwind.proofs.tries.paths.left_of.Tie as tie
 
 -- where its steps start, how many there are, and that they stand among all
-steps-here : (c : tie.After-path-at) → let m = routesIn (c .before .before .before .before .args .s .now) (c .before .before .before .before .args .y) in
-    (pathIn m (c .before .before .before .before .args .q) .steps ≡ stepsIn m (c .before .number-at .result) (c .path-at .result .steps)) × (c .before .number-at .result + c .path-at .result .steps ≤ length (m .steps)) × (length (m .steps) ≤ 512)
+steps-here : (c : tie.After-number-at2) → let m = routesIn (c .before .before .before .before .args .s .now) (c .before .before .before .before .args .y) in
+    (pathIn m (c .before .before .before .before .args .q) .steps ≡ stepsIn m (c .before .number-at .result) (c .number-at2 .result - c .before .number-at .result)) × (c .before .number-at .result ≤ c .number-at2 .result) × (c .number-at2 .result ≤ length (m .steps)) × (length (m .steps) ≤ 512)
 steps-here c =
-    let m = routesIn (c .before .before .before .before .args .s .now) (c .before .before .before .before .args .y) in
-    let first : c .before .number-at .result ≡ stepsBefore m (c .before .before .before .before .args .q) = c .before .number-at .ensures .0 ∙ c .before .before .before .before .pre .1 .at (c .before .before .before .before .args .q) (c .before .before .before .before .pre .3) in
-    let count : c .path-at .result .steps ≡ pathRecord m (c .before .before .before .before .args .q) .steps = ap (λ (x : Path). x .steps) (c .path-at .ensures) in (
-      path-steps m (c .before .before .before .before .pre .0) (c .before .before .before .before .args .q) (c .before .before .before .before .pre .3) ∙ rw (first, count),
-      omega (arith, first, count, steps-in m (c .before .before .before .before .pre .0) (c .before .before .before .before .args .q) (c .before .before .before .before .pre .3)),
-      c .before .before .before .before .pre .0 .steps-most,
+    let start = c .before .before .before .before in
+    let m = routesIn (start .args .s .now) (start .args .y) in
+    let q = start .args .q in
+    let first : c .before .number-at .result ≡ stepsBefore m q = c .before .number-at .ensures .0 ∙ start .pre .1 .at q (omega (arith, start .pre .3)) in
+    let last : c .number-at2 .result ≡ stepsBefore m (q + 1) = c .number-at2 .ensures .0 ∙ start .pre .1 .at (q + 1) (omega (arith, start .pre .3)) in
+    let count : c .number-at2 .result - c .before .number-at .result ≡ pathRecord m q .steps = omega (arith, steps-next m q) in (
+      path-steps m (start .pre .0) q (start .pre .3) ∙ rw (count, first),
+      omega (arith, steps-next m q),
+      omega (arith, steps-next m q, steps-in m (start .pre .0) q (start .pre .3)),
+      start .pre .0 .steps-most,
     )
+
+sub-count : tie.Need-sub-count
+sub-count c = omega (arith, steps-here c .1)
 
 returns : tie.Need-returns
 unfolding leftSteps
 returns c =
     let m = routesIn (c .before .before .before .before .before .args .s .now) (c .before .before .before .before .before .args .y) in
     let h = steps-here (c .before) in
-    record { is = rw (h .0) (strip-short m (c .before .before .before .before .before .args .g .from) (c .before .before .number-at .result) (c .before .before .before .before .before .args .g .depth) (c .before .path-at .result .steps) (c .if1 .taken)); stands = tt }
+    record { is = rw (h .0) (strip-short m (c .before .before .before .before .before .args .g .from) (c .before .before .number-at .result) (c .before .before .before .before .before .args .g .depth) (c .before .number-at2 .result - c .before .before .number-at .result) (c .if1 .taken)); stands = tt }
 
 same-steps-requires : tie.Need-same-steps-requires
 same-steps-requires c κs =
     let h = steps-here (c .before) in
-    (c .before .before .before .before .before .pre .0, omega (arith, h .2, c .before .before .before .before .before .pre .2 .steps), omega (arith, h .1, h .2))
-
-add-t12 : tie.Need-add-t12
-add-t12 c = let h = steps-here (c .before .before .before) in omega (arith, h .1, h .2)
+    (c .before .before .before .before .before .pre .0, omega (arith, h .3, c .before .before .before .before .before .pre .2 .steps), omega (arith, h .1, h .2, h .3))
 
 returns-2 : tie.Need-returns-2
 unfolding leftSteps
@@ -51,8 +54,8 @@ returns-2 c =
     let same = sym (c .before .same-steps .ensures) ∙ c .if2 .taken in
     let back : first + g .depth - g .depth ≡ first = omega arith in
     record {
-      is = rw (h .0) (strip-same m (g .from) first (g .depth) (c .before .before .before .path-at .result .steps) (omega arith) same);
-      stands = (omega (arith, h .1), omega arith, rw back (same-run m (g .from) first (g .depth) same));
+      is = rw (h .0) (strip-same m (g .from) first (g .depth) (c .before .before .before .number-at2 .result - first) (omega arith) same);
+      stands = (omega (arith, h .1, h .2), omega arith, rw back (same-run m (g .from) first (g .depth) same));
     }
 
 returns-3 : tie.Need-returns-3
@@ -60,16 +63,18 @@ unfolding leftSteps
 returns-3 c =
     let m = routesIn (c .before .before .before .before .before .before .before .args .s .now) (c .before .before .before .before .before .before .before .args .y) in
     let h = steps-here (c .before .before .before) in
-    record { is = rw (h .0) (strip-other m (c .before .before .before .before .before .before .before .args .g .from) (c .before .before .before .before .number-at .result) (c .before .before .before .before .before .before .before .args .g .depth) (c .before .before .before .path-at .result .steps) (omega arith) (sym (c .before .same-steps .ensures) ∙ c .if2 .left)); stands = tt }
+    record { is = rw (h .0) (strip-other m (c .before .before .before .before .before .before .before .args .g .from) (c .before .before .before .before .number-at .result) (c .before .before .before .before .before .before .before .args .g .depth) (c .before .before .before .number-at2 .result - c .before .before .before .before .number-at .result) (omega arith) (sym (c .before .same-steps .ensures) ∙ c .if2 .left)); stands = tt }
 
 pub left-of-spec : {M : Type 1} → statement M
 left-of-spec =
     tie.close
     (tie.spec
     (λ c κs. search needs)
+    (λ c. search needs)
     (λ c κs. search needs)
+    sub-count
     returns
     same-steps-requires
-    add-t12
+    (λ c. search needs)
     returns-2
     returns-3)

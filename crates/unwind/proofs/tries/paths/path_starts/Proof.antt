@@ -1,5 +1,5 @@
 -- `path_starts` meets its contract. The invariant: `next` is where the steps of path p start, and the paths before it have
--- theirs. Assumes nothing.
+-- theirs. Behind the last one it is where all steps end. Assumes nothing.
 use mathlib.Core.Path.{_≡_, refl, ap, _∙_}
 use mathlib.Core.List.{[]}
 use Prim.Native.Nat.{ℕ, _+_, _-_, _≤_, _<_}
@@ -14,6 +14,7 @@ use Rattle.image.specs.declared.record.Path.{Path}
 use Rattle.image.proofs.Tables.{length-records}
 use Rattle.graph.specs.Route.{stepsBefore}
 use Rattle.graph.proofs.RouteLaws.{steps-in, steps-next}
+use Rattle.unwind.proofs.TrieRoutes.{steps-below}
 use borrow.Author.Needs.{needs}
 use Rattle.unwind.proofs.tries.paths.path_starts.Statement.{statement}
 use Rattle.unwind.proofs.tries.paths.path_starts.Tie as tie
@@ -62,9 +63,36 @@ loop-again c =
           ],
     )
 
+-- all paths are passed, and `next` is where their steps end
+passed : (c : tie.After-loop Inv-loop μ-loop) → let m = routesIn (c .before .before .before .before .before .args .s .now) (c .before .before .before .before .before .args .y) in
+    (c .before .loop .p ≡ length (m .paths)) × (c .before .loop .next ≤ 512) × (length (m .paths) < length (c .before .loop .starts))
+passed c =
+    let m = routesIn (c .before .before .before .before .before .args .s .now) (c .before .before .before .before .before .args .y) in
+    let ok = c .before .before .before .before .before .pre .0 in
+    let all : c .before .loop .p ≡ length (m .paths) = rw (length-records pathFrom (c .before .before .before .before .before .args .s .now) (c .before .before .before .before .before .args .y .paths)) (omega arith) in
+    (all, omega (arith, steps-below m ok (c .before .loop .p) (omega arith), ok .steps-most, c .before .loop .inv .1), omega (arith, c .before .loop .inv .2, c .before .before .before .before .before .pre .1))
+
+cast-starts-2 : tie.Need-cast-starts-2 Inv-loop μ-loop
+cast-starts-2 c = omega (arith, passed c .1)
+
+slice-write-starts-2 : tie.Need-slice-write-starts-2 Inv-loop μ-loop
+slice-write-starts-2 c = omega (arith, passed c .0, passed c .2, length-records pathFrom (c .before .before .before .before .before .args .s .now) (c .before .before .before .before .before .args .y .paths))
+
 returns : tie.Need-returns Inv-loop μ-loop
 returns c =
-    record { at = λ p h. c .before .loop .inv .3 p (omega (arith, length-records pathFrom (c .before .before .before .before .before .args .s .now) (c .before .before .before .before .before .args .y .paths))) }
+    let l = c .before .loop .starts in
+    let n = c .before .before .before .before .before .args .y .paths .count in
+    let next = c .before .loop .next in
+    let h = passed c in
+    let size = length-records pathFrom (c .before .before .before .before .before .args .s .now) (c .before .before .before .before .before .args .y .paths) in
+    let end : c .before .loop .p ≡ n = omega (arith, h .0) in
+    record {
+      at = λ p le.
+          elim (decLt p n) [
+            | yes lt ↦ getD-set-other l n p next 0 (λ e. omega arith) ∙ c .before .loop .inv .3 p (omega arith)
+            | no ge ↦ let e : p ≡ n = omega arith in rw e (getD-set-same l n next 0 (omega (arith, h .2)) ∙ rw end at (c .before .loop .inv .1))
+          ];
+    }
 
 pub path-starts-spec : {M : Type 1} → statement M
 path-starts-spec =
@@ -82,5 +110,8 @@ path-starts-spec =
     (λ c. search needs)
     (λ c. search needs)
     loop-again
+    cast-starts-2
+    (λ c. search needs)
+    slice-write-starts-2
     (λ c. search needs)
     returns)

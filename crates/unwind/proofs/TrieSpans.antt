@@ -1,0 +1,145 @@
+-- The next key of the first paths of a group, path by path, and which of them have it.
+--     among-none, among-all     of no path, and of all of them
+--     key-none, key-early       the next path has no key, or one that comes no later than `last`
+--     key-merged                it has a later one
+-- Assumes nothing.
+use mathlib.Core.Path.{_≡_, refl, sym, ap, _∙_}
+use mathlib.Core.Bool.{true, false, false≢true}
+use mathlib.Core.List.{List, [], _∷_, List·Memᴰ·head}
+use mathlib.Core.Option.{Option, none, some}
+use Prim.Native.Nat.{ℕ, _+_, compare, Ordering, Ordering·lt, Ordering·eq, Ordering·gt}
+use native.Mathlib.Decide.{decLt}
+use native.Mathlib.Omega.{arith}
+use Rattle.image.specs.Image.{RouteImage}
+use Rattle.graph.specs.Fold.{flat}
+use Rattle.graph.proofs.FoldLaws.{flat-more}
+use Rattle.unwind.specs.declared.tries.paths.Group.{Group}
+use Rattle.unwind.specs.declared.tries.keys.Key.{Key}
+use Rattle.unwind.specs.declared.tries.keys.NextKey.{NextKey}
+use Rattle.unwind.specs.declared.tries.keys.NextKey.the-variants.{At, Nothing}
+use Rattle.addition.specs.Order.{Tagged, compareTagged}
+use Rattle.unwind.specs.Interning.{isLt, after, before, nearest, leftAt}
+use Rattle.unwind.specs.Keys.{keysOf, keyIn, keyOf, mergedOn, merged, firstKeys, Spans, SpansIn, KeyOf, NextAmong, NextOf}
+use Rattle.addition.proofs.Lists.{mem-flat}
+use Rattle.unwind.proofs.TrieOrder.{total-key, not-gt-eq, self-eq, next-in, next-new}
+use Rattle.unwind.proofs.TrieKeys.{nearest-append, nearest-none, nearer-taken, nearer-late, nearer-early, keys-flat}
+
+abbrev order : Tagged ℕ → Tagged ℕ → Ordering
+order = compareTagged compare
+
+module _ (m : RouteImage) (g : Group) (last : NextKey) where
+  abbrev keysAt : ℕ → List (Tagged ℕ)
+  keysAt i = keysOf (leftAt m g (g .first + i))
+
+  pub among-none : NextAmong m g last 0 Nothing
+  unfolding keyOf flat nearest
+  among-none = record { is = refl; stands = tt; spans = tt }
+
+  pub among-all : (best : NextKey) → NextAmong m g last (g .count) best → NextOf m g last best
+  among-all best all = record { is = rw (keys-flat m g) (all .is); stands = all .stands; spans = all .spans }
+
+  module _ (n : ℕ) where
+    spans-still : (k : Key) → Spans m g n k → (keysAt n ≡ keyIn m k ∷ [] → ⊥) → Spans m g (n + 1) k
+    spans-still k so-far other =
+        record {
+          low = so-far .low;
+          mid = so-far .mid;
+          high = omega (arith, so-far .high);
+          all = λ i h e.
+              elim (decLt i n) [
+                | yes lt ↦ so-far .all i lt e
+                | no ge ↦ let here : i ≡ n = omega arith in absurd (other (rw here at e))
+              ];
+        }
+
+    module _ (best : NextKey) (so-far : NextAmong m g last n best) where
+      next-is : (o : Option (Tagged ℕ)) → nearest order (keyOf m last) (keyOf m best) (keysAt n) ≡ o → o ≡ nearest order (keyOf m last) none (firstKeys m g (n + 1))
+      next-is o e =
+          sym e
+          ∙ ap (λ (b : Option (Tagged ℕ)). nearest order (keyOf m last) b (keysAt n)) (so-far .is)
+          ∙ sym (nearest-append order (keyOf m last) none (firstKeys m g n) (keysAt n))
+          ∙ ap (nearest order (keyOf m last) none) (sym (flat-more keysAt n))
+
+      -- the next path has another key than `best`, or none
+      stays : nearest order (keyOf m last) (keyOf m best) (keysAt n) ≡ keyOf m best → ((b : Tagged ℕ) → keyOf m best ≡ some b → keysAt n ≡ b ∷ [] → ⊥) → NextAmong m g last (n + 1) best
+      unfolding keyOf
+      stays e other = record { is = next-is (keyOf m best) e; stands = so-far .stands; spans = go best (so-far .spans) other }
+        where
+          go : (b : NextKey) → SpansIn m g n b → ((x : Tagged ℕ) → keyOf m b ≡ some x → keysAt n ≡ x ∷ [] → ⊥) → SpansIn m g (n + 1) b
+          go (At k) spans apart = spans-still k spans (apart (keyIn m k) refl)
+          go Nothing spans apart = tt
+
+      pub key-none : keysAt n ≡ [] → NextAmong m g last (n + 1) best
+      key-none e = stays (nearest-none order (keyOf m last) (keyOf m best) e) (λ b p q. let z : _≡_ {A = ℕ} 0 1 = cc in omega arith)
+
+      module _ (key : Key) (found : KeyOf m g (g .first + n) (At key)) where
+        one : keysAt n ≡ keyIn m key ∷ []
+        unfolding keyOf
+        one = found .is
+
+        same : (b : Tagged ℕ) → keysAt n ≡ b ∷ [] → keyIn m key ≡ b
+        same b e = let p = one in cc
+
+        pub key-early : after order (keyOf m last) (keyIn m key) ≡ false → NextAmong m g last (n + 1) best
+        key-early early =
+            stays (nearer-early order (keyOf m last) (keyOf m best) (keyIn m key) one early)
+            (λ b p q. false≢true (sym early ∙ rw (same b q) (next-in order total-key (keyOf m last) (firstKeys m g n) b (sym (so-far .is) ∙ p) .1)))
+
+        module _ (late : after order (keyOf m last) (keyIn m key) ≡ true) where
+          -- it comes before `best`, so that no path before has it
+          taken : before order (keyIn m key) (keyOf m best) ≡ true → NextAmong m g last (n + 1) (At key)
+          unfolding keyOf
+          taken first =
+              record {
+                is = next-is (some (keyIn m key)) (nearer-taken order (keyOf m last) (keyOf m best) (keyIn m key) one late first);
+                stands = found .stands;
+                spans = record {
+                  low = omega (arith, found .here .0);
+                  mid = omega (arith, found .here .0, found .here .1);
+                  high = omega (arith, found .here .1);
+                  all = λ i h e.
+                      elim (decLt i n) [
+                        | yes lt ↦
+                            absurd (next-new order total-key (keyOf m last) (firstKeys m g n) (keyIn m key)
+                            (mem-flat keysAt n i lt (rw e (List·Memᴰ·head refl))) late (rw (← so-far .is) first))
+                        | no ge ↦ (omega (arith, found .here .0), omega (arith, found .here .1))
+                      ];
+                };
+              }
+
+          later : (b : Key) → keyOf m best ≡ some (keyIn m b) → isLt (order (keyIn m key) (keyIn m b)) ≡ false → nearest order (keyOf m last) (keyOf m best) (keysAt n) ≡ keyOf m best
+          later b e past = nearer-late order (keyOf m last) (keyOf m best) (keyIn m key) one late (rw e past)
+
+  pub key-merged : (n : ℕ) (best : NextKey) → NextAmong m g last n best → (key : Key) → KeyOf m g (g .first + n) (At key) → after order (keyOf m last) (keyIn m key) ≡ true → NextAmong m g last (n + 1) (merged m key best)
+  unfolding merged keyOf keyIn
+  key-merged n Nothing so-far key found late = taken n Nothing so-far key found late refl
+  key-merged n (At b) so-far key found late = go (order (keyIn m key) (keyIn m b)) refl
+    where
+      go : (o : Ordering) → order (keyIn m key) (keyIn m b) ≡ o → NextAmong m g last (n + 1) (mergedOn o key b)
+      go Ordering·lt e = taken n (At b) so-far key found late (ap isLt e)
+      go Ordering·eq e =
+          let s = so-far .spans in
+          record {
+            is = next-is n (At b) so-far (some (keyIn m b)) (later n (At b) so-far key found late b refl (ap isLt e));
+            stands = record {
+              within = so-far .stands .within;
+              behind = so-far .stands .behind;
+              begins = so-far .stands .begins;
+              steps = so-far .stands .steps;
+            };
+            spans = record {
+              low = s .low;
+              mid = omega (arith, s .mid, s .high, found .here .1);
+              high = omega (arith, found .here .1);
+              all = λ i h p.
+                  elim (decLt i n) [
+                    | yes lt ↦ (s .all i lt p .0, omega (arith, found .here .1))
+                    | no ge ↦ (omega (arith, s .mid, s .high), omega (arith, found .here .1))
+                  ];
+            };
+          }
+      go Ordering·gt e =
+          stays n (At b) so-far (later n (At b) so-far key found late b refl (ap isLt e))
+          (λ x p q.
+          let alike : keyIn m key ≡ keyIn m b = let k = same n (At b) so-far key found x q in cc in
+          not-gt-eq (sym e ∙ rw alike (self-eq order total-key (keyIn m b))))

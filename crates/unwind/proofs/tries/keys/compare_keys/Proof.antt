@@ -1,0 +1,51 @@
+-- `compare_keys` meets its contract: the tags decide, or the funclets behind them. Assumes nothing.
+use mathlib.Core.Path.{sym, ap, ap₂, _∙_}
+use Prim.Native.Nat.{compare}
+use Rattle.image.specs.Image.{routesIn}
+use Rattle.image.specs.declared.record.Step.{Step}
+use Rattle.unwind.specs.Interning.{orderingOf}
+use Rattle.unwind.specs.Keys.{keyIn}
+use Rattle.unwind.proofs.TrieCompare.{tagged-less, tagged-greater, tagged-equal}
+use borrow.Author.Needs.{needs}
+use Rattle.unwind.proofs.tries.keys.compare_keys.Statement.{statement}
+use Rattle.unwind.proofs.tries.keys.compare_keys.Tie as tie
+
+returns : tie.Need-returns
+unfolding keyIn
+returns c =
+    let a = c .before .before .before .before .args in
+    let m = routesIn (a .s .now) (a .y) in
+    sym (tagged-less compare (keyIn m (a .a)) (keyIn m (a .b)) (sym (c .before .before .compare-calls .ensures) ∙ ap orderingOf (c .enum-told .given .1)))
+
+returns-2 : tie.Need-returns-2
+unfolding keyIn
+returns-2 c =
+    let a = c .before .before .before .before .args in
+    let m = routesIn (a .s .now) (a .y) in
+    sym (tagged-greater compare (keyIn m (a .a)) (keyIn m (a .b)) (sym (c .before .before .compare-calls .ensures) ∙ ap orderingOf (c .enum-told2 .given .1)))
+
+returns-3 : tie.Need-returns-3
+unfolding keyIn
+returns-3 c =
+    let a = c .before .before .before .before .before .before .before .before .before .args in
+    let m = routesIn (a .s .now) (a .y) in
+    c .compare-numbers .ensures
+    ∙ ap₂ (λ (u v : Step). compare (u .value) (v .value)) (c .before .before .before .step-at .ensures) (c .before .step-at2 .ensures)
+    ∙ sym (tagged-equal compare (keyIn m (a .a)) (keyIn m (a .b)) (sym (c .before .before .before .before .before .before .before .compare-calls .ensures) ∙ ap orderingOf (c .before .before .before .before .before .enum-told3 .given .1)))
+
+pub compare-keys-spec : {M : Type 1} → statement M
+compare-keys-spec =
+    tie.close
+    (tie.spec
+    (λ c κs. search needs)
+    (λ c. search needs)
+    (λ c. search needs)
+    (λ c. search needs)
+    (λ c. search needs)
+    (λ c κs. search needs)
+    (λ c. search needs)
+    (λ c κs. search needs)
+    (λ c κs. search needs)
+    returns
+    returns-2
+    returns-3)
