@@ -3,7 +3,7 @@
 --     gather-none, gather-next, gather-both    nothing, one more, and one gathering behind another
 --     gather-record                a node's
 --     entry-some, entry-none       an entry with calls, and with none
---     number-handler, number-propagate, number-resume      the number of an end
+--     number-stays, number-lands   the number of an end that resumes, and of another
 use mathlib.Core.Path.{_≡_, refl, sym, _∙_, ap, subst}
 use mathlib.Core.List.{List, [], _∷_, _++_, append-nil}
 use Prim.Native.Nat.{ℕ, _+_, _≤_, Ordering}
@@ -16,7 +16,7 @@ use Rattle.image.specs.Image.{RouteImage, table}
 use Rattle.unwind.specs.declared.tries.store.NodeRecord.{NodeRecord}
 use Rattle.unwind.specs.declared.tries.store.Branch.{Branch}
 use Rattle.addition.specs.Order.{put, sorted}
-use Rattle.unwind.specs.Nodes.{pathRecord, tagsIn}
+use Rattle.unwind.specs.Nodes.{tagsIn}
 use Rattle.unwind.specs.Sources.{Exit, compareExits}
 use Rattle.unwind.specs.Entries.{exitIn, exitsIn, Ordered, EntryPut}
 use Rattle.unwind.specs.Gather.{putAll, exitTo, edgeExits, endNumber, endExits, recordExits, Gathers}
@@ -79,15 +79,11 @@ pub entry-none : (m : RouteImage) (b : ℕ) (e : Branch) (n : ℕ) → e .calls 
 unfolding exitIn tagsIn
 entry-none m b e n k = rw k
 
-module _ (m : RouteImage) (b : ℕ) (landings : List ℕ) (p k : ℕ) where
-  pub number-handler : pathRecord m p .end ≡ 0 → getD landings k 0 ≡ endNumber m b landings p k
+module _ (b : ℕ) (landings : List ℕ) (k : ℕ) where
+  pub number-stays : getD landings k 0 ≡ 65534 → b ≡ endNumber b landings k
   unfolding endNumber
-  number-handler e = rw e
+  number-stays e = rw e
 
-  pub number-propagate : pathRecord m p .end ≡ 1 → 65535 ≡ endNumber m b landings p k
+  pub number-lands : (getD landings k 0 ≡ 65534 → ⊥) → getD landings k 0 ≡ endNumber b landings k
   unfolding endNumber
-  number-propagate e = rw e
-
-  pub number-resume : (pathRecord m p .end ≡ 0 → ⊥) → (pathRecord m p .end ≡ 1 → ⊥) → b ≡ endNumber m b landings p k
-  unfolding endNumber
-  number-resume h e = rw (ne-eqb (pathRecord m p .end) 0 h, ne-eqb (pathRecord m p .end) 1 e)
+  number-lands ne = rw (ne-eqb (getD landings k 0) 65534 ne)

@@ -39,7 +39,6 @@ use Rattle.addition.specs.Trie.{Node, nodeAt, tries}
 use Rattle.unwind.specs.Nodes.{recordIn, nodeIn}
 use Rattle.addition.specs.Instance.{entryBlock, blocksOf, later, copied, base, place, entryOf, returnsOf, cloneBlocks}
 use Rattle.unwind.specs.Placed.{setAt}
-use Rattle.unwind.specs.Sides.{landing}
 use Rattle.addition.specs.Ways.{Way, block as toBlock, endAt, waysFrom, routeWays, nodeWays, ways}
 use Rattle.unwind.specs.Sources.{Exit, exitsFrom}
 use Rattle.unwind.specs.Gather.{inSet}
@@ -187,13 +186,12 @@ module _ (g : Graph) (m : RouteImage) (nodes edges ends roots bases heads parts 
   rises i = part-rises g funclets′ (nodeAt trie i .funclet)
 
   pub leads-in : Leads g m ends heads landings c
-  unfolding landing
   leads-in =
       record {
         heads-are = λ i h. x .placed .entry-is i h;
         heads-few = λ i h. omega (arith, x .placed .entry-is i h, entry-few g (routesOf m) (x .bounded) i (omega (arith, long)));
-        lands = λ k a h e. x .landed .land k h ∙ ap (landing g) e;
-        lands-few = λ k h. omega (arith, x .landed .few k h);
+        lands = x .landed;
+        blocks-few = λ a. omega (arith, block-most g a, few);
       }
 
   pub sides-in : Sides g m guards bases returns c

@@ -12,14 +12,13 @@ use mathlib.Core.List.{List, [], _∷_, _++_, map, map-append}
 use mathlib.Core.Option.{some}
 use Prim.Native.Nat.{ℕ, zero, suc, _+_, _*_, _≤_, _<_}
 use native.Mathlib.Nat.{not-suc-le-zero}
-use native.Mathlib.Decide.{ℕ-discrete}
 use native.Mathlib.Omega.{arith}
-use borrow.Author.Tests.{eq-eqb, ne-eqb}
+use borrow.Author.Tests.{ne-eqb}
 use lib.Dec.{eqb}
 use lib.ListN.{length, getD}
 use lib.Seq.{getD-take}
 use Rattle.image.specs.Image.{RouteImage, table}
-use Rattle.image.specs.Deal.{UnwindEnd, handler, endOf, routesOf}
+use Rattle.image.specs.Deal.{UnwindEnd, handler, propagate, resume, endOf, routesOf}
 use Rattle.graph.specs.Graph.{Graph}
 use Rattle.graph.specs.Fold.{flat, among}
 use Rattle.graph.proofs.FoldLaws.{length-table, table-same, getD-table, flat-same}
@@ -28,6 +27,7 @@ use Rattle.unwind.specs.declared.emit.count.Sizes.{Sizes}
 use Rattle.unwind.specs.declared.tries.store.Counts.{Counts}
 use Rattle.addition.specs.Lists.{keep}
 use Rattle.addition.specs.Order.{Tagged, sorted}
+use Rattle.addition.specs.Blocks.{blockOf}
 use Rattle.addition.specs.Part.{funclets, returning}
 use Rattle.addition.specs.Trie.{Node, nodeAt, tries}
 use Rattle.unwind.specs.Nodes.{branchIn, recordIn, branches, pathRecord, edgeOf, endAt, nodeIn, nodesIn}
@@ -37,6 +37,7 @@ use Rattle.addition.specs.Ways.{block, endAt as hopEnd, ways}
 use Rattle.unwind.specs.Sources.{Exit, exit, compareExits, exitsAt, exitsFrom, routeExits, nodeExits, copyExits, hopsOn}
 use Rattle.unwind.specs.Entries.{endIn, exitsIn}
 use Rattle.unwind.specs.Gather.{exitTo, edgeExits, endNumber, endExits, recordExits, Gathers, inSet, NodeFits, routeRecords, nodeRecords, Pooled, Adds}
+use Rattle.unwind.specs.Sides.{landing}
 use Rattle.unwind.specs.Lent.{Leads, Sides, blockRecords, Holds, BlockHeld, blockHops}
 use Rattle.unwind.specs.Sizes.{HopsSize, SizesOf}
 use Rattle.addition.specs.Walk.{_∈_}
@@ -132,22 +133,18 @@ module _ (g : Graph) (m : RouteImage) (nodes edges ends roots heads landings gua
         λ x. record { leap = record { source = b; end = p x }; calls = edgeOf m e .calls }
 
     end-same : (k : ℕ) → k < c .ends → let e = branchIn ends k in
-        exitTo m b e (endNumber m b landings (e .what) k) ≡ record { leap = record { source = b; end = hopEnd g (routesOf m) b (endAt m e .what) }; calls = endAt m e .calls }
-    unfolding endAt endNumber endOf hopEnd endIn
+        exitTo m b e (endNumber b landings k) ≡ record { leap = record { source = b; end = hopEnd g (routesOf m) b (endAt m e .what) }; calls = endAt m e .calls }
+    unfolding endAt endNumber landing hopEnd endIn
     end-same k h =
         let e = branchIn ends k in
-        let p : endIn (endNumber m b landings (e .what) k) ≡ hopEnd g (routesOf m) b (endOf (pathRecord m (e .what))) = go (ℕ-discrete (pathRecord m (e .what) .end) 0) (ℕ-discrete (pathRecord m (e .what) .end) 1) in
+        let p : endIn (endNumber b landings k) ≡ hopEnd g (routesOf m) b (endOf (pathRecord m (e .what))) =
+        ap (λ (l : ℕ). endIn (cond (eqb l 65534) b l)) (s .lands .land k h) ∙ go (endOf (pathRecord m (e .what))) in
         λ x. record { leap = record { source = b; end = p x }; calls = endAt m e .calls }
       where
-        q : ℕ
-        q = branchIn ends k .what
-
-        go : Dec (pathRecord m q .end ≡ 0) → Dec (pathRecord m q .end ≡ 1) → endIn (endNumber m b landings q k) ≡ hopEnd g (routesOf m) b (endOf (pathRecord m q))
-        go (yes e) f =
-            let land = s .lands k (pathRecord m q .handler) h (rw (eq-eqb (pathRecord m q .end) 0 e)) in
-            rw (eq-eqb (pathRecord m q .end) 0 e) (is-block (getD landings k 0) (s .lands-few k h) ∙ ap block land)
-        go (no e) (yes f) = rw (ne-eqb (pathRecord m q .end) 0 e, eq-eqb (pathRecord m q .end) 1 f)
-        go (no e) (no f) = rw (ne-eqb (pathRecord m q .end) 0 e, ne-eqb (pathRecord m q .end) 1 f) (is-block b few)
+        go : (u : UnwindEnd) → endIn (cond (eqb (landing g u) 65534) b (landing g u)) ≡ hopEnd g (routesOf m) b u
+        go (handler a) = let low = s .blocks-few a in rw (ne-eqb (blockOf g a) 65534 (λ e. omega arith)) (is-block (blockOf g a) (omega arith))
+        go propagate = refl
+        go resume = is-block b few
 
     pub record-exits : (i : ℕ) → i < c .nodes → recordExits m b edges ends heads landings (recordIn nodes i) ≡ exitsFrom g (routesOf m) b (nodeAt z i)
     unfolding recordExits edgeExits endExits exitsFrom nodeIn branches
@@ -159,7 +156,7 @@ module _ (g : Graph) (m : RouteImage) (nodes edges ends roots heads landings gua
         table-same _ (λ k. on (edgeOf m (branchIn edges (x .«first_edge» + k)))) (x .edges) (λ k j. edge-same i k h j)
         ∙ sym (map-table on (λ k. edgeOf m (branchIn edges (x .«first_edge» + k))) (x .edges))
         ∙ ap (map on) (sym (map-table (edgeOf m) (λ k. branchIn edges (x .«first_edge» + k)) (x .edges))) in
-        let f : table (λ k. exitTo m b (branchIn ends (x .«first_end» + k)) (endNumber m b landings (branchIn ends (x .«first_end» + k) .what) (x .«first_end» + k))) (x .ends) ≡ map off (map (endAt m) (branches ends (x .«first_end») (x .ends))) =
+        let f : table (λ k. exitTo m b (branchIn ends (x .«first_end» + k)) (endNumber b landings (x .«first_end» + k))) (x .ends) ≡ map off (map (endAt m) (branches ends (x .«first_end») (x .ends))) =
         table-same _ (λ k. off (endAt m (branchIn ends (x .«first_end» + k)))) (x .ends) (λ k j. end-same (x .«first_end» + k) (let all = t .stored .ends-in i h in omega arith))
         ∙ sym (map-table off (λ k. endAt m (branchIn ends (x .«first_end» + k))) (x .ends))
         ∙ ap (map off) (sym (map-table (endAt m) (λ k. branchIn ends (x .«first_end» + k)) (x .ends))) in

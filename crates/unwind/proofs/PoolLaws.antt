@@ -82,7 +82,7 @@ module _ (m : RouteImage) (b : ℕ) (edges ends heads landings : List ℕ) where
       edge k = exitTo m b (branchIn edges k) (getD heads (branchIn edges k .what) 0)
 
       end : ℕ → Exit
-      end k = exitTo m b (branchIn ends k) (endNumber m b landings (branchIn ends k .what) k)
+      end k = exitTo m b (branchIn ends k) (endNumber b landings k)
 
       go : (y ∈ edgeExits m b edges heads (x .«first_edge») (x .edges)) ⊎ (y ∈ endExits m b ends landings (x .«first_end») (x .ends)) → y ∈ edgeExits m b edges heads 0 (length edges / 3) ++ endExits m b ends landings 0 (length ends / 3)
       go (inl i) =

@@ -309,10 +309,10 @@ module _ (m : RouteImage) (nodes edges ends heads landings : List ℕ) (r b : �
           stand-table m r b (λ j. branchIn edges (x .«first_edge» + j)) (λ j. getD heads (branchIn edges (x .«first_edge» + j) .what) 0) (x .edges)
           (stand-front (edge-ways x) (end-ways x) own)
 
-      pub ends-stand : (j : ℕ) → j < x .ends → HopStands h (leapTo b (endNumber m b landings (branchIn ends (x .«first_end» + j) .what) (x .«first_end» + j)))
+      pub ends-stand : (j : ℕ) → j < x .ends → HopStands h (leapTo b (endNumber b landings (x .«first_end» + j)))
       unfolding endExits
       ends-stand =
-          stand-table m r b (λ j. branchIn ends (x .«first_end» + j)) (λ j. endNumber m b landings (branchIn ends (x .«first_end» + j) .what) (x .«first_end» + j)) (x .ends)
+          stand-table m r b (λ j. branchIn ends (x .«first_end» + j)) (λ j. endNumber b landings (x .«first_end» + j)) (x .ends)
           (stand-back (edge-ways x) (end-ways x) own)
 
     pub record-wants : {g g₁ g₂ : List ℕ} {done done₁ done₂ : List Bool} → EdgesWanted h g done (map (wayOf r) (edgeExits m b edges heads (x .«first_edge») (x .edges))) g₁ done₁ → EdgesWanted h g₁ done₁ (map (wayOf r) (endExits m b ends landings (x .«first_end») (x .ends))) g₂ done₂ → EdgesWanted h g done (recordWays m nodes edges ends heads landings r b x′) g₂ done₂

@@ -10,7 +10,7 @@ use Rattle.graph.specs.BlockSet.{member}
 use Rattle.unwind.specs.declared.tries.store.NodeRecord.{NodeRecord}
 use Rattle.unwind.specs.declared.tries.store.Branch.{Branch}
 use Rattle.addition.specs.Order.{put}
-use Rattle.unwind.specs.Nodes.{branchIn, recordIn, pathRecord, tagsIn, BranchSmall}
+use Rattle.unwind.specs.Nodes.{branchIn, recordIn, tagsIn, BranchSmall}
 use Rattle.addition.specs.Walk.{_∈_}
 use Rattle.unwind.specs.Sources.{Exit, compareExits}
 use Rattle.unwind.specs.Entries.{endIn, exitIn, exitsIn, Ordered}
@@ -20,21 +20,22 @@ unfoldable pub putAll : {A : Type 0} → (A → A → Ordering) → List A → L
 putAll c [] l = l
 putAll c (x ∷ xs) l = putAll c xs (put c x l)
 
+-- the number of end k out of block b, where it goes on if the end resumes
+unfoldable pub endNumber : ℕ → List ℕ → ℕ → ℕ
+endNumber b landings k = cond (eqb (getD landings k 0) 65534) b (getD landings k 0)
+
 module _ (m : RouteImage) where
   -- with the calls of e to the end of number n
   abbrev pub exitTo : ℕ → Branch → ℕ → Exit
   exitTo b e n = record { leap = record { source = b; end = endIn n }; calls = tagsIn m (e .step) (e .calls) }
 
-  -- ---- by the numbers that are lent: `heads` the entry of each node, `landings` the block of each end that is a handler
+  -- ---- by the numbers that are lent: `heads` the entry of each node, `landings` where each end lands
 
   unfoldable pub edgeExits : ℕ → List ℕ → List ℕ → ℕ → ℕ → List Exit
   edgeExits b edges heads a n = table (λ k. exitTo b (branchIn edges (a + k)) (getD heads (branchIn edges (a + k) .what) 0)) n
 
-  unfoldable pub endNumber : ℕ → List ℕ → ℕ → ℕ → ℕ
-  endNumber b landings p k = cond (eqb (pathRecord m p .end) 0) (getD landings k 0) (cond (eqb (pathRecord m p .end) 1) 65535 b)
-
   unfoldable pub endExits : ℕ → List ℕ → List ℕ → ℕ → ℕ → List Exit
-  endExits b ends landings a n = table (λ k. exitTo b (branchIn ends (a + k)) (endNumber b landings (branchIn ends (a + k) .what) (a + k))) n
+  endExits b ends landings a n = table (λ k. exitTo b (branchIn ends (a + k)) (endNumber b landings (a + k))) n
 
   unfoldable pub recordExits : ℕ → List ℕ → List ℕ → List ℕ → List ℕ → NodeRecord → List Exit
   recordExits b edges ends heads landings x =

@@ -5,7 +5,7 @@ use mathlib.Core.List.{List, [], _++_}
 use Prim.Native.Nat.{ℕ, _+_, _*_, _/_, _≤_, _<_}
 use lib.ListN.{length, getD}
 use Rattle.image.specs.Image.{RouteImage}
-use Rattle.image.specs.Deal.{handler, endOf, routesOf}
+use Rattle.image.specs.Deal.{routesOf}
 use Rattle.graph.specs.Graph.{Graph}
 use Rattle.graph.specs.Fold.{flat, among}
 use Rattle.graph.specs.Route.{routeAt}
@@ -15,20 +15,20 @@ use Rattle.addition.specs.Order.{sorted}
 use Rattle.addition.specs.Blocks.{blockOf, guarded}
 use Rattle.addition.specs.Part.{funclets, returning}
 use Rattle.addition.specs.Trie.{tries}
-use Rattle.unwind.specs.Nodes.{branchIn, pathRecord}
 use Rattle.addition.specs.Instance.{blocksOf, later, base, entryOf}
 use Rattle.addition.specs.Ways.{Hop}
 use Rattle.unwind.specs.Sources.{Exit, compareExits, hopsOn}
 use Rattle.unwind.specs.Entries.{exitsIn, Ordered}
 use Rattle.unwind.specs.Gather.{inSet, routeRecords, nodeRecords}
+use Rattle.unwind.specs.Sides.{Lands}
 
 module _ (g : Graph) (m : RouteImage) where
-  -- where nodes and ends lead: the entry of each node, and the block of each end of the trie that is a handler
+  -- where nodes and ends lead: the entry of each node, and where each end of the trie lands
   pub record Leads (ends heads landings : List ℕ) (c : Counts) : Type 0 where
     pub heads-are : (i : ℕ) → i < c .nodes → getD heads i 0 ≡ entryOf g (funclets (routesOf m)) (tries (routesOf m) .nodes) i
     pub heads-few : (i : ℕ) → i < c .nodes → getD heads i 0 < 65535
-    pub lands : (k h : ℕ) → k < c .ends → endOf (pathRecord m (branchIn ends k .what)) ≡ handler h → getD landings k 0 ≡ blockOf g h
-    pub lands-few : (k : ℕ) → k < c .ends → getD landings k 0 < 65535
+    pub lands : Lands g m ends landings (c .ends)
+    pub blocks-few : (a : ℕ) → blockOf g a < 65534
 
   -- which blocks a route guards, and which nodes return from a block, as sets of sixteen words each
   pub record Sides (guards bases returns : List ℕ) (c : Counts) : Type 0 where

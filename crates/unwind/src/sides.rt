@@ -1,7 +1,8 @@
-// What routes and ends say of blocks: the blocks that each route guards, and the block of each handler.
+// What routes and ends say of blocks: the blocks that each route guards, and where each end lands.
 use crate::blocks::Lead;
 use crate::blocks::guarded_by;
 use crate::blocks::leading_block;
+use crate::emit::entries::LEAVE;
 use crate::slots::put_set;
 use crate::tries::store::branch_at;
 use graph::resume::HANDLER;
@@ -20,6 +21,11 @@ ghost use Rattle.unwind.specs.Stands.{Stands};
 ghost use Rattle.unwind.specs.Nodes.{pathRecord};
 ghost use Rattle.unwind.specs.Sides.{landing, Lands, GuardsIn};
 
+// Where it resumes: in the block that it came from.
+pub const STAY: usize = 65534;
+
+const PROPAGATE: u64 = 1;
+
 // The blocks that each route guards, a set for each.
 pub fn guard_routes(g: &Words, built: usize, s: &[u8], y: RouteLayout, guards: &mut [u64])
     requires { ⌜ Stands (heldIn (now g) .graph) × Built (heldIn (now g) .graph) built × (16 * length (routesIn (now s) y .routes) ≤ length (now guards)) ⌝ }
@@ -33,7 +39,7 @@ pub fn guard_routes(g: &Words, built: usize, s: &[u8], y: RouteLayout, guards: &
     }
 }
 
-// The blocks of the handlers at the first n ends.
+// Where the first n ends land.
 pub fn land_ends(
     g: &Words,
     built: usize,
@@ -52,14 +58,17 @@ pub fn land_ends(
     }
 }
 
-// The block of the handler at the end of path p; 0 for another end.
+// Where the end of path p lands: at the block of its handler, or LEAVE where it propagates, or STAY where it resumes.
 fn land(g: &Words, built: usize, s: &[u8], y: RouteLayout, p: usize) -> usize
     requires { ⌜ Stands (heldIn (now g) .graph) × Built (heldIn (now g) .graph) built ⌝ }
-    ensures { λ r. ⌜ (r ≡ landing (heldIn (now (g .entry)) .graph) (endOf (pathRecord (routesIn (now (s .entry)) y) p))) × (r < 1024) ⌝ }
+    ensures { λ r. ⌜ (r ≡ landing (heldIn (now (g .entry)) .graph) (endOf (pathRecord (routesIn (now (s .entry)) y) p))) × (r < 65536) ⌝ }
 {
     let path = path_at(s, y.paths, p);
+    if path.end == PROPAGATE {
+        return LEAVE;
+    }
     if path.end != HANDLER {
-        return 0;
+        return STAY;
     }
     match leading_block(g, built, path.handler) {
         Lead::Leads(b) => b,

@@ -267,19 +267,7 @@ fn want_from(
 {
     let node = node_at(nodes, i);
     want_edges(g, h, edges, heads, node.first_edge, node.edges, r, b, done);
-    want_ends(
-        g,
-        h,
-        s,
-        y,
-        ends,
-        landings,
-        node.first_end,
-        node.ends,
-        r,
-        b,
-        done,
-    );
+    want_ends(g, h, landings, node.first_end, node.ends, r, b, done);
 }
 
 // By its `count` edges from `first` on.
@@ -308,9 +296,6 @@ fn want_edges(
 fn want_ends(
     g: &mut Words,
     h: &Hops,
-    s: &[u8],
-    y: RouteLayout,
-    ends: &[u16],
     landings: &[u16],
     first: usize,
     count: usize,
@@ -318,12 +303,11 @@ fn want_ends(
     b: usize,
     done: &mut Flags,
 )
-    requires { ⌜ HopsRise (now h) × ((j : ℕ) → j < count → HopStands (now h) (leapTo b (endNumber (routesIn (now s) y) b (now landings) (branchIn (now ends) (first + j) .what) (first + j)))) × RunsFit (heldIn (now g) .graph) × (first < 65536) × (count < 65536) × (b < 65536) ⌝ }
-    ensures { λ _. ⌜ EdgesWanted (now (h .entry)) (now (g .entry)) (now (done .entry)) (map (wayOf r) (endExits (routesIn (now (s .entry)) y) b (now (ends .entry)) (now (landings .entry)) first count)) (now (g .exit)) (now (done .exit)) ⌝ }
+    requires { ⌜ HopsRise (now h) × ((j : ℕ) → j < count → HopStands (now h) (leapTo b (endNumber b (now landings) (first + j)))) × RunsFit (heldIn (now g) .graph) × (first < 65536) × (count < 65536) × (b < 65536) ⌝ }
+    ensures { λ _. ⌜ ((m : RouteImage) (ends : List ℕ) → EdgesWanted (now (h .entry)) (now (g .entry)) (now (done .entry)) (map (wayOf r) (endExits m b ends (now (landings .entry)) first count)) (now (g .exit)) (now (done .exit))) ⌝ }
 {
     for k in 0..count {
-        let e = branch_at(ends, first + k);
-        let t = end_number(s, y, landings, e.what, first + k, b);
+        let t = end_number(landings, first + k, b);
         want(g, h, r, b, t, done);
     }
 }

@@ -1,11 +1,10 @@
 // The ways out of one block, gathered from the nodes of the trie into sorted scratch.
-use crate::emit::entries::LEAVE;
 use crate::emit::entries::put_entry;
+use crate::sides::STAY;
 use crate::tries::store::Branch;
 use crate::tries::store::branch_at;
 use crate::tries::store::node_at;
 use crate::tries::store::number_at;
-use image::access::path_at;
 use image::section::RouteLayout;
 ghost use mathlib.Core.Path.{_≡_};
 ghost use Prim.Native.Nat.{_+_, _*_, _≤_, _<_};
@@ -15,11 +14,7 @@ ghost use Rattle.unwind.specs.Nodes.{recordIn, BranchSmall};
 ghost use Rattle.unwind.specs.Entries.{Ordered};
 ghost use Rattle.unwind.specs.Gather.{EntryTo, endNumber, endExits, recordExits, Gathers, GathersEdges};
 
-const HANDLER: u64 = 0;
-
-const PROPAGATE: u64 = 1;
-
-// Those of node i, out of block b: `heads` has the entry of each node, `landings` the block of each end that is a handler.
+// Those of node i, out of block b: `heads` has the entry of each node, `landings` where each end lands.
 pub fn gather_node(
     s: &[u8],
     y: RouteLayout,
@@ -82,25 +77,22 @@ fn gather_ends(
     let mut n = held;
     for k in 0..count {
         let e = branch_at(ends, first + k);
-        let end = end_number(s, y, landings, e.what, first + k, b);
+        let end = end_number(landings, first + k, b);
         n = put_entry(s, y, exits, n, entry_to(e, end));
     }
     n
 }
 
-// The number of the end of path p, which is end k of the trie, out of block b.
-pub fn end_number(s: &[u8], y: RouteLayout, landings: &[u16], p: usize, k: usize, b: usize) -> usize
+// The number of end k of the trie, out of block b.
+pub fn end_number(landings: &[u16], k: usize, b: usize) -> usize
     requires { ⌜ b < 65536 ⌝ }
-    ensures { λ r. ⌜ (r ≡ endNumber (routesIn (now (s .entry)) y) b (now (landings .entry)) p k) × (r < 65536) ⌝ }
+    ensures { λ r. ⌜ (r ≡ endNumber b (now (landings .entry)) k) × (r < 65536) ⌝ }
 {
-    let end = path_at(s, y.paths, p).end;
-    if end == HANDLER {
-        return number_at(landings, k);
+    let l = number_at(landings, k);
+    if l == STAY {
+        return b;
     }
-    if end == PROPAGATE {
-        return LEAVE;
-    }
-    b
+    l
 }
 
 // With the calls of e. No calls stand nowhere, so that the numbers of an entry hang on what it says alone.

@@ -33,7 +33,7 @@ loop-again c =
     let here = rw (c .before .branch-at .ensures .is) at (c .land .ensures .0) in (
       omega arith,
       length-set (top .landings) (top .k) _ ∙ top .inv .1,
-      lands-more (heldIn (a .g .now) .graph) (routesIn (a .s .now) (a .y)) (a .ends .now) (top .landings) (top .k) _ (omega (arith, top .inv .1, c .before .before .before .before .before .before .before .pre .2)) here (c .land .ensures .1) (top .inv .2),
+      lands-more (heldIn (a .g .now) .graph) (routesIn (a .s .now) (a .y)) (a .ends .now) (top .landings) (top .k) _ (omega (arith, top .inv .1, c .before .before .before .before .before .before .before .pre .2)) here (top .inv .2),
     )
 
 same-length : tie.Need-same-length Inv-loop μ-loop

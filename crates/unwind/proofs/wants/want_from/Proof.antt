@@ -36,7 +36,7 @@ returns c =
     let a = c .before .before .before .before .before .before .before .before .before .before .before .before .before .args in
     let m = routesIn (a .s .now) (a .y) in
     let node = c .before .before .before .before .before .before .node-at in
-    record-wants m (a .nodes .now) (a .edges .now) (a .ends .now) (a .heads .now) (a .landings .now) (a .r) (a .b) (node .result) _ (node .ensures .is) (c .before .before .before .want-edges .ensures m) (c .want-ends .ensures)
+    record-wants m (a .nodes .now) (a .edges .now) (a .ends .now) (a .heads .now) (a .landings .now) (a .r) (a .b) (node .result) _ (node .ensures .is) (c .before .before .before .want-edges .ensures m) (c .want-ends .ensures m (a .ends .now))
 
 pub want-from-spec : {M : Type 1} → statement M
 want-from-spec = tie.close (tie.spec (λ c κs. search needs) want-edges-requires want-ends-requires returns)

@@ -46,14 +46,14 @@ loop-again c =
     let end = c .before .before .before .before .before .end-number in
     let made = c .before .before .before .entry-to in
     let there : ℕ → Branch = λ k. branchIn (start .args .ends .now) (start .args .first + k) in
-    let f : ℕ → Exit = λ k. exitTo m b (there k) (endNumber m b (start .args .landings .now) (there k .what) (start .args .first + k)) in
+    let f : ℕ → Exit = λ k. exitTo m b (there k) (endNumber b (start .args .landings .now) (start .args .first + k)) in
     let put = c .before .before .put-entry .ensures in (
       omega (arith, c .before .before .before .before .before .before .before .loop-test .taken),
       omega (arith, put .most, top .inv .1),
       gather-next m b (start .args .exits .now) (start .args .held) f (top .k) (made .result) (top .inv .2) put
           (made .ensures .is m b
           ∙ ap (λ (e : Branch). exitTo m b e (end .result)) (read .ensures .is)
-          ∙ ap (exitTo m b (there (top .k))) (end .ensures .0 ∙ ap (λ (e : Branch). endNumber m b (start .args .landings .now) (e .what) (start .args .first + top .k)) (read .ensures .is))),
+          ∙ ap (exitTo m b (there (top .k))) (end .ensures .0)),
     )
 
 same-length : tie.Need-same-length Inv-loop μ-loop
