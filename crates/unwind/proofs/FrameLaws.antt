@@ -33,14 +33,14 @@ use Rattle.unwind.proofs.SizeChecks.{placed-in, bounded-in}
 
 -- ---- lengths
 
-module _ (g : Graph) (m : RouteImage) (steps paths routes : ℕ) (steps-few : length (m .steps) ≤ steps) (paths-few : length (m .paths) ≤ paths) (routes-few : length (m .routes) ≤ routes) (steps-most : steps ≤ 512) (paths-most : paths ≤ 128) where
+module _ (g : Graph) (m : RouteImage) (steps paths routes : ℕ) (steps-few : length (m .steps) ≤ steps) (paths-few : length (m .paths) ≤ paths) (routes-few : length (m .routes) ≤ routes) (steps-most : steps ≤ 512) (paths-most : paths ≤ 128) (blocks-few : length (g .blocks) < 6 * (steps + paths)) where
   pub framed : {starts nodes edges ends stack roots head next bases heads parts returns guards landings exits : List ℕ}
       → length starts ≡ paths + 1 → length nodes ≡ 6 * (routes + steps) → length edges ≡ 3 * steps → length ends ≡ 3 * paths → length stack ≡ 3 * steps → length roots ≡ routes
       → Roomy g head next → head ≡ replicate (length head) 0
       → length bases ≡ routes + steps → length heads ≡ routes + steps → length parts ≡ 16 * (routes + steps) → length returns ≡ 16 * (routes + steps)
-      → length guards ≡ 16 * routes → length landings ≡ paths → length exits ≡ 6 * (steps + paths)
+      → length guards ≡ 16 * routes → length landings ≡ paths → length exits ≡ 6 * (steps + paths) → exits ≡ replicate (length exits) 0
       → Frame g m starts nodes edges ends stack roots head next bases heads parts returns guards landings exits
-  framed starts-long nodes-long edges-long ends-long stack-long roots-long links unlinked bases-long heads-long parts-long returns-long guards-long landings-long exits-long =
+  framed starts-long nodes-long edges-long ends-long stack-long roots-long links unlinked bases-long heads-long parts-long returns-long guards-long landings-long exits-long unplaced =
       record {
         scratch = record { starts-fit = omega arith; nodes-fit = omega arith; edges-fit = omega arith; ends-fit = omega arith; stack-fit = omega arith; roots-fit = omega arith };
         links = links;
@@ -52,6 +52,8 @@ module _ (g : Graph) (m : RouteImage) (steps paths routes : ℕ) (steps-few : le
         guards-fit = omega arith;
         landings-fit = omega arith;
         exits-fit = record { edges-few = omega arith; ends-few = omega arith; room = omega arith };
+        firsts-fit = omega arith;
+        unplaced = unplaced;
       }
 
 pub frame-room : {g : Graph} {m : RouteImage} {starts nodes edges ends stack roots head next bases heads parts returns guards landings exits nodes′ edges′ ends′ roots′ : List ℕ} {c : Counts}
@@ -66,6 +68,8 @@ frame-room f t nodes-long edges-long ends-long =
       guards-fit = f .guards-fit;
       landings-fit = omega arith;
       exits-fit = record { edges-few = omega arith; ends-few = omega arith; room = omega arith };
+      firsts-fit = f .firsts-fit;
+      unplaced = f .unplaced;
     }
 
 -- ---- what stands
@@ -86,11 +90,11 @@ module _ (h : Held) (n : ℕ) (m : RouteImage) (checked : RoutesChecked h n m) (
         ∙ ap (checks (λ i. nodeCheck g (nodeAt z i))) (sym (length-nodes m nodes edges ends (c .nodes)))
         ∙ ap (λ (z : List Node). checks (λ i. nodeCheck g (nodeAt z i)) (length z)) (t .nodes-are)
 
-    pub placements : {head next bases heads parts returns guards landings exits head′ next′ bases′ heads′ parts′ returns′ : List ℕ}
+    pub placements : {head next bases heads parts returns guards landings exits head′ next′ bases′ heads′ parts′ returns′ exits′ : List ℕ}
         → Room g m edges ends head next bases heads parts returns guards landings exits c
-        → Linked g head′ next′ 0 → Roomy g head′ next′ → PlacedAll g m nodes (c .nodes) bases′ heads′ parts′ returns′ clear
-        → Placements g m nodes edges ends roots head′ next′ bases′ heads′ parts′ returns′ guards landings exits c
-    placements room linked links p =
+        → Linked g head′ next′ 0 → Roomy g head′ next′ → PlacedAll g m nodes (c .nodes) bases′ heads′ parts′ returns′ clear → length exits′ ≡ length exits
+        → Placements g m nodes edges ends roots head′ next′ bases′ heads′ parts′ returns′ guards landings exits′ c
+    placements room linked links p exits-long =
         record {
           trie = t;
           links = links;
@@ -100,7 +104,7 @@ module _ (h : Held) (n : ℕ) (m : RouteImage) (checked : RoutesChecked h n m) (
           bounded = bounded-in g m nodes edges ends roots _ _ _ _ c t p (blocks-some (stands-of h (checked .graphed)));
           guards-fit = room .guards-fit;
           landings-fit = room .landings-fit;
-          exits-fit = room .exits-fit;
+          exits-fit = record { edges-few = room .exits-fit .edges-few; ends-few = room .exits-fit .ends-few; room = rw exits-long (room .exits-fit .room) };
         }
 
   pub at-hand : {head next bases heads parts returns guards landings exits guards′ landings′ : List ℕ}

@@ -33,7 +33,7 @@ pub mod LentLaws
 pub mod SizeLaws
 pub mod SlotLaws
 pub mod PlaceLaws
-pub mod LikeLaws
+pub mod FirstLaws
 pub mod CopyLaws
 pub mod AllHops
 pub mod CopiesAre

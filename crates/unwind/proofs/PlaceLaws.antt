@@ -5,8 +5,7 @@
 --     part-rises, rank-most        a part rises, and a rank is small
 --     sizes-none, sizes-then, sizes-kept, slots-same, slots-less     room
 --     same-eq                      the same funclet
---     entry-alike                  the first node of a funclet has the entry of all
---     FirstPlaced, NoneLike, first-next, clone-next     the first node of a funclet, and a later one
+--     FirstPlaced, first-next, clone-next     the first node of a funclet, and a later one
 --     PlacedTo, placed-none, placed-next, placed-end, placed-over     the nodes before one, all nodes, and too many blocks
 -- Assumes nothing.
 use mathlib.Core.Path.{_≡_, refl, sym, ap, ap₂, _∙_, subst}
@@ -248,7 +247,7 @@ module _ (g : Graph) (m : RouteImage) (nodes edges ends : List ℕ) (n : ℕ) wh
 
   -- the first node with the funclet of node i
   module _ (i j : ℕ) (h : i < n) (lt : j < i) (alike : funcletAt m nodes j ≡ funcletAt m nodes i) (none-before : any (like m nodes i) j ≡ false) where
-    pub entry-alike : (bases entries parts returns : List ℕ) → Placed g fs′ z bases entries parts returns i → getD entries j 0 ≡ entryBlock g (funcletAt m nodes i)
+    entry-alike : (bases entries parts returns : List ℕ) → Placed g fs′ z bases entries parts returns i → getD entries j 0 ≡ entryBlock g (funcletAt m nodes i)
     entry-alike bases entries parts returns old =
         let hj : j < n = omega arith in
         let first = later-at j hj ∙ some-same _ (like m nodes i) j (λ k q. ap (sameFunclet (funcletAt m nodes k)) alike) ∙ none-before in
@@ -273,19 +272,15 @@ pub record FirstPlaced (g : Graph) (m : RouteImage) (nodes : List ℕ) (i : ℕ)
   pub returns-has : Has ret (keep (returning g) (partOf g (funclets (routesOf m)) (funcletAt m nodes i)))
   pub placed : NodePlaced i 0 (entryBlock g (funcletAt m nodes i)) part ret bases entries parts returns bases′ entries′ parts′ returns′
 
--- where the nodes before i are placed, none before r has the funclet of node i
-pub record NoneLike (g : Graph) (m : RouteImage) (nodes : List ℕ) (i r : ℕ) (bases entries parts returns : List ℕ) : Type 0 where
-  pub none-before : (edges ends : List ℕ) (n : ℕ) → i < n → Placed g (funclets (routesOf m)) (nodesIn m nodes edges ends n) bases entries parts returns i → any (like m nodes i) r ≡ false
-
 module _ (g : Graph) (m : RouteImage) (nodes : List ℕ) (i : ℕ) (bases entries parts returns bases′ entries′ parts′ returns′ : List ℕ) (s : Slots (i + 1) bases entries parts returns) where
-  pub first-next : (b : ℕ) → NoneLike g m nodes i i bases entries parts returns → FirstPlaced g m nodes i bases entries parts returns bases′ entries′ parts′ returns′
+  pub first-next : (b : ℕ) → any (like m nodes i) i ≡ false → FirstPlaced g m nodes i bases entries parts returns bases′ entries′ parts′ returns′
       → Placing g m nodes i b 0 bases entries parts returns bases′ entries′ parts′ returns′
   first-next b f p =
       record {
         few = omega arith;
         sizes = sizes-kept (p .placed);
         next = λ edges ends n h is old.
-            let first = later-at g m nodes edges ends n i h ∙ f .none-before edges ends n h old in
+            let first = later-at g m nodes edges ends n i h ∙ f in
             let blocks = blocks-at g m nodes edges ends n i h in
             let size = ap length (copied-first g m nodes edges ends n i first) in (
               placed-more g m nodes edges ends n i _ _ _ _ _ _ _ _ _ _ _ _ (omega (arith, s .bases-fit)) (omega (arith, s .entries-fit)) (p .placed) (rw first) (entry-original g m nodes edges ends n i h first) (rw blocks (p .part-has)) (rw blocks (p .returns-has)) old,
@@ -293,7 +288,7 @@ module _ (g : Graph) (m : RouteImage) (nodes : List ℕ) (i : ℕ) (bases entrie
             );
       }
 
-  module _ (few : length (g .blocks) ≤ 1024) (leads : funcletCheck g (funcletAt m nodes i) ≡ clear) (b r : ℕ) (f : NoneLike g m nodes i r bases entries parts returns) (lt : r < i) (same : like m nodes i r ≡ true) where
+  module _ (few : length (g .blocks) ≤ 1024) (leads : funcletCheck g (funcletAt m nodes i) ≡ clear) (b r : ℕ) (f : any (like m nodes i) r ≡ false) (lt : r < i) (same : like m nodes i r ≡ true) where
     abbrev w : List ℕ
     w = setAt parts r
 
@@ -312,7 +307,7 @@ module _ (g : Graph) (m : RouteImage) (nodes : List ℕ) (i : ℕ) (bases entrie
               let blocks-r = blocks-at g m nodes edges ends n r hr ∙ ap (partOf g (funclets (routesOf m))) alike in
               let blocks-i = blocks-at g m nodes edges ends n i h in
               let has : Has w (partOf g (funclets (routesOf m)) (funcletAt m nodes i)) = rw blocks-r at (old .part-has r lt) in
-              let entry = entry-alike g m nodes edges ends n i r h lt alike (f .none-before edges ends n h old) bases entries parts returns old in
+              let entry = entry-alike g m nodes edges ends n i r h lt alike f bases entries parts returns old in
               let ranked = entry-rank g (funclets (routesOf m)) (funcletAt m nodes i) w few leads has in
               let sized = size-has (length (g .blocks)) few _ (part-rises g (funclets (routesOf m)) (funcletAt m nodes i)) w has in
               let copies = ap length (copied-later g (routesOf m) (nodesIn m nodes edges ends n) i is-later ∙ blocks-i) in (

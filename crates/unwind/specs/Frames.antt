@@ -2,7 +2,7 @@
 use mathlib.Core.Path.{_≡_}
 use mathlib.Core.Bool.{true}
 use mathlib.Core.List.{List}
-use Prim.Native.Nat.{ℕ, _*_, _≤_}
+use Prim.Native.Nat.{ℕ, _*_, _≤_, _<_}
 use lib.ListN.{length, replicate}
 use Rattle.image.specs.Image.{RouteImage}
 use Rattle.image.specs.Deal.{routesOf}
@@ -29,7 +29,8 @@ pub record Few (g : Graph) (y : RouteLayout) (steps paths routes : ℕ) : Type 0
   pub edges-few : length (g .edges) ≤ 256
 
 -- THE FRAME: there is room for the tries of the routes, for the links of the graph, of which there are none yet, for an instance
--- of each node that there is room for, and for the exits of a block
+-- of each node that there is room for, and for the exits of a block; where those go the first node of each slot stands before, of
+-- which there is none yet
 pub record Frame (g : Graph) (m : RouteImage) (starts nodes edges ends stack roots head next bases heads parts returns guards landings exits : List ℕ) : Type 0 where
   pub scratch : Scratch m starts nodes edges ends stack roots
   pub links : Roomy g head next
@@ -41,6 +42,8 @@ pub record Frame (g : Graph) (m : RouteImage) (starts nodes edges ends stack roo
   pub guards-fit : 16 * length (m .routes) ≤ length guards
   pub landings-fit : length ends ≤ 3 * length landings
   pub exits-fit : lent.Roomy edges ends exits
+  pub firsts-fit : length (g .blocks) < length exits
+  pub unplaced : exits ≡ replicate (length exits) 0
 
 -- the room that is left where the tries stand
 pub record Room (g : Graph) (m : RouteImage) (edges ends head next bases heads parts returns guards landings exits : List ℕ) (c : Counts) : Type 0 where
@@ -50,6 +53,8 @@ pub record Room (g : Graph) (m : RouteImage) (edges ends head next bases heads p
   pub guards-fit : 16 * length (m .routes) ≤ length guards
   pub landings-fit : c .ends ≤ length landings
   pub exits-fit : lent.Roomy edges ends exits
+  pub firsts-fit : length (g .blocks) < length exits
+  pub unplaced : exits ≡ replicate (length exits) 0
 
 -- instances that stand, and the room that is left then
 pub record Placements (g : Graph) (m : RouteImage) (nodes edges ends roots head next bases heads parts returns guards landings exits : List ℕ) (c : Counts) : Type 0 where

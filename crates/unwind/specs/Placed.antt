@@ -1,8 +1,8 @@
 -- Instances in scratch: for each node of the trie where its blocks stand, and which they are.
 use mathlib.Core.Path.{_≡_}
-use mathlib.Core.Bool.{Bool, true, false, cond}
+use mathlib.Core.Bool.{Bool, cond}
 use mathlib.Core.List.{List}
-use mathlib.Core.Option.{Option}
+use mathlib.Core.Option.{Option, none, some}
 use Prim.Native.Nat.{ℕ, _+_, _*_, _≤_, _<_}
 use lib.Dec.{leb}
 use lib.ListN.{length, getD, set}
@@ -13,6 +13,7 @@ use Rattle.graph.specs.Graph.{Graph}
 use Rattle.graph.specs.Search.{Linked, Roomy}
 use Rattle.graph.specs.WellFormed.{Built}
 use Rattle.addition.specs.Lists.{keep}
+use Rattle.addition.specs.Blocks.{blockOf}
 use Rattle.unwind.specs.Stands.{Stands, Has}
 use Rattle.addition.specs.Part.{funclets, returning}
 use Rattle.unwind.specs.PartSearch.{Barriers, Sources}
@@ -70,11 +71,17 @@ pub record Ready (g : Graph) (m : RouteImage) (n : ℕ) (head next barriers sour
   pub bars : Barriers g (routesOf m) barriers
   pub goes : Sources g sources
 
--- r is the first node with the funclet of node i, of those before it whose stored entry is e; i if there is none
-pub record FirstWith (m : RouteImage) (nodes entries : List ℕ) (e i r : ℕ) : Type 0 where
-  pub most : r ≤ i
-  pub none-before : (j : ℕ) → j < r → getD entries j 0 ≡ e → like m nodes i j ≡ false
-  pub same : r < i → like m nodes i r ≡ true
+-- the slot of a funclet: 0 for the root of a route, and else one more than the block that it begins with
+unfoldable pub slotOf : Graph → Option ℕ → ℕ
+slotOf g none = 0
+slotOf g (some f) = blockOf g f + 1
+
+-- THE FIRSTS of the first n nodes: a slot for each block and one for the roots, with one more than the first node of that slot, and
+-- 0 where there is none
+pub record Firsts (g : Graph) (m : RouteImage) (nodes firsts : List ℕ) (n : ℕ) : Type 0 where
+  pub room : length (g .blocks) < length firsts
+  pub first-is : (s i : ℕ) → s < length firsts → getD firsts s 0 ≡ i + 1 → (i < n) × (slotOf g (funcletAt m nodes i) ≡ s)
+  pub none-before : (i : ℕ) → i < n → (0 < getD firsts (slotOf g (funcletAt m nodes i)) 0) × (getD firsts (slotOf g (funcletAt m nodes i)) 0 ≤ i + 1)
 
 -- node i is stored so
 pub record NodePlaced (i b e : ℕ) (w r bases entries parts returns bases′ entries′ parts′ returns′ : List ℕ) : Type 0 where

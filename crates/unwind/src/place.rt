@@ -5,7 +5,6 @@ use crate::part::part_of;
 use crate::part::returns_of;
 use crate::slots::put_set;
 use crate::slots::set_at;
-use crate::tries::nodes::same_funclet;
 use crate::tries::store::node_at;
 use crate::tries::store::number_at;
 use graph::blockset::rank_in;
@@ -33,12 +32,12 @@ ghost use Rattle.unwind.specs.PartSearch.{PartFrom};
 ghost use Rattle.unwind.specs.Nodes.{funcletIn};
 ghost use Rattle.addition.specs.Instance.{entryBlock};
 ghost use Rattle.addition.specs.Add.{funcletCheck};
-ghost use Rattle.unwind.specs.Placed.{setAt, Slots, funcletAt, Ready, FirstWith, NodePlaced, Placing, PlacedAll};
+ghost use Rattle.unwind.specs.Placed.{setAt, Slots, funcletAt, Ready, Firsts, NodePlaced, Placing, PlacedAll};
 
 // Most blocks of a graph (18).
 const MOST: usize = 1024;
 
-// The instances of the n nodes; 18 where with their copies there are too many blocks.
+// The instances of the n nodes, by the first node of each funclet; 18 where with their copies there are too many blocks.
 pub fn place_nodes(
     g: &Words,
     built: usize,
@@ -54,8 +53,9 @@ pub fn place_nodes(
     entries: &mut [u16],
     parts: &mut [u64],
     returns: &mut [u64],
+    firsts: &mut [u16],
 ) -> Checked
-    requires { ⌜ Ready (heldIn (now g) .graph) (routesIn (now s) y) built (now head) (now next) (now barriers) (now sources) × ((i : ℕ) → i < n → funcletCheck (heldIn (now g) .graph) (funcletAt (routesIn (now s) y) (now nodes) i) ≡ clear) × Slots n (now bases) (now entries) (now parts) (now returns) ⌝ }
+    requires { ⌜ Ready (heldIn (now g) .graph) (routesIn (now s) y) built (now head) (now next) (now barriers) (now sources) × ((i : ℕ) → i < n → funcletCheck (heldIn (now g) .graph) (funcletAt (routesIn (now s) y) (now nodes) i) ≡ clear) × Slots n (now bases) (now entries) (now parts) (now returns) × Firsts (heldIn (now g) .graph) (routesIn (now s) y) (now nodes) (now firsts) 0 × (n ≤ 544) ⌝ }
     ensures { λ r. ⌜ PlacedAll (heldIn (now (g .entry)) .graph) (routesIn (now (s .entry)) y) (now (nodes .entry)) n (now (bases .exit)) (now (entries .exit)) (now (parts .exit)) (now (returns .exit)) (checkOf r) ⌝ }
 {
     let mut base = block_count(g);
@@ -76,6 +76,7 @@ pub fn place_nodes(
             entries,
             parts,
             returns,
+            firsts,
         );
         if MOST < base {
             return Checked::Refused(AddressBuildError::TooManyBlocks);
@@ -101,16 +102,19 @@ fn place_node(
     entries: &mut [u16],
     parts: &mut [u64],
     returns: &mut [u64],
+    firsts: &mut [u16],
 ) -> usize
-    requires { ⌜ Ready (heldIn (now g) .graph) (routesIn (now s) y) built (now head) (now next) (now barriers) (now sources) × (funcletCheck (heldIn (now g) .graph) (funcletAt (routesIn (now s) y) (now nodes) i) ≡ clear) × Slots (i + 1) (now bases) (now entries) (now parts) (now returns) × (base ≤ 1024) ⌝ }
-    ensures { λ r. ⌜ Placing (heldIn (now (g .entry)) .graph) (routesIn (now (s .entry)) y) (now (nodes .entry)) i base r (now (bases .entry)) (now (entries .entry)) (now (parts .entry)) (now (returns .entry)) (now (bases .exit)) (now (entries .exit)) (now (parts .exit)) (now (returns .exit)) ⌝ }
+    requires { ⌜ Ready (heldIn (now g) .graph) (routesIn (now s) y) built (now head) (now next) (now barriers) (now sources) × ((j : ℕ) → j ≤ i → funcletCheck (heldIn (now g) .graph) (funcletAt (routesIn (now s) y) (now nodes) j) ≡ clear) × Slots (i + 1) (now bases) (now entries) (now parts) (now returns) × Firsts (heldIn (now g) .graph) (routesIn (now s) y) (now nodes) (now firsts) i × (i < 544) × (base ≤ 1024) ⌝ }
+    ensures { λ r. ⌜ Placing (heldIn (now (g .entry)) .graph) (routesIn (now (s .entry)) y) (now (nodes .entry)) i base r (now (bases .entry)) (now (entries .entry)) (now (parts .entry)) (now (returns .entry)) (now (bases .exit)) (now (entries .exit)) (now (parts .exit)) (now (returns .exit)) × Firsts (heldIn (now (g .entry)) .graph) (routesIn (now (s .entry)) y) (now (nodes .entry)) (now (firsts .exit)) (i + 1) ⌝ }
 {
     let f = node_at(nodes, i).funclet;
     let entry = entry_of(g, built, s, y, f);
-    let first = first_like(s, y, nodes, entries, entry, i);
-    if first < i {
-        return place_clone(first, i, base, bases, entries, parts, returns);
+    let slot = slot_of(f, entry);
+    let first = number_at(firsts, slot);
+    if first != 0 {
+        return place_clone(first - 1, i, base, bases, entries, parts, returns);
     }
+    firsts[slot] = (i + 1) as u16;
     let part = part_at(g, head, next, barriers, f, entry);
     let ret = returns_of(g, sources, &part);
     store_node(i, 0, entry, &part, &ret, bases, entries, parts, returns);
@@ -137,27 +141,15 @@ fn place_clone(
     size_of(&part)
 }
 
-// The first node with the funclet of node i, of those before it whose entry is block `entry`; i if there is none.
-fn first_like(
-    s: &[u8],
-    y: RouteLayout,
-    nodes: &[u16],
-    entries: &[u16],
-    entry: usize,
-    i: usize,
-) -> usize
-    requires { ⌜ i ≤ length (now entries) ⌝ }
-    ensures { λ r. ⌜ FirstWith (routesIn (now (s .entry)) y) (now (nodes .entry)) (now (entries .entry)) entry i r ⌝ }
+// The slot of the funclet that step f - 1 names, by its entry; 0 at the root of a route.
+fn slot_of(f: usize, entry: usize) -> usize
+    requires { ⌜ entry ≤ 1024 ⌝ }
+    ensures { λ r. ⌜ (f ≡ 0 → r ≡ 0) × ((f ≡ 0 → ⊥) → r ≡ entry + 1) ⌝ }
 {
-    let f = node_at(nodes, i).funclet;
-    for j in 0..i {
-        if entries[j] as usize == entry {
-            if same_funclet(s, y, node_at(nodes, j).funclet, f) {
-                return j;
-            }
-        }
+    if f == 0 {
+        return 0;
     }
-    i
+    entry + 1
 }
 
 // The entry of the funclet that step f - 1 names; 0 at the root of a route.

@@ -15,14 +15,14 @@ use graph::reach::link;
 use graph::store::Words;
 use image::section::RouteLayout;
 ghost use mathlib.Core.Path.{_≡_};
-ghost use Prim.Native.Nat.{ℕ, _<_};
+ghost use Prim.Native.Nat.{ℕ, _≤_, _<_};
 ghost use Rattle.image.specs.Refusal.{clear};
 ghost use Rattle.image.specs.Image.{routesIn};
 ghost use Rattle.graph.specs.Words.{heldIn};
 ghost use Rattle.graph.specs.Error.{checkOf};
 ghost use Rattle.graph.specs.Search.{Linked, Roomy};
 ghost use Rattle.unwind.specs.Routed.{TriesIn};
-ghost use Rattle.unwind.specs.Placed.{Slots, funcletAt, PlacedAll};
+ghost use Rattle.unwind.specs.Placed.{Slots, funcletAt, Firsts, PlacedAll};
 ghost use Rattle.addition.specs.Add.{funcletCheck};
 ghost use Rattle.unwind.specs.Answers.{Adds, Sized, RoutesChecked};
 ghost use Rattle.unwind.specs.Frames.{Frame, Room, Placements};
@@ -120,6 +120,7 @@ fn add_tries(
         heads,
         parts,
         returns,
+        exits,
     ) {
         return AddedRoutes::Refused(e);
     }
@@ -160,8 +161,9 @@ fn place(
     heads: &mut [u16],
     parts: &mut [u64],
     returns: &mut [u64],
+    firsts: &mut [u16],
 ) -> Checked
-    requires { ⌜ RoutesChecked (heldIn (now g)) built (routesIn (now s) y) × Roomy (heldIn (now g) .graph) (now head) (now next) × Linked (heldIn (now g) .graph) (now head) (now next) 0 × ((i : ℕ) → i < n → funcletCheck (heldIn (now g) .graph) (funcletAt (routesIn (now s) y) (now nodes) i) ≡ clear) × Slots n (now bases) (now heads) (now parts) (now returns) ⌝ }
+    requires { ⌜ RoutesChecked (heldIn (now g)) built (routesIn (now s) y) × Roomy (heldIn (now g) .graph) (now head) (now next) × Linked (heldIn (now g) .graph) (now head) (now next) 0 × ((i : ℕ) → i < n → funcletCheck (heldIn (now g) .graph) (funcletAt (routesIn (now s) y) (now nodes) i) ≡ clear) × Slots n (now bases) (now heads) (now parts) (now returns) × Firsts (heldIn (now g) .graph) (routesIn (now s) y) (now nodes) (now firsts) 0 × (n ≤ 544) ⌝ }
     ensures { λ r. ⌜ PlacedAll (heldIn (now (g .entry)) .graph) (routesIn (now (s .entry)) y) (now (nodes .entry)) n (now (bases .exit)) (now (heads .exit)) (now (parts .exit)) (now (returns .exit)) (checkOf r) ⌝ }
 {
     let barriers = funclet_entries(g, built, s, y);
@@ -181,6 +183,7 @@ fn place(
         heads,
         parts,
         returns,
+        firsts,
     )
 }
 

@@ -14,7 +14,7 @@ add-in-requires c κs =
     let start = c .before .before .before .before .before .before .before .before .before .before .before .before .before .before .before .before .before .before in
     let a = start .args in
     let ok = start .pre .accepted in
-    (start .pre, framed (heldIn (a .g .now) .graph) (routesIn (a .s .now) (a .y)) 512 128 32 (ok .steps-most) (ok .paths-most) (ok .routes-most) (omega arith) (omega arith) refl refl refl refl refl refl (record { blocks = block-most (a .g .now); edges = edge-most (a .g .now) }) refl refl refl refl refl refl refl refl)
+    (start .pre, framed (heldIn (a .g .now) .graph) (routesIn (a .s .now) (a .y)) 512 128 32 (ok .steps-most) (ok .paths-most) (ok .routes-most) (omega arith) (omega arith) (omega (arith, block-most (a .g .now))) refl refl refl refl refl refl (record { blocks = block-most (a .g .now); edges = edge-most (a .g .now) }) refl refl refl refl refl refl refl refl refl)
 
 pub add-full-spec : {M : Type 1} → statement M
 add-full-spec =

@@ -18,7 +18,7 @@ add-in-requires c κs =
     let steps = length-records stepFrom (a .s .now) (a .y .steps) in
     let paths = length-records pathFrom (a .s .now) (a .y .paths) in
     let routes = length-records routeFrom (a .s .now) (a .y .routes) in
-    (start .pre .0, framed (heldIn (a .g .now) .graph) (routesIn (a .s .now) (a .y)) 8 8 4 (omega (arith, few .steps-few)) (omega (arith, few .paths-few)) (omega (arith, few .routes-few)) (omega arith) (omega arith) refl refl refl refl refl refl (record { blocks = few .blocks-few; edges = few .edges-few }) refl refl refl refl refl refl refl refl)
+    (start .pre .0, framed (heldIn (a .g .now) .graph) (routesIn (a .s .now) (a .y)) 8 8 4 (omega (arith, few .steps-few)) (omega (arith, few .paths-few)) (omega (arith, few .routes-few)) (omega arith) (omega arith) (omega (arith, few .blocks-few)) refl refl refl refl refl refl (record { blocks = few .blocks-few; edges = few .edges-few }) refl refl refl refl refl refl refl refl refl)
 
 pub add-tiny-spec : {M : Type 1} → statement M
 add-tiny-spec =
