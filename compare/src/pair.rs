@@ -1,6 +1,7 @@
 //! One graph on both sides: the published Rust's, and the proved code's in
 //! words that are lent to it.
 
+use oracle::chart;
 use oracle::image::{read_image, read_routes, Image, Refusal};
 use oracle::session::Session;
 
@@ -21,6 +22,10 @@ pub struct Pair<'l> {
     nothing: Box<[u64; WORDS]>,
     /// None where the words hold no graph.
     session: Option<Session>,
+    /// Whether the words were changed since the last build.
+    changed: bool,
+    /// Whether what the readers say and the lines of the chart are compared too.
+    texts: bool,
 }
 
 /// What the Rust answers, and whether the proved code does the same to the
@@ -37,7 +42,17 @@ impl<'l> Pair<'l> {
         let before = noise::fill(seed + 1);
         words.copy_from_slice(&nothing[..]);
         hops.copy_from_slice(&before[..]);
-        Self { words, hops, wanted: nothing.clone(), before, nothing, session: None }
+        let (wanted, session) = (nothing.clone(), None);
+        Self { words, hops, wanted, before, nothing, session, changed: false, texts: false }
+    }
+
+    /// The same, and compares what the readers say and the lines of the chart too.
+    pub fn with_texts(
+        seed: u64,
+        words: &'l mut [u64; WORDS],
+        hops: &'l mut [u64; HOP_WORDS],
+    ) -> Self {
+        Self { texts: true, ..Self::new(seed, words, hops) }
     }
 
     /// Begins anew, with words that hold no graph.
@@ -45,11 +60,13 @@ impl<'l> Pair<'l> {
         self.words.copy_from_slice(&self.nothing[..]);
         self.wanted.copy_from_slice(&self.nothing[..]);
         self.session = None;
+        self.changed = false;
     }
 
     /// Begins anew with any words, as the change leaves those that are there.
     pub fn change(&mut self, change: impl FnOnce(&mut [u64; WORDS])) {
         change(self.words);
+        self.changed = true;
         self.wanted.copy_from_slice(&self.words[..]);
         self.session = rule::is_graph(self.words).then(|| Session::of(&words::read(self.words)));
     }
@@ -62,9 +79,12 @@ impl<'l> Pair<'l> {
         let answer = theirs.map(|(session, image)| {
             words::write(&mut self.wanted[..], &session.contents());
             self.session = Some(session);
+            self.changed = false;
             image
         });
         let agrees = same(&ours, &answer) && self.words_agree();
+        let agrees =
+            agrees && (!self.texts || same(&proved::read_image(bytes), &read_image(bytes)));
         Compared { answer, agrees }
     }
 
@@ -78,22 +98,28 @@ impl<'l> Pair<'l> {
         let mut agrees = same(&ours, &theirs);
         let answer = theirs.map(|(hops, contents, routes)| {
             words::write_flow(&mut self.wanted[..], &contents);
+            agrees &= !self.texts
+                || proved::hop_lines(self.hops, hops.len(), bytes) == chart::hops(&hops);
             agrees &= hops::read(self.hops, &routes) == Some(hops)
                 && hops::others_kept(self.hops, &self.before[..]);
         });
+        agrees &= !self.texts || same(&proved::read_routes(bytes), &read_routes(bytes));
         agrees &= answer.is_ok() || *self.hops == *self.before;
         agrees &= self.words_agree();
         self.hops.copy_from_slice(&self.before[..]);
         Compared { answer, agrees }
     }
 
-    /// Whether the words are as they should be, and as many blocks reached.
+    /// Whether the words are as they should be, as many blocks reached, and the
+    /// lines the same. A session of changed words has no regions and calls to tell.
     fn words_agree(&self) -> bool {
-        let reached = match &self.session {
-            Some(session) => Ok(session.contents().reached().len()),
-            None => Err(NO_GRAPH),
-        };
-        *self.words == *self.wanted && proved::reached(self.words) == reached
+        let contents = self.session.as_ref().map(Session::contents).ok_or(NO_GRAPH);
+        let contents = contents.as_ref().map_err(|&refusal| refusal);
+        *self.words == *self.wanted
+            && proved::reached(self.words) == contents.map(|contents| contents.reached().len())
+            && (!self.texts
+                || self.changed
+                || proved::lines(self.words) == contents.map(chart::graph))
     }
 }
 

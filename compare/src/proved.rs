@@ -13,9 +13,10 @@ struct Answer {
     second: u64,
 }
 
-/// How many blocks are reached; number 21 where the words hold no graph.
+/// How many blocks are reached, or lines there are; number 21 where the words
+/// hold no graph.
 #[repr(C)]
-struct ReachedCount {
+struct Counted {
     number: u64,
     count: u64,
 }
@@ -28,14 +29,40 @@ extern "C" {
         length: usize,
         hops: *mut [u64; HOP_WORDS],
     ) -> Answer;
-    fn foldzine_reached(words: *const [u64; WORDS]) -> ReachedCount;
+    fn foldzine_reached(words: *const [u64; WORDS]) -> Counted;
+    fn foldzine_line_count(words: *const [u64; WORDS]) -> Counted;
+    fn foldzine_line(words: *const [u64; WORDS], line: usize, out: *mut [u8; LINE]) -> usize;
+    fn foldzine_hop_lines(hops: *const [u64; HOP_WORDS], hop: usize) -> usize;
+    fn foldzine_hop_line(
+        hops: *const [u64; HOP_WORDS],
+        bytes: *const u8,
+        length: usize,
+        hop: usize,
+        list: usize,
+        out: *mut [u8; HOP_LINE],
+    ) -> usize;
+    fn foldzine_read_image(bytes: *const u8, length: usize, told: *mut [u64; 10]);
+    fn foldzine_read_routes(bytes: *const u8, length: usize, told: *mut [u64; 10]);
 }
+
+/// Bytes of the longest line of a graph, and of a hop.
+const LINE: usize = 256;
+const HOP_LINE: usize = 10_816;
 
 impl Answer {
     fn result(self) -> Result<(), Refusal> {
         match self.number {
             0 => Ok(()),
             number => Err(Refusal::new(number as u8, self.first, self.second)),
+        }
+    }
+}
+
+impl Counted {
+    fn result(self) -> Result<usize, Refusal> {
+        match self.number {
+            0 => Ok(self.count as usize),
+            number => Err(Refusal::new(number as u8, 0, 0)),
         }
     }
 }
@@ -60,9 +87,47 @@ pub fn add_routes(
 /// How many blocks are reached in the graph that words hold.
 pub fn reached(words: &[u64; WORDS]) -> Result<usize, Refusal> {
     // SAFETY: an array passes as a pointer, and is only read.
-    let answer = unsafe { foldzine_reached(words) };
-    match answer.number {
-        0 => Ok(answer.count as usize),
-        number => Err(Refusal::new(number as u8, 0, 0)),
+    unsafe { foldzine_reached(words) }.result()
+}
+
+/// The lines of the graph that words hold, up to the hops.
+pub fn lines(words: &[u64; WORDS]) -> Result<String, Refusal> {
+    // SAFETY: the same.
+    let count = unsafe { foldzine_line_count(words) }.result()?;
+    let (mut out, mut text) = ([0; LINE], String::new());
+    for line in 0..count {
+        // SAFETY: the same; a line is written to `out`.
+        let length = unsafe { foldzine_line(words, line, &mut out) };
+        text.extend(out[..length].iter().map(|&byte| char::from(byte)));
     }
+    Ok(text)
+}
+
+/// The lines of hops, of which the first `count` are told.
+pub fn hop_lines(hops: &[u64; HOP_WORDS], count: usize, bytes: &[u8]) -> String {
+    let (mut out, mut text) = ([0; HOP_LINE], String::new());
+    for hop in 0..count {
+        // SAFETY: arrays pass as pointers, a slice as a pointer and a length; all but `out` are only read.
+        for list in 0..unsafe { foldzine_hop_lines(hops, hop) } {
+            let (at, length) = (bytes.as_ptr(), bytes.len());
+            let length = unsafe { foldzine_hop_line(hops, at, length, hop, list, &mut out) };
+            text.extend(out[..length].iter().map(|&byte| char::from(byte)));
+        }
+    }
+    text
+}
+
+/// What the readers alone say of an image, and of a route image.
+pub fn read_image(bytes: &[u8]) -> Result<(), Refusal> {
+    told(|told| unsafe { foldzine_read_image(bytes.as_ptr(), bytes.len(), told) })
+}
+
+pub fn read_routes(bytes: &[u8]) -> Result<(), Refusal> {
+    told(|told| unsafe { foldzine_read_routes(bytes.as_ptr(), bytes.len(), told) })
+}
+
+fn told(read: impl FnOnce(&mut [u64; 10])) -> Result<(), Refusal> {
+    let mut told = [0; 10];
+    read(&mut told);
+    Answer { number: told[0], first: told[1], second: 0 }.result()
 }

@@ -57,7 +57,7 @@ pub unsafe extern "C" fn compare_new(
     words: *mut [u64; WORDS],
     hops: *mut [u64; HOP_WORDS],
 ) -> *mut Pair<'static> {
-    Box::into_raw(Box::new(Pair::new(1, &mut *words, &mut *hops)))
+    Box::into_raw(Box::new(Pair::with_texts(1, &mut *words, &mut *hops)))
 }
 
 /// Whether both sides do the same with an input.

@@ -1,6 +1,7 @@
 //! The lines of document 01's program.
 
 use std::fmt::{Display, Write};
+use std::mem::take;
 
 use crate::answer::{Answer, Outcome};
 use crate::contents::{Contents, Hop};
@@ -29,8 +30,15 @@ fn refusal_line(out: &mut String, refusal: &Refusal) {
 }
 
 fn answer_lines(out: &mut String, answer: &Answer) {
-    let contents = &answer.contents;
-    graph_lines(out, contents);
+    out.push_str(&graph(&answer.contents));
+    out.push_str(&hops(&answer.hops));
+    line!(out, "reached {}", answer.contents.reached().len());
+}
+
+/// The lines of a graph, up to the hops.
+pub fn graph(contents: &Contents) -> String {
+    let out = &mut String::new();
+    block_lines(out, contents);
     region_lines(out, contents);
     for record in &contents.unresolved {
         let (target, case) = (or_dash(record.target), or_dash(record.case));
@@ -39,11 +47,17 @@ fn answer_lines(out: &mut String, answer: &Answer) {
     for call in &contents.calls {
         line!(out, "call {} {}", call.source, or_dash(call.target));
     }
-    answer.hops.iter().for_each(|hop| hop_lines(out, hop));
-    line!(out, "reached {}", contents.reached().len());
+    take(out)
 }
 
-fn graph_lines(out: &mut String, contents: &Contents) {
+/// The lines of hops, one for each call list. The hops and their lists come sorted.
+pub fn hops(hops: &[Hop]) -> String {
+    let out = &mut String::new();
+    hops.iter().for_each(|hop| hop_lines(out, hop));
+    take(out)
+}
+
+fn block_lines(out: &mut String, contents: &Contents) {
     line!(
         out,
         "built {} {} {} {} {}",
@@ -89,7 +103,6 @@ fn region_lines(out: &mut String, contents: &Contents) {
     }
 }
 
-/// A line for each call list. The hops and their lists come sorted.
 fn hop_lines(out: &mut String, hop: &Hop) {
     let end = hop.end.map_or("leave".to_string(), |block| block.to_string());
     for list in &hop.lists {
