@@ -1,13 +1,15 @@
 -- What tells early that runs of steps are the same, or that nodes are not.
 --     same-self             a run is the same as itself
 --     counts-differ         nodes with other counts of edges or ends are not equal
+--     values-differ         nor are nodes whose funclets have other numbers
 -- Assumes nothing.
 use mathlib.Core.Path.{_≡_, refl, sym, ap, _∙_}
 use mathlib.Core.Bool.{Bool, true, false, _&&_, and-false, false≢true}
 use mathlib.Core.List.{List, map}
+use mathlib.Core.Option.{Option, none, some}
 use Prim.Native.Nat.{ℕ, zero, suc, compare}
 use native.Mathlib.Decide.{ℕ-discrete}
-use borrow.Author.Tests.{eq-eqb}
+use borrow.Author.Tests.{eq-eqb, ne-eqb}
 use lib.Dec.{eqb}
 use lib.ListN.{length, length-map}
 use Rattle.image.specs.Image.{RouteImage}
@@ -16,7 +18,7 @@ use Rattle.unwind.specs.declared.tries.store.NodeRecord.{NodeRecord}
 use Rattle.unwind.specs.declared.tries.store.Branch.{Branch}
 use Rattle.addition.specs.Order.{compareTagged, compareEnds, same}
 use Rattle.addition.specs.Trie.{sameFunclet, sameNode}
-use Rattle.unwind.specs.Nodes.{stepIn, branches, funcletIn, edgeOf, endAt, nodeIn}
+use Rattle.unwind.specs.Nodes.{stepIn, branches, funcletIn, valueOf, edgeOf, endAt, nodeIn}
 use Rattle.unwind.specs.Interning.{sameStep, sameSteps}
 use Rattle.addition.proofs.Lists.{and-true}
 use Rattle.unwind.proofs.TrieRuns.{length-branches}
@@ -33,7 +35,14 @@ unfolding sameSteps
 same-self m a zero = refl
 same-self m a (suc n) = and-true (self-step (stepOf (stepIn m a))) (same-self m (suc a) n)
 
--- ---- nodes by their counts
+-- ---- nodes by their counts, and by their funclets
+
+other-funclet : (f h : Option ℕ) → (valueOf h ≡ valueOf f → ⊥) → sameFunclet f h ≡ false
+unfolding sameFunclet
+other-funclet none none ne = absurd (ne refl)
+other-funclet none (some b) ne = refl
+other-funclet (some a) none ne = refl
+other-funclet (some a) (some b) ne = ne-eqb a b (λ e. ne (sym e))
 
 size : {A : Type 0} (f : Branch → A) (l : List ℕ) (a n : ℕ) → length (map f (branches l a n)) ≡ n
 size f l a n = length-map (branches l a n) f ∙ length-branches l a n
@@ -67,3 +76,7 @@ module _ (m : RouteImage) (edges ends : List ℕ) (x z : NodeRecord) where
       go (no ne) d = edges-differ ne
       go (yes p) (no ne) = ends-differ ne
       go (yes p) (yes q) = absurd (false≢true (sym e ∙ and-true (eq-eqb (z .edges) (x .edges) p) (eq-eqb (z .ends) (x .ends) q)))
+
+  pub values-differ : (valueOf (funcletIn m (z .funclet)) ≡ valueOf (funcletIn m (x .funclet)) → ⊥) → sameNode (nodeIn m edges ends x) (nodeIn m edges ends z) ≡ false
+  unfolding sameNode nodeIn
+  values-differ ne = ap (λ (b : Bool). (b && edges-same) && ends-same) (other-funclet (funcletIn m (x .funclet)) (funcletIn m (z .funclet)) ne)

@@ -1,6 +1,7 @@
 -- Nodes by what they are, and a node stored unless it stands already.
 --     Alike, same-on, same-other, same-end, same-size     two lists compared from place i on
 --     funclet-root, funclet-other, funclet-both           two funclets compared
+--     value-root, value-other                             the number that names one
 --     place-first, place-none, place-lt                   the first of a list that equals a node, or none; it stands there
 --     length-nodes, nodes-more, node-of, nodes-same, nodes-still     the nodes in scratch; after stores elsewhere
 --     kept-present, kept-new                              a node stands already, or is stored
@@ -23,7 +24,7 @@ use Rattle.unwind.specs.declared.tries.store.NodeRecord.{NodeRecord}
 use Rattle.unwind.specs.declared.tries.store.Counts.{Counts}
 use Rattle.addition.specs.Order.{same}
 use Rattle.addition.specs.Trie.{Node, sameFunclet, sameNode, placeOf, created, create}
-use Rattle.unwind.specs.Nodes.{stepIn, funcletIn, recordIn, branchIn, edgeOf, endAt, nodeIn, nodesIn, Stored, NodePut}
+use Rattle.unwind.specs.Nodes.{stepIn, funcletIn, valueOf, recordIn, branchIn, edgeOf, endAt, nodeIn, nodesIn, Stored, NodePut}
 use Rattle.unwind.specs.Kept.{Behind, Kept}
 use Rattle.unwind.proofs.TrieRuns.{branches-same}
 
@@ -78,6 +79,16 @@ module _ (m : RouteImage) where
       let e : suc a - 1 ≡ a = omega arith in
       let f : suc b - 1 ≡ b = omega arith in
       rw (e, f)
+
+  pub value-root : (a : ℕ) → a ≡ 0 → 0 ≡ valueOf (funcletIn m a)
+  unfolding funcletIn
+  value-root zero e = refl
+  value-root (suc a) e = absurd (omega arith)
+
+  pub value-other : (a : ℕ) → (a ≡ 0 → ⊥) → stepIn m (a - 1) .value ≡ valueOf (funcletIn m a)
+  unfolding funcletIn
+  value-other zero ne = absurd (ne refl)
+  value-other (suc a) ne = let e : suc a - 1 ≡ a = omega arith in rw e
 
 -- ---- the first of a list that equals a node
 

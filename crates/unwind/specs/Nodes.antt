@@ -36,6 +36,11 @@ branchIn l k = record { step = getD l (3 * k) 0; calls = getD l (3 * k + 1) 0; w
 unfoldable pub branches : List ℕ → ℕ → ℕ → List Branch
 branches l a n = table (λ k. branchIn l (a + k)) n
 
+-- the number that names a funclet, or 0 if there is none
+abbrev pub valueOf : Option ℕ → ℕ
+valueOf none = 0
+valueOf (some v) = v
+
 -- ---- what they stand for, over the routes that were read
 
 module _ (m : RouteImage) where

@@ -20,7 +20,7 @@ ghost use Rattle.image.specs.Image.{routesIn};
 ghost use Rattle.image.specs.Accepted.{AcceptedRoutes};
 ghost use Rattle.addition.specs.Order.{same};
 ghost use Rattle.addition.specs.Trie.{sameFunclet, sameNode, placeOf};
-ghost use Rattle.unwind.specs.Nodes.{recordIn, branches, funcletIn, nodeIn, nodesIn, Stored, NodeSmall};
+ghost use Rattle.unwind.specs.Nodes.{recordIn, branches, funcletIn, valueOf, nodeIn, nodesIn, Stored, NodeSmall};
 ghost use Rattle.unwind.specs.Interning.{ordered, meaning};
 ghost use Rattle.unwind.specs.Kept.{placeIn, Behind, Kept};
 ghost use Rattle.unwind.specs.Lower.{Lower, BehindChildren};
@@ -81,8 +81,12 @@ fn find_node(
     ensures { λ r. ⌜ placeIn r ≡ placeOf (nodeIn (routesIn (now (s .entry)) y) (now (edges .entry)) (now (ends .entry)) x) (nodesIn (routesIn (now (s .entry)) y) (now (nodes .entry)) (now (edges .entry)) (now (ends .entry)) n) ⌝ }
 {
     let low = behind_children(edges, x.first_edge, x.edges);
+    if n <= low {
+        return Place::Nothing;
+    }
+    let value = funclet_value(s, y, x.funclet);
     for i in low..n {
-        if stands_at(s, y, nodes, edges, ends, i, x) {
+        if stands_at(s, y, nodes, edges, ends, i, x, value) {
             return Place::At(i);
         }
     }
@@ -104,7 +108,7 @@ fn behind_children(edges: &[u16], first: usize, n: usize) -> usize
     low
 }
 
-// Whether node i equals x. Most that do not are told by their counts.
+// Whether node i equals x, whose funclet has this value. Most that do not are told by their counts, or by their funclet.
 fn stands_at(
     s: &[u8],
     y: RouteLayout,
@@ -113,12 +117,15 @@ fn stands_at(
     ends: &[u16],
     i: usize,
     x: NodeRecord,
+    value: u64,
 ) -> bool
-    requires { ⌜ AcceptedRoutes (routesIn (now s) y) × NodeSmall x × (6 * i + 6 ≤ length (now nodes)) ⌝ }
+    requires { ⌜ AcceptedRoutes (routesIn (now s) y) × NodeSmall x × (6 * i + 6 ≤ length (now nodes)) × (value ≡ valueOf (funcletIn (routesIn (now s) y) (x .funclet))) ⌝ }
     ensures { λ r. ⌜ r ≡ sameNode (nodeIn (routesIn (now (s .entry)) y) (now (edges .entry)) (now (ends .entry)) x) (nodeIn (routesIn (now (s .entry)) y) (now (edges .entry)) (now (ends .entry)) (recordIn (now (nodes .entry)) i)) ⌝ }
 {
     if counts_match(nodes, i, x.edges, x.ends) {
-        return same_node(s, y, edges, ends, x, node_at(nodes, i));
+        if funclet_value(s, y, number_at(nodes, 6 * i)) == value {
+            return same_node(s, y, edges, ends, x, node_at(nodes, i));
+        }
     }
     false
 }
@@ -133,6 +140,16 @@ fn counts_match(nodes: &[u16], i: usize, edges: usize, ends: usize) -> bool
         return number_at(nodes, at + 5) == ends;
     }
     false
+}
+
+// The number that names a funclet, or 0 if there is none.
+fn funclet_value(s: &[u8], y: RouteLayout, a: usize) -> u64
+    ensures { λ r. ⌜ r ≡ valueOf (funcletIn (routesIn (now (s .entry)) y) a) ⌝ }
+{
+    if a == 0 {
+        return 0;
+    }
+    step_at(s, y.steps, a - 1).value
 }
 
 // Equal nodes: all but the route.

@@ -1,20 +1,26 @@
 -- `stands_at` meets its contract. Assumes nothing.
-use mathlib.Core.Path.{sym, _∙_}
+use mathlib.Core.Path.{sym, ap, _∙_}
+use Prim.Native.Nat.{ℕ}
 use Rattle.image.specs.Image.{routesIn}
-use Rattle.unwind.specs.Nodes.{recordIn}
-use Rattle.unwind.proofs.TrieEarly.{counts-differ}
+use Rattle.unwind.specs.Nodes.{recordIn, funcletIn, valueOf}
+use Rattle.unwind.proofs.TrieEarly.{counts-differ, values-differ}
 use borrow.Author.Needs.{needs}
 use Rattle.unwind.proofs.tries.nodes.stands_at.Statement.{statement}
 use Rattle.unwind.proofs.tries.nodes.stands_at.Tie as tie
-
-same-node-requires : tie.Need-same-node-requires
-same-node-requires c κs = (c .before .before .before .before .before .before .before .pre .0, c .before .before .before .before .before .before .before .pre .1, c .node-at .ensures .small)
 
 returns : tie.Need-returns
 returns c = rw (← c .before .node-at .ensures .is) (c .same-node .ensures)
 
 returns-2 : tie.Need-returns-2
+unfolding recordIn
 returns-2 c =
+    let a = c .before .before .before .before .before .before .before .before .before .args in
+    let m = routesIn (a .s .now) (a .y) in
+    sym (values-differ m (a .edges .now) (a .ends .now) (a .x) (recordIn (a .nodes .now) (a .i))
+    (λ e. c .if2 .left (c .before .funclet-value .ensures ∙ ap (λ (f : ℕ). valueOf (funcletIn m f)) (c .before .before .number-at .ensures .0) ∙ e ∙ sym (c .before .before .before .before .before .before .before .before .before .pre .3))))
+
+returns-3 : tie.Need-returns-3
+returns-3 c =
     let a = c .before .before .before .before .before .before .args in
     sym (counts-differ (routesIn (a .s .now) (a .y)) (a .edges .now) (a .ends .now) (a .x) (recordIn (a .nodes .now) (a .i)) (sym (c .before .counts-match .ensures) ∙ c .if1 .left))
 
@@ -23,7 +29,11 @@ stands-at-spec =
     tie.close
     (tie.spec
     (λ c κs. search needs)
+    (λ c. search needs)
     (λ c κs. search needs)
-    same-node-requires
+    (λ c κs. search needs)
+    (λ c κs. search needs)
+    (λ c κs. search needs)
     returns
-    returns-2)
+    returns-2
+    returns-3)
