@@ -45,7 +45,7 @@ use Rattle.unwind.specs.Nodes.{recordIn}
 use Rattle.addition.specs.Ways.{Hop}
 use Rattle.unwind.specs.Sources.{Exit, compareExits, hopsOn}
 use Rattle.unwind.specs.Placed.{setAt}
-use Rattle.unwind.specs.Gather.{inSet, recordExits, routeRecords, nodeRecords}
+use Rattle.unwind.specs.Gather.{inSet, recordExits, routeRecords, returnRecords, nodeRecords}
 use Rattle.unwind.specs.Lent.{Sides, blockRecords, blockHops}
 use Rattle.unwind.specs.Sizes.{HopsSize, sizesBoth}
 use Rattle.unwind.specs.Copies.{copyNumber, hopsFrom, hopsIf, copyHops, SumSize}
@@ -57,7 +57,7 @@ use Rattle.addition.proofs.Instance.{blocks-lt}
 use Rattle.unwind.proofs.SizeLaws.{Summed, summed-none, summed-more}
 use Rattle.unwind.proofs.SlotLaws.{set-run}
 use Rattle.unwind.proofs.PlaceLaws.{rank-most}
-use Rattle.unwind.proofs.PoolLaws.{node-copy}
+use Rattle.unwind.proofs.PoolLaws.{node-own, node-copy}
 use Rattle.unwind.proofs.HeldLaws.{held-up, step-is, fit-step}
 
 pub flat-quiet : {A : Type 0} (f : ℕ → List A) (k n : ℕ) → k ≤ n → ((c : ℕ) → k ≤ c → c < n → f c ≡ []) → flat f n ≡ flat f k
@@ -339,17 +339,21 @@ module _ (m : RouteImage) (nodes edges ends heads landings roots guards bases re
 
 pub originals-none : (bases l : List ℕ) → Originals bases l 0 0
 unfolding flat
-originals-none bases l = record { few = omega arith; within = λ k h. absurd (not-suc-le-zero h); all = λ f quiet. refl }
+originals-none bases l = record { few = omega arith; within = λ k h. absurd (not-suc-le-zero h); original = λ k h. absurd (not-suc-le-zero h); all = λ f quiet. refl }
 
 module _ (bases l : List ℕ) (n c : ℕ) (p : Originals bases l n c) where
-  pub originals-more : c < length l → Originals bases (set l c n) (n + 1) (c + 1)
-  originals-more fit =
+  pub originals-more : c < length l → getD bases n 0 ≡ 0 → Originals bases (set l c n) (n + 1) (c + 1)
+  originals-more fit own =
       let here : getD (set l c n) c 0 ≡ n = getD-set-same l c n 0 fit in
       record {
         few = omega (arith, p .few);
         within = λ k h. elim (ℕ-discrete c k) [
           | yes e ↦ (let at : getD (set l c n) k 0 ≡ n = ap (λ (j : ℕ). getD (set l c n) j 0) (sym e) ∙ here in omega (arith, at))
           | no ne ↦ omega (arith, getD-set-other l c k n 0 (λ e. ne (sym e)), p .within k (omega arith))
+        ];
+        original = λ k h. elim (ℕ-discrete k c) [
+          | yes e ↦ rw (e, here) own
+          | no ne ↦ rw (getD-set-other l c k n 0 ne) (p .original k (omega arith))
         ];
         all = λ f quiet.
             flat-more f n
@@ -362,6 +366,7 @@ module _ (bases l : List ℕ) (n c : ℕ) (p : Originals bases l n c) where
       record {
         few = omega (arith, p .few);
         within = λ k h. omega (arith, p .within k h);
+        original = p .original;
         all = λ f quiet.
             flat-more f n
             ∙ ap (λ (t : List Exit). flat f n ++ t) (quiet n (omega arith) copies)
@@ -369,9 +374,10 @@ module _ (bases l : List ℕ) (n c : ℕ) (p : Originals bases l n c) where
             ∙ p .all f (λ i h. quiet i (omega arith));
       }
 
-pub originals-records : (m : RouteImage) (b : ℕ) (nodes edges ends heads landings bases returns originals : List ℕ) (n c : ℕ) → Originals bases originals n c → flat (λ k. nodeRecords m b edges ends heads landings nodes bases returns (getD originals k 0)) c ≡ flat (nodeRecords m b edges ends heads landings nodes bases returns) n
+pub originals-records : (m : RouteImage) (b : ℕ) (nodes edges ends heads landings bases returns originals : List ℕ) (n c : ℕ) → Originals bases originals n c → flat (λ k. returnRecords m b edges ends heads landings nodes returns (getD originals k 0)) c ≡ flat (nodeRecords m b edges ends heads landings nodes bases returns) n
 originals-records m b nodes edges ends heads landings bases returns originals n c p =
-    sym (p .all (nodeRecords m b edges ends heads landings nodes bases returns) (λ i h copies. sym (node-copy m b edges ends heads landings nodes bases returns i copies)))
+    flat-same _ _ c (λ k h. node-own m b edges ends heads landings nodes bases returns (getD originals k 0) (p .original k h))
+    ∙ sym (p .all (nodeRecords m b edges ends heads landings nodes bases returns) (λ i h copies. sym (node-copy m b edges ends heads landings nodes bases returns i copies)))
 
 -- ---- nodes that are placed
 

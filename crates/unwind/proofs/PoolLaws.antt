@@ -4,7 +4,8 @@
 --     node-room                    room for a node's
 --     adds-none, adds-some, adds-record, adds-next, adds-both     nothing, a node's, one more, and more behind others
 --     set-in, set-past, set-outside    a set among many
---     route-in, route-out, node-in, node-copy, node-out    whose are gathered
+--     route-in, route-out, node-in, node-out       whose are gathered
+--     node-own, node-copy          of a node with the original blocks, and of one with copies
 use mathlib.Core.Path.{_≡_, sym, _∙_, ap, subst}
 use mathlib.Core.Logic.{_⊎_, inl, inr}
 use mathlib.Core.Bool.{true, false}
@@ -25,7 +26,7 @@ use Rattle.addition.specs.Order.{put}
 use Rattle.unwind.specs.Nodes.{branchIn, recordIn}
 use Rattle.unwind.specs.Sources.{Exit, compareExits}
 use Rattle.unwind.specs.Entries.{exitIn, exitsIn}
-use Rattle.unwind.specs.Gather.{putAll, exitTo, edgeExits, endNumber, endExits, recordExits, Gathers, inSet, NodeFits, routeRecords, nodeRecords, pool, Pooled, Adds}
+use Rattle.unwind.specs.Gather.{putAll, exitTo, edgeExits, endNumber, endExits, recordExits, Gathers, inSet, NodeFits, routeRecords, returnRecords, nodeRecords, pool, Pooled, Adds}
 use Rattle.addition.specs.Walk.{_∈_}
 use Rattle.addition.proofs.Order.{put-mem}
 use Rattle.unwind.proofs.Rising.{rising-length, total-exits}
@@ -138,18 +139,23 @@ module _ (m : RouteImage) (b : ℕ) (edges ends heads landings : List ℕ) where
     unfolding routeRecords
     route-out e = rw (sym e)
 
+  module _ (nodes returns : List ℕ) (i : ℕ) where
+    pub node-in : true ≡ inSet returns i b → recordExits m b edges ends heads landings (recordIn nodes i) ≡ returnRecords m b edges ends heads landings nodes returns i
+    unfolding returnRecords
+    node-in e = rw (sym e)
+
+    pub node-out : false ≡ inSet returns i b → [] ≡ returnRecords m b edges ends heads landings nodes returns i
+    unfolding returnRecords
+    node-out e = rw (sym e)
+
   module _ (nodes bases returns : List ℕ) (i : ℕ) where
-    pub node-in : getD bases i 0 ≡ 0 → true ≡ inSet returns i b → recordExits m b edges ends heads landings (recordIn nodes i) ≡ nodeRecords m b edges ends heads landings nodes bases returns i
-    unfolding nodeRecords
-    node-in z e = rw (eq-eqb (getD bases i 0) 0 z, sym e)
+    pub node-own : getD bases i 0 ≡ 0 → returnRecords m b edges ends heads landings nodes returns i ≡ nodeRecords m b edges ends heads landings nodes bases returns i
+    unfolding returnRecords nodeRecords
+    node-own z = rw (eq-eqb (getD bases i 0) 0 z)
 
     pub node-copy : (getD bases i 0 ≡ 0 → ⊥) → [] ≡ nodeRecords m b edges ends heads landings nodes bases returns i
     unfolding nodeRecords
     node-copy z = rw (ne-eqb (getD bases i 0) 0 z)
-
-    pub node-out : getD bases i 0 ≡ 0 → false ≡ inSet returns i b → [] ≡ nodeRecords m b edges ends heads landings nodes bases returns i
-    unfolding nodeRecords
-    node-out z e = rw (eq-eqb (getD bases i 0) 0 z, sym e)
 
 -- ---- sets
 

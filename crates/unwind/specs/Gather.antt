@@ -72,9 +72,13 @@ pub record AllFit (nodes edges ends : List ℕ) (f : ℕ → ℕ) (n : ℕ) : Ty
   pub fits : (i : ℕ) → i < n → NodeFits edges ends (recordIn nodes (f i))
 
 module _ (m : RouteImage) (b : ℕ) (edges ends heads landings : List ℕ) where
-  -- of route r, if its set of guarded blocks has b; of node i, if it has the original blocks and returns from b
+  -- of route r, if its set of guarded blocks has b; of node i, if it returns from b; of node i, if it has the original
+  -- blocks besides
   unfoldable pub routeRecords : List ℕ → List ℕ → List ℕ → ℕ → List Exit
   routeRecords nodes roots guards r = cond (inSet guards r b) (recordExits m b edges ends heads landings (recordIn nodes (getD roots r 0))) []
+
+  unfoldable pub returnRecords : List ℕ → List ℕ → ℕ → List Exit
+  returnRecords nodes returns i = cond (inSet returns i b) (recordExits m b edges ends heads landings (recordIn nodes i)) []
 
   unfoldable pub nodeRecords : List ℕ → List ℕ → List ℕ → ℕ → List Exit
   nodeRecords nodes bases returns i =

@@ -48,4 +48,5 @@ pub record BlockSets (guards returns : List ℕ) (blocks routes n : ℕ) : Type 
 pub record Originals (bases originals : List ℕ) (n count : ℕ) : Type 0 where
   pub few : count ≤ n
   pub within : (k : ℕ) → k < count → getD originals k 0 < n
+  pub original : (k : ℕ) → k < count → getD bases (getD originals k 0) 0 ≡ 0
   pub all : (f : ℕ → List Exit) → ((i : ℕ) → i < n → (getD bases i 0 ≡ 0 → ⊥) → f i ≡ []) → flat f n ≡ flat (λ k. f (getD originals k 0)) count

@@ -10,7 +10,7 @@ ghost use Rattle.image.specs.Image.{routesIn};
 ghost use Rattle.image.specs.Accepted.{AcceptedRoutes};
 ghost use Rattle.graph.specs.Fold.{flat};
 ghost use Rattle.unwind.specs.Nodes.{recordIn};
-ghost use Rattle.unwind.specs.Gather.{inSet, NodeFits, AllFit, routeRecords, nodeRecords, Pooled, Adds};
+ghost use Rattle.unwind.specs.Gather.{inSet, NodeFits, AllFit, routeRecords, returnRecords, Pooled, Adds};
 ghost use Rattle.unwind.specs.Routed.{TriesIn};
 ghost use Rattle.unwind.specs.Lent.{blockRecords, BlockHeld};
 ghost use Rattle.unwind.specs.Members.{Originals};
@@ -61,7 +61,6 @@ pub fn gather_block(
         ends,
         heads,
         landings,
-        bases,
         returns,
         originals,
         listed,
@@ -146,7 +145,6 @@ fn gather_nodes(
     ends: &[u16],
     heads: &[u16],
     landings: &[u16],
-    bases: &[u16],
     returns: &[u64],
     originals: &[u16],
     count: usize,
@@ -155,12 +153,12 @@ fn gather_nodes(
     held: usize,
 ) -> usize
     requires { ⌜ Pooled (routesIn (now s) y) b (now edges) (now ends) (now heads) (now landings) (now exits) held × (b < 65536) × AllFit (now nodes) (now edges) (now ends) (λ k. getD (now originals) k 0) count ⌝ }
-    ensures { λ r. ⌜ Adds (routesIn (now (s .entry)) y) b (now (edges .entry)) (now (ends .entry)) (now (heads .entry)) (now (landings .entry)) (now (exits .entry)) held (flat (λ k. nodeRecords (routesIn (now (s .entry)) y) b (now (edges .entry)) (now (ends .entry)) (now (heads .entry)) (now (landings .entry)) (now (nodes .entry)) (now (bases .entry)) (now (returns .entry)) (getD (now (originals .entry)) k 0)) count) (now (exits .exit)) r ⌝ }
+    ensures { λ r. ⌜ Adds (routesIn (now (s .entry)) y) b (now (edges .entry)) (now (ends .entry)) (now (heads .entry)) (now (landings .entry)) (now (exits .entry)) held (flat (λ k. returnRecords (routesIn (now (s .entry)) y) b (now (edges .entry)) (now (ends .entry)) (now (heads .entry)) (now (landings .entry)) (now (nodes .entry)) (now (returns .entry)) (getD (now (originals .entry)) k 0)) count) (now (exits .exit)) r ⌝ }
 {
     let mut n = held;
     for k in 0..count {
         let i = number_at(originals, k);
-        n = gather_original(
+        n = gather_returned(
             s,
             y,
             nodes,
@@ -168,7 +166,6 @@ fn gather_nodes(
             ends,
             heads,
             landings,
-            bases,
             returns,
             i,
             b,
@@ -179,8 +176,8 @@ fn gather_nodes(
     n
 }
 
-// Those of node i, if it has the original blocks and returns from b.
-fn gather_original(
+// Those of node i, if it returns from b.
+fn gather_returned(
     s: &[u8],
     y: RouteLayout,
     nodes: &[u16],
@@ -188,7 +185,6 @@ fn gather_original(
     ends: &[u16],
     heads: &[u16],
     landings: &[u16],
-    bases: &[u16],
     returns: &[u64],
     i: usize,
     b: usize,
@@ -196,11 +192,8 @@ fn gather_original(
     held: usize,
 ) -> usize
     requires { ⌜ Pooled (routesIn (now s) y) b (now edges) (now ends) (now heads) (now landings) (now exits) held × (b < 65536) × (i < 65536) × NodeFits (now edges) (now ends) (recordIn (now nodes) i) ⌝ }
-    ensures { λ r. ⌜ Adds (routesIn (now (s .entry)) y) b (now (edges .entry)) (now (ends .entry)) (now (heads .entry)) (now (landings .entry)) (now (exits .entry)) held (nodeRecords (routesIn (now (s .entry)) y) b (now (edges .entry)) (now (ends .entry)) (now (heads .entry)) (now (landings .entry)) (now (nodes .entry)) (now (bases .entry)) (now (returns .entry)) i) (now (exits .exit)) r ⌝ }
+    ensures { λ r. ⌜ Adds (routesIn (now (s .entry)) y) b (now (edges .entry)) (now (ends .entry)) (now (heads .entry)) (now (landings .entry)) (now (exits .entry)) held (returnRecords (routesIn (now (s .entry)) y) b (now (edges .entry)) (now (ends .entry)) (now (heads .entry)) (now (landings .entry)) (now (nodes .entry)) (now (returns .entry)) i) (now (exits .exit)) r ⌝ }
 {
-    if number_at(bases, i) != 0 {
-        return held;
-    }
     if in_set(returns, i, b) {
         return gather_node(s, y, nodes, edges, ends, heads, landings, i, b, exits, held);
     }

@@ -7,29 +7,29 @@ use Rattle.image.specs.Image.{routesIn}
 use Rattle.graph.specs.Fold.{flat}
 use Rattle.unwind.specs.declared.tries.store.NodeRecord.{NodeRecord}
 use Rattle.unwind.specs.Nodes.{recordIn}
-use Rattle.unwind.specs.Gather.{NodeFits, nodeRecords, Adds}
+use Rattle.unwind.specs.Gather.{NodeFits, returnRecords, Adds}
 use Rattle.unwind.proofs.PoolLaws.{adds-none, adds-some, adds-next}
 use borrow.Author.Needs.{needs}
 use Rattle.unwind.proofs.emit.block.gather_nodes.Statement.{statement}
 use Rattle.unwind.proofs.emit.block.gather_nodes.Tie as tie
 
 abbrev Inv-loop : tie.InvT-loop
-Inv-loop s y nodes edges ends heads landings bases returns originals count b exits₀ held n₀ k₀ exits n k =
-    (k ≤ count) × Adds (routesIn s y) b edges ends heads landings exits₀ held (flat (λ j. nodeRecords (routesIn s y) b edges ends heads landings nodes bases returns (getD originals j 0)) k) exits n
+Inv-loop s y nodes edges ends heads landings returns originals count b exits₀ held n₀ k₀ exits n k =
+    (k ≤ count) × Adds (routesIn s y) b edges ends heads landings exits₀ held (flat (λ j. returnRecords (routesIn s y) b edges ends heads landings nodes returns (getD originals j 0)) k) exits n
 
 abbrev μ-loop : tie.MeasureT-loop
-μ-loop s y nodes edges ends heads landings bases returns originals count b exits₀ held n₀ k₀ exits n k = count - k
+μ-loop s y nodes edges ends heads landings returns originals count b exits₀ held n₀ k₀ exits n k = count - k
 
 loop-holds : tie.Need-loop-holds Inv-loop μ-loop
 unfolding flat
 loop-holds c =
-    let start = c .before .before .before .before .before .before .before .before .before .before in
+    let start = c .before .before .before .before .before .before .before .before .before in
     let a = start .args in
     (omega arith, adds-none (routesIn (a .s .now) (a .y)) (a .b) (a .edges .now) (a .ends .now) (a .heads .now) (a .landings .now) (a .exits .now) (a .held) (start .pre .0))
 
-gather-original-requires : tie.Need-gather-original-requires Inv-loop μ-loop
-gather-original-requires c κs =
-    let start = c .before .before .before .before .before .before .before .before .before .before .before .before .before .before in
+gather-returned-requires : tie.Need-gather-returned-requires Inv-loop μ-loop
+gather-returned-requires c κs =
+    let start = c .before .before .before .before .before .before .before .before .before .before .before .before .before in
     let a = start .args in
     let top = c .before .before .before .loop in
     let read = c .before .number-at .ensures in
@@ -39,11 +39,11 @@ gather-original-requires c κs =
 
 loop-again : tie.Need-loop-again Inv-loop μ-loop
 loop-again c =
-    let a = c .before .before .before .before .before .before .before .before .before .before .before .before .before .before .before .before .before .args in
+    let a = c .before .before .before .before .before .before .before .before .before .before .before .before .before .before .before .before .args in
     let top = c .before .before .before .before .before .before .loop in
-    let here = ap (nodeRecords (routesIn (a .s .now) (a .y)) (a .b) (a .edges .now) (a .ends .now) (a .heads .now) (a .landings .now) (a .nodes .now) (a .bases .now) (a .returns .now)) (c .before .before .before .before .number-at .ensures .0) in (
+    let here = ap (returnRecords (routesIn (a .s .now) (a .y)) (a .b) (a .edges .now) (a .ends .now) (a .heads .now) (a .landings .now) (a .nodes .now) (a .returns .now)) (c .before .before .before .before .number-at .ensures .0) in (
       omega (arith, c .before .before .before .before .before .loop-test .taken),
-      adds-next (routesIn (a .s .now) (a .y)) (a .b) (a .edges .now) (a .ends .now) (a .heads .now) (a .landings .now) (λ k. nodeRecords (routesIn (a .s .now) (a .y)) (a .b) (a .edges .now) (a .ends .now) (a .heads .now) (a .landings .now) (a .nodes .now) (a .bases .now) (a .returns .now) (getD (a .originals .now) k 0)) (top .k) (top .inv .1) (adds-some (routesIn (a .s .now) (a .y)) (a .b) (a .edges .now) (a .ends .now) (a .heads .now) (a .landings .now) here (c .before .before .gather-original .ensures)),
+      adds-next (routesIn (a .s .now) (a .y)) (a .b) (a .edges .now) (a .ends .now) (a .heads .now) (a .landings .now) (λ k. returnRecords (routesIn (a .s .now) (a .y)) (a .b) (a .edges .now) (a .ends .now) (a .heads .now) (a .landings .now) (a .nodes .now) (a .returns .now) (getD (a .originals .now) k 0)) (top .k) (top .inv .1) (adds-some (routesIn (a .s .now) (a .y)) (a .b) (a .edges .now) (a .ends .now) (a .heads .now) (a .landings .now) here (c .before .before .gather-returned .ensures)),
     )
 
 same-length : tie.Need-same-length Inv-loop μ-loop
@@ -51,7 +51,7 @@ same-length c = c .before .loop .inv .1 .gathers .long
 
 returns : tie.Need-returns Inv-loop μ-loop
 returns c =
-    let all : c .before .loop .k ≡ c .before .before .before .before .before .before .before .before .before .before .before .before .args .count = omega (arith, c .before .loop .inv .0) in
+    let all : c .before .loop .k ≡ c .before .before .before .before .before .before .before .before .before .before .before .args .count = omega (arith, c .before .loop .inv .0) in
     rw all at (c .before .loop .inv .1)
 
 pub gather-nodes-spec : {M : Type 1} → statement M
@@ -62,7 +62,7 @@ gather-nodes-spec =
     μ-loop
     loop-holds
     (λ c κs. search needs)
-    gather-original-requires
+    gather-returned-requires
     (λ c. search needs)
     (λ c. search needs)
     loop-again

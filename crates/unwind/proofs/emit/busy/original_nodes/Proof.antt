@@ -1,5 +1,5 @@
 -- `original_nodes` meets its contract. The invariant: those of the nodes passed are listed. Assumes nothing.
-use mathlib.Core.Path.{_≡_, refl, _∙_}
+use mathlib.Core.Path.{_≡_, refl, sym, _∙_}
 use mathlib.Core.Logic.{⊎-elim}
 use Prim.Native.Nat.{_-_, _≤_, _<_}
 use native.Mathlib.Omega.{arith}
@@ -41,7 +41,7 @@ loop-again c =
     let test = c .before .before .loop-test .taken in
     let fit : top .count < length (top .list) = omega (arith, start .pre .0, test, top .inv .1, top .inv .2 .few) in
     ⊎-elim
-    (λ w. rw (w .1, w .2) (omega (arith, test), length-set (top .list) (top .count) (top .i) ∙ top .inv .1, originals-more bases (top .list) (top .i) (top .count) (top .inv .2) fit))
+    (λ w. rw (w .1, w .2) (omega (arith, test), length-set (top .list) (top .count) (top .i) ∙ top .inv .1, originals-more bases (top .list) (top .i) (top .count) (top .inv .2) fit (sym (c .before .number-at .ensures .0) ∙ w .0 .taken)))
     (λ w. rw (w .1, w .2) (omega (arith, test), top .inv .1, originals-skip bases (top .list) (top .i) (top .count) (top .inv .2) (λ e. w .0 .left (c .before .number-at .ensures .0 ∙ e))))
     (c .if1 .came)
 
