@@ -1,4 +1,5 @@
 -- Copies of blocks and edges, counted.
+--     keep-most                    no more are kept than there are
 --     out-most, set-most           how many edges go out of blocks
 --     copies-none, copies-some     the blocks that a node copies
 --     none-next, some-next, count-some     the copies of edges by a node more; no-edges
@@ -28,7 +29,7 @@ use Rattle.unwind.proofs.ChainLaws.{list-none, list-front}
 
 -- ---- how many
 
-keep-most : {A : Type 0} (f : A → Bool) (l : List A) → length (keep f l) ≤ length l
+pub keep-most : {A : Type 0} (f : A → Bool) (l : List A) → length (keep f l) ≤ length l
 unfolding keep
 keep-most f [] = omega arith
 keep-most f (x ∷ l) = go (f x) (keep-most f l)

@@ -34,6 +34,7 @@ pub mod SizeLaws
 pub mod SlotLaws
 pub mod PlaceLaws
 pub mod FirstLaws
+pub mod MostLaws
 pub mod CopyLaws
 pub mod AllHops
 pub mod CopiesAre

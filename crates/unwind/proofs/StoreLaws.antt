@@ -2,7 +2,7 @@
 --     edges-over, hops-over, lists-over, counts-fit     what counts decide
 --     exits-kept                   what is at hand where scratch was used
 --     all-lent, links-lent         what is lent where hops are counted and stored, and where edges are copied
---     counts-check                 19 and 20 by what was counted
+--     counts-check, most-check     19 and 20 by what was counted, and by the most that there can be
 --     hops-fit                     19 and 20 let pass: there is room for the hops
 --     sets-stood                   behind the copies of edges the blocks of the instances stand
 --     runs-stood, hops-lent        behind those of blocks: the runs of blocks, and the hops of the ways that routes want
@@ -39,13 +39,15 @@ use Rattle.graph.specs.Search as links
 use Rattle.unwind.specs.declared.add.AddedRoutes.the-variants as answers
 use Rattle.unwind.specs.declared.emit.count.Sizes.{Sizes}
 use Rattle.unwind.specs.declared.tries.store.Counts.{Counts}
-use Rattle.addition.specs.Lists.{joined}
+use Rattle.addition.specs.Lists.{keep, joined}
 use Rattle.addition.specs.Part.{funclets}
 use Rattle.addition.specs.Trie.{Node, tries}
 use Rattle.unwind.specs.Routed.{TriesIn}
 use Rattle.addition.specs.Instance.{copied, cloneBlocks, cloneEdges}
 use Rattle.unwind.specs.Clones.{copiesIn, blockCopies, edgeCopies, SetsIn}
-use Rattle.addition.specs.Ways.{ways, hopsOf, routeEdges}
+use Rattle.addition.specs.Ways.{Hop, ways, hopsOf, routeEdges}
+use Rattle.unwind.specs.Sources.{toBlock}
+use Rattle.unwind.specs.Most.{guardedWays, returnedWays}
 use Rattle.unwind.specs.Sizes.{HopsSize}
 use Rattle.unwind.specs.Lent.{Leads, Sides, PartsIn, Roomy}
 use Rattle.unwind.specs.Copies.{BasesFew, Bounded}
@@ -59,6 +61,9 @@ use Rattle.unwind.proofs.Standing.{stands-of}
 use Rattle.unwind.proofs.TrieNodes.{length-nodes}
 use Rattle.unwind.proofs.ClonesAre.{sets-in, blocks-are, edges-are}
 use Rattle.unwind.proofs.LentInstances.{leads-in, sides-in, parts-in, few-in, ways-in, runs-in}
+use Rattle.unwind.proofs.CloneLaws.{keep-most}
+use Rattle.unwind.proofs.CopiesAre.{total-hops}
+use Rattle.unwind.proofs.MostLaws.{Fits, most-hops}
 use Rattle.unwind.proofs.SizeChecks.{routes-same, edges-refused, hops-refused, sizes-clear}
 use Rattle.unwind.proofs.Finished.{copies-graph, finished}
 
@@ -80,6 +85,14 @@ module _ (n : ℕ) (sz : Sizes) where
 
   pub counts-fit : n ≤ 4096 → sz .hops ≤ 2048 → sz .lists ≤ 4096 → clear ≡ countsCheck n sz
   counts-fit fit hops lists = rw (le-leb n 4096 fit, le-leb (sz .hops) 2048 hops, le-leb (sz .lists) 4096 lists)
+
+  counts-clear : clear ≡ countsCheck n sz → (n ≤ 4096) × (sz .hops ≤ 2048)
+  counts-clear e =
+      let edges : Check = unless (leb n 4096) (refusal 19 0 0) in
+      let few : Bool = leb (sz .hops) 2048 && leb (sz .lists) 4096 in (
+        leb-true n 4096 (unless-clear (leb n 4096) (refusal 19 0 0) (then-left edges (unless few (refusal 20 0 0)) (sym e))),
+        leb-true (sz .hops) 2048 (and-both (leb (sz .hops) 2048) (leb (sz .lists) 4096) (unless-clear few (refusal 20 0 0) (then-right edges (unless few (refusal 20 0 0)) (sym e))) .0),
+      )
 
 -- what 19 and 20 let pass
 passed : (a : Addition) → sizeCheck a ≡ clear → (length (a .graph .edges) ≤ 4096) × HopsFit (a .hops)
@@ -181,6 +194,19 @@ module _ (w : List ℕ) (m : RouteImage) {nodes edges ends roots head next bases
 
       bounded : Bounded g rs
       bounded = x .instances .bounded
+
+  -- 19 and 20 by the most that there can be
+  pub most-check : (k most : ℕ) → k ≡ length (edgeCopies g bases parts (c .nodes)) → guardedWays nodes roots guards (length (g .blocks)) (length (m .routes)) + returnedWays nodes returns (length (g .blocks)) (c .nodes) ≤ most
+      → clear ≡ countsCheck (length (g .edges) + k + most) (record { hops = most; lists = most; blocks = most }) → clear ≡ sizeCheck (addition g rs)
+  most-check k most cloned above fit =
+      let all = all-lent in
+      let total = total-hops g m nodes edges ends roots heads landings guards bases parts returns c (all .1) (all .2) (all .3) (all .4) (omega (arith, all .6 .few)) (all .6 .some) in
+      let fits : Fits (hopsOf (ways g rs)) _ = subst (λ (hs : List Hop). Fits hs (guardedWays nodes roots guards (length (g .blocks)) (length (m .routes)) + returnedWays nodes returns (length (g .blocks)) (c .nodes))) total (most-hops m nodes edges ends heads landings roots guards bases parts returns c (all .10) (all .9) (length (g .blocks))) in
+      let sz : Sizes = record { hops = length (hopsOf (ways g rs)); lists = length (joined (λ h. h .calls) (hopsOf (ways g rs))); blocks = length (keep (λ h. toBlock (h .end)) (hopsOf (ways g rs))) } in
+      let few = counts-clear (length (g .edges) + k + most) (record { hops = most; lists = most; blocks = most }) fit in
+      let blocks = keep-most (λ (h : Hop). toBlock (h .end)) (hopsOf (ways g rs)) in
+      counts-fit (length (g .edges) + k + sz .blocks) sz (omega (arith, few .0, blocks, fits .hops)) (omega (arith, few .1, fits .hops)) (omega (arith, few .1, fits .lists))
+      ∙ counts-check k sz cloned (record { hops = refl; lists = refl; blocks = refl })
 
   pub hops-lent : {h h′ : List ℕ} → HopsLaid m h h′ (hopsOf (ways g rs)) → hopsIn m h′ ≡ hopsOf (lentWays m nodes edges ends heads landings roots guards bases parts returns (length (m .routes)) (c .nodes))
   hops-lent laid = laid .holds ∙ ap hopsOf (sym (ways-in g m nodes edges ends roots bases heads parts returns guards landings c (x .instances)))

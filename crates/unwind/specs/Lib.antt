@@ -10,6 +10,7 @@ pub mod Lower
 pub mod Interns
 pub mod Routed
 pub mod Placed
+pub mod Most
 pub mod Clones
 pub mod Sides
 pub mod Sources

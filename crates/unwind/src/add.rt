@@ -1,5 +1,6 @@
 // `add_unwind_routes`: the edges and copies that routes want in a graph, and the hops. All is decided before the first store.
 mod frames;
+mod most;
 mod run;
 mod store;
 

@@ -1,5 +1,6 @@
 // The last stage of an addition: instances that are placed, 19 and 20, and then the stores.
 use crate::add::AddedRoutes;
+use crate::add::most::most_ways;
 use crate::clones::add_clone_blocks;
 use crate::clones::add_clone_edges;
 use crate::clones::clone_edge_count;
@@ -14,6 +15,7 @@ use crate::wants::add_route_edges;
 use graph::error::AddressBuildError;
 use graph::error::Checked;
 use graph::store::Words;
+use graph::store::blocks::block_count;
 use graph::store::edges::edge_count;
 use image::section::RouteLayout;
 ghost use mathlib.Core.Path.{_≡_};
@@ -102,7 +104,7 @@ pub fn add_placed(
     AddedRoutes::Stored
 }
 
-// 19 and 20 of what is to be stored; 18 let it pass.
+// 19 and 20 of what is to be stored; 18 let it pass. Hops are counted where the most that there can be would be too many.
 fn check_sizes(
     g: &Words,
     s: &[u8],
@@ -125,6 +127,24 @@ fn check_sizes(
     requires { ⌜ AtHand (heldIn (now g)) (routesIn (now s) y) (now nodes) (now edges) (now ends) (now roots) (now head) (now next) (now bases) (now heads) (now parts) (now returns) (now guards) (now landings) (now exits) stored ⌝ }
     ensures { λ r. ⌜ checkOf r ≡ sizeCheck (addition (heldIn (now (g .entry)) .graph) (routesOf (routesIn (now (s .entry)) y))) ⌝ }
 {
+    let copies = clone_edge_count(g, head, next, bases, parts, stored.nodes);
+    let most = most_ways(
+        nodes,
+        roots,
+        guards,
+        y.routes.count as usize,
+        returns,
+        stored.nodes,
+        block_count(g),
+    );
+    let bound = Sizes {
+        hops: most,
+        lists: most,
+        blocks: most,
+    };
+    if let Checked::Clear = check_counts(g, copies, bound) {
+        return Checked::Clear;
+    }
     let sizes = count_hops(
         g,
         s,
@@ -142,7 +162,6 @@ fn check_sizes(
         stored,
         exits,
     );
-    let copies = clone_edge_count(g, head, next, bases, parts, stored.nodes);
     check_counts(g, copies, sizes)
 }
 

@@ -1,0 +1,69 @@
+// The most ways out of blocks that routes can give: there are no more hops, lists of hops or route edges.
+use crate::tries::store::node_at;
+use crate::tries::store::number_at;
+ghost use mathlib.Core.Path.{_≡_};
+ghost use Prim.Native.Nat.{_+_, _*_, _≤_};
+ghost use lib.ListN.{length};
+ghost use Rattle.unwind.specs.Most.{waysOf, membersOf, guardedWays, returnedWays};
+
+// Of each route out of the blocks that it guards, and of each node out of those from which it returns.
+pub fn most_ways(
+    nodes: &[u16],
+    roots: &[u16],
+    guards: &[u64],
+    routes: usize,
+    returns: &[u64],
+    n: usize,
+    blocks: usize,
+) -> usize
+    requires { ⌜ (routes ≤ 1024) × (n ≤ 1024) × (blocks ≤ 1024) × (16 * routes ≤ length (now guards)) × (16 * n ≤ length (now returns)) ⌝ }
+    ensures { λ r. ⌜ guardedWays (now (nodes .entry)) (now (roots .entry)) (now (guards .entry)) blocks routes + returnedWays (now (nodes .entry)) (now (returns .entry)) blocks n ≤ r ⌝ }
+{
+    most_guarded(nodes, roots, guards, routes, blocks) + most_returned(nodes, returns, n, blocks)
+}
+
+// Those of the routes.
+fn most_guarded(nodes: &[u16], roots: &[u16], guards: &[u64], routes: usize, blocks: usize) -> usize
+    requires { ⌜ (routes ≤ 1024) × (blocks ≤ 1024) × (16 * routes ≤ length (now guards)) ⌝ }
+    ensures { λ r. ⌜ (guardedWays (now (nodes .entry)) (now (roots .entry)) (now (guards .entry)) blocks routes ≤ r) × (r ≤ 134217728 * routes) ⌝ }
+{
+    let mut most = 0;
+    for r in 0..routes {
+        most += ways_of(nodes, number_at(roots, r)) * members_of(guards, r, blocks);
+    }
+    most
+}
+
+// Those of the n nodes.
+fn most_returned(nodes: &[u16], returns: &[u64], n: usize, blocks: usize) -> usize
+    requires { ⌜ (n ≤ 1024) × (blocks ≤ 1024) × (16 * n ≤ length (now returns)) ⌝ }
+    ensures { λ r. ⌜ (returnedWays (now (nodes .entry)) (now (returns .entry)) blocks n ≤ r) × (r ≤ 134217728 * n) ⌝ }
+{
+    let mut most = 0;
+    for i in 0..n {
+        most += ways_of(nodes, i) * members_of(returns, i, blocks);
+    }
+    most
+}
+
+// How many ways node i has out of one block.
+fn ways_of(nodes: &[u16], i: usize) -> usize
+    ensures { λ r. ⌜ (r ≡ waysOf (now (nodes .entry)) i) × (r ≤ 131072) ⌝ }
+{
+    let x = node_at(nodes, i);
+    x.edges + x.ends
+}
+
+// No fewer than the blocks of set i that are below `blocks`: all that its words up to there have.
+fn members_of(sets: &[u64], i: usize, blocks: usize) -> usize
+    requires { ⌜ (16 * i + 16 ≤ length (now sets)) × (blocks ≤ 1024) ⌝ }
+    ensures { λ r. ⌜ (membersOf (now (sets .entry)) blocks i ≤ r) × (r ≤ 1024) ⌝ }
+{
+    let at = 16 * i;
+    let words = (blocks + 63) / 64;
+    let mut n = 0;
+    for k in 0..words {
+        n += u64::count_ones(sets[at + k]) as usize;
+    }
+    n
+}
