@@ -62,6 +62,10 @@ pub record WaysStand (l : List ℕ) (ws : List Way) : Type 0 where
   pub rises : HopsRise l
   pub stands : (w : Way) → w ∈ ws → HopStands l (leap w)
 
+-- Calls do not matter to leaps: of ways by an image and by ends that say where calls stand, those of some stand.
+abbrev pub SomeStand : List ℕ → (RouteImage → List ℕ → List Way) → Type 0
+SomeStand l f = (m : RouteImage) × (ends : List ℕ) × WaysStand l (f m ends)
+
 -- ---- flags
 
 -- flag k says whether the pair of hop k is among those seen
@@ -86,6 +90,10 @@ pub record EdgesWanted (h g : List ℕ) (done : List Bool) (ws : List Way) (g′
   pub runs : SameRuns (heldIn g .graph) (heldIn g′ .graph)
   pub added : (seen : List Leap) → Flags h done seen → Added g g′ (routeEdges (heldIn g .graph) seen ws) [] []
   pub flags : (seen : List Leap) → Flags h done seen → Flags h done′ (seenWith ws seen)
+
+-- whichever calls they make
+abbrev pub AllWanted : List ℕ → List ℕ → List Bool → (RouteImage → List ℕ → List Way) → List ℕ → List Bool → Type 0
+AllWanted h g done f g′ done′ = (m : RouteImage) (ends : List ℕ) → EdgesWanted h g done (f m ends) g′ done′
 
 -- ---- the blocks of a node
 

@@ -28,18 +28,16 @@ ghost use mathlib.Core.List.{List, [], _∷_, map};
 ghost use Prim.Native.Nat.{ℕ, _+_, _*_, _≤_, _<_};
 ghost use lib.ListN.{length, getD};
 ghost use Rattle.image.specs.Image.{RouteImage, routesIn};
-ghost use Rattle.image.specs.Accepted.{AcceptedRoutes};
 ghost use Rattle.graph.specs.Words.{heldIn};
 ghost use Rattle.graph.specs.Fold.{flat};
 ghost use Rattle.graph.specs.Adding.{Added};
 ghost use Rattle.unwind.specs.Interning.{isLt};
 ghost use Rattle.unwind.specs.Nodes.{branchIn, recordIn};
-ghost use Rattle.unwind.specs.Routed.{TriesIn};
 ghost use Rattle.addition.specs.Ways.{compareLeaps, hopsOf, routeEdge, routeEdges};
 ghost use Rattle.unwind.specs.Gather.{edgeExits, endNumber, endExits};
 ghost use Rattle.unwind.specs.HopWords.{hopsIn};
 ghost use Rattle.unwind.specs.Wanted.{wayOf, recordWays, guardWays, returnWays, lentWays, RunsFit};
-ghost use Rattle.unwind.specs.Flags.{pair, leapTo, wayTo, rowLeap, HopsRise, HopIs, HopStands, WaysStand, EdgesWanted, placeOf, setWays};
+ghost use Rattle.unwind.specs.Flags.{pair, leapTo, wayTo, rowLeap, HopsRise, HopIs, HopStands, SomeStand, EdgesWanted, AllWanted, placeOf, setWays};
 
 // A flag for each hop.
 type Flags = [bool; 2048];
@@ -64,32 +62,28 @@ pub fn add_route_edges(
     returns: &[u64],
     stored: Counts,
 )
-    requires { ⌜ AcceptedRoutes (routesIn (now s) y) × TriesIn (routesIn (now s) y) (now nodes) (now edges) (now ends) (now roots) stored × RunsFit (heldIn (now g) .graph) × (16 * length (routesIn (now s) y .routes) ≤ length (now guards)) × (16 * stored .nodes ≤ length (now parts)) × (16 * stored .nodes ≤ length (now returns)) × ((i : ℕ) → i < stored .nodes → getD (now bases) i 0 ≤ 1024) × (hopsIn (routesIn (now s) y) (now h) ≡ hopsOf (lentWays (routesIn (now s) y) (now nodes) (now edges) (now ends) (now heads) (now landings) (now roots) (now guards) (now bases) (now parts) (now returns) (length (routesIn (now s) y .routes)) (stored .nodes))) ⌝ }
+    requires { ⌜ RunsFit (heldIn (now g) .graph) × (16 * length (routesIn (now s) y .routes) ≤ length (now guards)) × (16 * stored .nodes ≤ length (now parts)) × (16 * stored .nodes ≤ length (now returns)) × ((i : ℕ) → i < stored .nodes → getD (now bases) i 0 ≤ 1024) × (hopsIn (routesIn (now s) y) (now h) ≡ hopsOf (lentWays (routesIn (now s) y) (now nodes) (now edges) (now ends) (now heads) (now landings) (now roots) (now guards) (now bases) (now parts) (now returns) (length (routesIn (now s) y .routes)) (stored .nodes))) ⌝ }
     ensures { λ _. ⌜ Added (now (g .entry)) (now (g .exit)) (routeEdges (heldIn (now (g .entry)) .graph) [] (lentWays (routesIn (now (s .entry)) y) (now (nodes .entry)) (now (edges .entry)) (now (ends .entry)) (now (heads .entry)) (now (landings .entry)) (now (roots .entry)) (now (guards .entry)) (now (bases .entry)) (now (parts .entry)) (now (returns .entry)) (length (routesIn (now (s .entry)) y .routes)) (stored .nodes))) [] [] ⌝ }
 {
     let mut done = [false; 2048];
+    let routes = y.routes.count as usize;
     want_guarded(
         g,
         h,
-        s,
-        y,
         nodes,
         edges,
-        ends,
         heads,
         landings,
         roots,
         guards,
+        routes,
         &mut done,
     );
     want_returned(
         g,
         h,
-        s,
-        y,
         nodes,
         edges,
-        ends,
         heads,
         landings,
         bases,
@@ -100,36 +94,30 @@ pub fn add_route_edges(
     );
 }
 
-// What each route wants out of the blocks that it guards.
+// What each of the n routes wants out of the blocks that it guards.
 fn want_guarded(
     g: &mut Words,
     h: &Hops,
-    s: &[u8],
-    y: RouteLayout,
     nodes: &[u16],
     edges: &[u16],
-    ends: &[u16],
     heads: &[u16],
     landings: &[u16],
     roots: &[u16],
     guards: &[u64],
+    n: usize,
     done: &mut Flags,
 )
-    requires { ⌜ WaysStand (now h) (flat (guardWays (routesIn (now s) y) (now nodes) (now edges) (now ends) (now heads) (now landings) (now roots) (now guards)) (length (routesIn (now s) y .routes))) × RunsFit (heldIn (now g) .graph) × (16 * length (routesIn (now s) y .routes) ≤ length (now guards)) ⌝ }
-    ensures { λ _. ⌜ EdgesWanted (now (h .entry)) (now (g .entry)) (now (done .entry)) (flat (guardWays (routesIn (now (s .entry)) y) (now (nodes .entry)) (now (edges .entry)) (now (ends .entry)) (now (heads .entry)) (now (landings .entry)) (now (roots .entry)) (now (guards .entry))) (length (routesIn (now (s .entry)) y .routes))) (now (g .exit)) (now (done .exit)) ⌝ }
+    requires { ⌜ SomeStand (now h) (λ m ends. flat (guardWays m (now nodes) (now edges) ends (now heads) (now landings) (now roots) (now guards)) n) × RunsFit (heldIn (now g) .graph) × (16 * n ≤ length (now guards)) ⌝ }
+    ensures { λ _. ⌜ AllWanted (now (h .entry)) (now (g .entry)) (now (done .entry)) (λ m ends. flat (guardWays m (now (nodes .entry)) (now (edges .entry)) ends (now (heads .entry)) (now (landings .entry)) (now (roots .entry)) (now (guards .entry))) n) (now (g .exit)) (now (done .exit)) ⌝ }
 {
-    let n = y.routes.count as usize;
     for r in 0..n {
         let i = number_at(roots, r);
         let set = set_at(guards, r);
         want_set(
             g,
             h,
-            s,
-            y,
             nodes,
             edges,
-            ends,
             heads,
             landings,
             i,
@@ -146,11 +134,8 @@ fn want_guarded(
 fn want_returned(
     g: &mut Words,
     h: &Hops,
-    s: &[u8],
-    y: RouteLayout,
     nodes: &[u16],
     edges: &[u16],
-    ends: &[u16],
     heads: &[u16],
     landings: &[u16],
     bases: &[u16],
@@ -159,8 +144,8 @@ fn want_returned(
     n: usize,
     done: &mut Flags,
 )
-    requires { ⌜ WaysStand (now h) (flat (returnWays (routesIn (now s) y) (now nodes) (now edges) (now ends) (now heads) (now landings) (now bases) (now parts) (now returns)) n) × RunsFit (heldIn (now g) .graph) × (16 * n ≤ length (now parts)) × (16 * n ≤ length (now returns)) × ((i : ℕ) → i < n → getD (now bases) i 0 ≤ 1024) ⌝ }
-    ensures { λ _. ⌜ EdgesWanted (now (h .entry)) (now (g .entry)) (now (done .entry)) (flat (returnWays (routesIn (now (s .entry)) y) (now (nodes .entry)) (now (edges .entry)) (now (ends .entry)) (now (heads .entry)) (now (landings .entry)) (now (bases .entry)) (now (parts .entry)) (now (returns .entry))) n) (now (g .exit)) (now (done .exit)) ⌝ }
+    requires { ⌜ SomeStand (now h) (λ m ends. flat (returnWays m (now nodes) (now edges) ends (now heads) (now landings) (now bases) (now parts) (now returns)) n) × RunsFit (heldIn (now g) .graph) × (16 * n ≤ length (now parts)) × (16 * n ≤ length (now returns)) × ((i : ℕ) → i < n → getD (now bases) i 0 ≤ 1024) ⌝ }
+    ensures { λ _. ⌜ AllWanted (now (h .entry)) (now (g .entry)) (now (done .entry)) (λ m ends. flat (returnWays m (now (nodes .entry)) (now (edges .entry)) ends (now (heads .entry)) (now (landings .entry)) (now (bases .entry)) (now (parts .entry)) (now (returns .entry))) n) (now (g .exit)) (now (done .exit)) ⌝ }
 {
     for i in 0..n {
         let r = node_at(nodes, i).route;
@@ -170,11 +155,8 @@ fn want_returned(
         want_set(
             g,
             h,
-            s,
-            y,
             nodes,
             edges,
-            ends,
             heads,
             landings,
             i,
@@ -191,11 +173,8 @@ fn want_returned(
 fn want_set(
     g: &mut Words,
     h: &Hops,
-    s: &[u8],
-    y: RouteLayout,
     nodes: &[u16],
     edges: &[u16],
-    ends: &[u16],
     heads: &[u16],
     landings: &[u16],
     i: usize,
@@ -205,8 +184,8 @@ fn want_set(
     set: &[u64; 16],
     done: &mut Flags,
 )
-    requires { ⌜ WaysStand (now h) (setWays (routesIn (now s) y) (now nodes) (now edges) (now ends) (now heads) (now landings) i r base (now part) (now set)) × RunsFit (heldIn (now g) .graph) × (base ≤ 1024) ⌝ }
-    ensures { λ _. ⌜ EdgesWanted (now (h .entry)) (now (g .entry)) (now (done .entry)) (setWays (routesIn (now (s .entry)) y) (now (nodes .entry)) (now (edges .entry)) (now (ends .entry)) (now (heads .entry)) (now (landings .entry)) i r base (now (part .entry)) (now (set .entry))) (now (g .exit)) (now (done .exit)) ⌝ }
+    requires { ⌜ SomeStand (now h) (λ m ends. setWays m (now nodes) (now edges) ends (now heads) (now landings) i r base (now part) (now set)) × RunsFit (heldIn (now g) .graph) × (base ≤ 1024) ⌝ }
+    ensures { λ _. ⌜ AllWanted (now (h .entry)) (now (g .entry)) (now (done .entry)) (λ m ends. setWays m (now (nodes .entry)) (now (edges .entry)) ends (now (heads .entry)) (now (landings .entry)) i r base (now (part .entry)) (now (set .entry))) (now (g .exit)) (now (done .exit)) ⌝ }
 {
     sixteen(set);
     let mut left = *set;
@@ -216,21 +195,7 @@ fn want_set(
         };
         take_from(&mut left, o);
         let b = place_of(base, part, o);
-        want_from(
-            g,
-            h,
-            s,
-            y,
-            nodes,
-            edges,
-            ends,
-            heads,
-            landings,
-            i,
-            r,
-            b,
-            done,
-        );
+        want_from(g, h, nodes, edges, heads, landings, i, r, b, done);
     }
 }
 
@@ -250,11 +215,8 @@ fn place_of(base: usize, part: &[u64; 16], o: usize) -> usize
 fn want_from(
     g: &mut Words,
     h: &Hops,
-    s: &[u8],
-    y: RouteLayout,
     nodes: &[u16],
     edges: &[u16],
-    ends: &[u16],
     heads: &[u16],
     landings: &[u16],
     i: usize,
@@ -262,8 +224,8 @@ fn want_from(
     b: usize,
     done: &mut Flags,
 )
-    requires { ⌜ WaysStand (now h) (recordWays (routesIn (now s) y) (now nodes) (now edges) (now ends) (now heads) (now landings) r b (recordIn (now nodes) i)) × RunsFit (heldIn (now g) .graph) × (b < 65536) ⌝ }
-    ensures { λ _. ⌜ EdgesWanted (now (h .entry)) (now (g .entry)) (now (done .entry)) (recordWays (routesIn (now (s .entry)) y) (now (nodes .entry)) (now (edges .entry)) (now (ends .entry)) (now (heads .entry)) (now (landings .entry)) r b (recordIn (now (nodes .entry)) i)) (now (g .exit)) (now (done .exit)) ⌝ }
+    requires { ⌜ SomeStand (now h) (λ m ends. recordWays m (now nodes) (now edges) ends (now heads) (now landings) r b (recordIn (now nodes) i)) × RunsFit (heldIn (now g) .graph) × (b < 65536) ⌝ }
+    ensures { λ _. ⌜ AllWanted (now (h .entry)) (now (g .entry)) (now (done .entry)) (λ m ends. recordWays m (now (nodes .entry)) (now (edges .entry)) ends (now (heads .entry)) (now (landings .entry)) r b (recordIn (now (nodes .entry)) i)) (now (g .exit)) (now (done .exit)) ⌝ }
 {
     let node = node_at(nodes, i);
     want_edges(g, h, edges, heads, node.first_edge, node.edges, r, b, done);
@@ -304,7 +266,7 @@ fn want_ends(
     done: &mut Flags,
 )
     requires { ⌜ HopsRise (now h) × ((j : ℕ) → j < count → HopStands (now h) (leapTo b (endNumber b (now landings) (first + j)))) × RunsFit (heldIn (now g) .graph) × (first < 65536) × (count < 65536) × (b < 65536) ⌝ }
-    ensures { λ _. ⌜ ((m : RouteImage) (ends : List ℕ) → EdgesWanted (now (h .entry)) (now (g .entry)) (now (done .entry)) (map (wayOf r) (endExits m b ends (now (landings .entry)) first count)) (now (g .exit)) (now (done .exit))) ⌝ }
+    ensures { λ _. ⌜ AllWanted (now (h .entry)) (now (g .entry)) (now (done .entry)) (λ m ends. map (wayOf r) (endExits m b ends (now (landings .entry)) first count)) (now (g .exit)) (now (done .exit)) ⌝ }
 {
     for k in 0..count {
         let t = end_number(landings, first + k, b);

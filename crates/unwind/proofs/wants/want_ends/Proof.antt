@@ -1,22 +1,22 @@
 -- `want_ends` meets its contract. The loop's invariant: what the ends before k want is added. Assumes nothing.
 use mathlib.Core.Path.{_≡_, sym, subst}
-use mathlib.Core.List.{List, [], map}
+use mathlib.Core.List.{[], map}
 use Prim.Native.Nat.{ℕ, _+_, _-_, _≤_}
 use native.Mathlib.Omega.{arith}
 use borrow.Author.Needs.{needs}
-use Rattle.image.specs.Image.{RouteImage, table}
+use Rattle.image.specs.Image.{table}
 use Rattle.graph.specs.Words.{heldIn}
 use Rattle.unwind.specs.Nodes.{branchIn}
 use Rattle.unwind.specs.Gather.{endNumber, endExits}
 use Rattle.unwind.specs.Wanted.{wayOf, RunsFit}
-use Rattle.unwind.specs.Flags.{leapTo, HopStands, EdgesWanted}
+use Rattle.unwind.specs.Flags.{leapTo, HopStands, AllWanted}
 use Rattle.unwind.proofs.WantLaws.{runs-fit, wants-none, want-next}
 use Rattle.unwind.proofs.wants.want_ends.Statement.{statement}
 use Rattle.unwind.proofs.wants.want_ends.Tie as tie
 
 abbrev Inv-loop : tie.InvT-loop
 Inv-loop g₀ h landings first count r b done₀ k₀ g done k =
-    (k ≤ count) × RunsFit (heldIn g .graph) × ((m : RouteImage) (ends : List ℕ) → EdgesWanted h g₀ done₀ (map (wayOf r) (endExits m b ends landings first k)) g done)
+    (k ≤ count) × RunsFit (heldIn g .graph) × AllWanted h g₀ done₀ (λ m ends. map (wayOf r) (endExits m b ends landings first k)) g done
 
 abbrev μ-loop : tie.MeasureT-loop
 μ-loop g₀ h landings first count r b done₀ k₀ g done k = count - k

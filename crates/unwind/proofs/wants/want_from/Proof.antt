@@ -1,17 +1,16 @@
 -- `want_from` meets its contract: by its edges, then by its ends. Assumes nothing.
 use borrow.Author.Needs.{needs}
-use Rattle.image.specs.Image.{routesIn}
 use Rattle.unwind.proofs.WantLaws.{runs-fit, edges-stand, ends-stand, record-wants}
 use Rattle.unwind.proofs.wants.want_from.Statement.{statement}
 use Rattle.unwind.proofs.wants.want_from.Tie as tie
 
 want-edges-requires : tie.Need-want-edges-requires
 want-edges-requires c κs =
-    let a = c .before .before .before .before .before .before .before .before .before .args in
-    let pre = c .before .before .before .before .before .before .before .before .before .pre in
+    let a = c .before .before .before .before .before .before .before .args in
+    let pre = c .before .before .before .before .before .before .before .pre in
     let node = c .before .before .node-at in (
-      pre .0 .rises,
-      edges-stand (routesIn (a .s .now) (a .y)) (a .nodes .now) (a .edges .now) (a .ends .now) (a .heads .now) (a .landings .now) (a .r) (a .b) (node .result) _ (node .ensures .is) (pre .0),
+      pre .0 .2 .rises,
+      edges-stand (pre .0 .0) (a .nodes .now) (a .edges .now) (pre .0 .1) (a .heads .now) (a .landings .now) (a .r) (a .b) (node .result) _ (node .ensures .is) (pre .0 .2),
       pre .1,
       node .ensures .small .first-edge,
       node .ensures .small .edges,
@@ -19,12 +18,13 @@ want-edges-requires c κs =
 
 want-ends-requires : tie.Need-want-ends-requires
 want-ends-requires c κs =
-    let a = c .before .before .before .before .before .before .before .before .before .before .before .before .args in
-    let pre = c .before .before .before .before .before .before .before .before .before .before .before .before .pre in
-    let m = routesIn (a .s .now) (a .y) in
+    let a = c .before .before .before .before .before .before .before .before .before .before .args in
+    let pre = c .before .before .before .before .before .before .before .before .before .before .pre in
+    let m = pre .0 .0 in
+    let ends = pre .0 .1 in
     let node = c .before .before .before .before .before .node-at in (
-      pre .0 .rises,
-      ends-stand m (a .nodes .now) (a .edges .now) (a .ends .now) (a .heads .now) (a .landings .now) (a .r) (a .b) (node .result) _ (node .ensures .is) (pre .0),
+      pre .0 .2 .rises,
+      ends-stand m (a .nodes .now) (a .edges .now) ends (a .heads .now) (a .landings .now) (a .r) (a .b) (node .result) _ (node .ensures .is) (pre .0 .2),
       runs-fit (c .before .before .want-edges .ensures m .runs) (pre .1),
       node .ensures .small .first-end,
       node .ensures .small .ends,
@@ -33,10 +33,9 @@ want-ends-requires c κs =
 
 returns : tie.Need-returns
 returns c =
-    let a = c .before .before .before .before .before .before .before .before .before .before .before .before .before .args in
-    let m = routesIn (a .s .now) (a .y) in
+    let a = c .before .before .before .before .before .before .before .before .before .before .before .args in
     let node = c .before .before .before .before .before .before .node-at in
-    record-wants m (a .nodes .now) (a .edges .now) (a .ends .now) (a .heads .now) (a .landings .now) (a .r) (a .b) (node .result) _ (node .ensures .is) (c .before .before .before .want-edges .ensures m) (c .want-ends .ensures m (a .ends .now))
+    λ m ends. record-wants m (a .nodes .now) (a .edges .now) ends (a .heads .now) (a .landings .now) (a .r) (a .b) (node .result) _ (node .ensures .is) (c .before .before .before .want-edges .ensures m) (c .want-ends .ensures m ends)
 
 pub want-from-spec : {M : Type 1} → statement M
 want-from-spec = tie.close (tie.spec (λ c κs. search needs) want-edges-requires want-ends-requires returns)

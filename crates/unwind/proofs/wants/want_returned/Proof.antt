@@ -3,68 +3,71 @@ use mathlib.Core.Path.{_≡_, ap, subst}
 use Prim.Native.Nat.{_-_, _≤_}
 use native.Mathlib.Omega.{arith}
 use borrow.Author.Needs.{needs}
-use Rattle.image.specs.Image.{routesIn}
 use Rattle.graph.specs.Fold.{flat}
 use Rattle.unwind.specs.declared.tries.store.NodeRecord.{NodeRecord}
 use Rattle.unwind.specs.Wanted.{returnWays}
-use Rattle.unwind.specs.Flags.{WaysStand, EdgesWanted}
+use Rattle.unwind.specs.Flags.{WaysStand, AllWanted}
 use Rattle.unwind.proofs.WantLaws.{runs-fit, stand-flat, return-set, flat-start, flat-next}
 use Rattle.unwind.proofs.wants.want_returned.Statement.{statement}
 use Rattle.unwind.proofs.wants.want_returned.Tie as tie
 
 abbrev Inv-loop : tie.InvT-loop
-Inv-loop g₀ h s y nodes edges ends heads landings bases parts returns n done₀ i₀ g done i =
-    (i ≤ n) × EdgesWanted h g₀ done₀ (flat (returnWays (routesIn s y) nodes edges ends heads landings bases parts returns) i) g done
+Inv-loop g₀ h nodes edges heads landings bases parts returns n done₀ i₀ g done i =
+    (i ≤ n) × AllWanted h g₀ done₀ (λ m ends. flat (returnWays m nodes edges ends heads landings bases parts returns) i) g done
 
 abbrev μ-loop : tie.MeasureT-loop
-μ-loop g₀ h s y nodes edges ends heads landings bases parts returns n done₀ i₀ g done i = n - i
+μ-loop g₀ h nodes edges heads landings bases parts returns n done₀ i₀ g done i = n - i
 
 loop-holds : tie.Need-loop-holds Inv-loop μ-loop
 loop-holds c =
-    let a = c .before .before .before .before .before .before .before .before .before .args in
-    (omega arith, flat-start (returnWays (routesIn (a .s .now) (a .y)) (a .nodes .now) (a .edges .now) (a .ends .now) (a .heads .now) (a .landings .now) (a .bases .now) (a .parts .now) (a .returns .now)))
+    let a = c .before .before .before .before .before .before .before .args in
+    (omega arith, λ m ends. flat-start (returnWays m (a .nodes .now) (a .edges .now) ends (a .heads .now) (a .landings .now) (a .bases .now) (a .parts .now) (a .returns .now)))
 
 set-at-requires : tie.Need-set-at-requires Inv-loop μ-loop
-set-at-requires c κs = omega (arith, c .before .before .loop-test .taken, c .before .before .before .before .before .before .before .before .before .before .before .before .before .pre .2)
+set-at-requires c κs = omega (arith, c .before .before .loop-test .taken, c .before .before .before .before .before .before .before .before .before .before .before .pre .2)
 
 set-at-requires-2 : tie.Need-set-at-requires-2 Inv-loop μ-loop
-set-at-requires-2 c κs = omega (arith, c .before .before .before .loop-test .taken, c .before .before .before .before .before .before .before .before .before .before .before .before .before .before .pre .3)
+set-at-requires-2 c κs = omega (arith, c .before .before .before .loop-test .taken, c .before .before .before .before .before .before .before .before .before .before .before .before .pre .3)
 
 want-set-requires : tie.Need-want-set-requires Inv-loop μ-loop
 want-set-requires c κs =
-    let a = c .before .before .before .before .before .before .before .before .before .before .before .before .before .before .before .before .before .before .before .args in
-    let pre = c .before .before .before .before .before .before .before .before .before .before .before .before .before .before .before .before .before .before .before .pre in
-    let m = routesIn (a .s .now) (a .y) in
+    let a = c .before .before .before .before .before .before .before .before .before .before .before .before .before .before .before .before .before .args in
+    let pre = c .before .before .before .before .before .before .before .before .before .before .before .before .before .before .before .before .before .pre in
+    let m = pre .0 .0 in
+    let ends = pre .0 .1 in
     let top = c .before .before .before .before .before .before .before .before .before .loop in
     let base = c .before .before .before .before .before .before .number-at .ensures .0 in (
-      subst (WaysStand (a .h .now))
-          (return-set m (a .nodes .now) (a .edges .now) (a .ends .now) (a .heads .now) (a .landings .now) (a .bases .now) (a .parts .now) (a .returns .now) (top .i) _ _ _ _ (ap (λ (x : NodeRecord). x .route) (c .before .before .before .before .before .before .before .node-at .ensures .is)) base (c .before .before .before .before .before .set-at .ensures) (c .before .before .before .before .set-at2 .ensures))
-          (stand-flat (returnWays m (a .nodes .now) (a .edges .now) (a .ends .now) (a .heads .now) (a .landings .now) (a .bases .now) (a .parts .now) (a .returns .now)) _ (top .i) (c .before .before .before .before .before .before .before .before .loop-test .taken) (pre .0)),
-      runs-fit (top .inv .1 .runs) (pre .1),
+      (
+        m,
+        ends,
+        subst (WaysStand (a .h .now))
+            (return-set m (a .nodes .now) (a .edges .now) ends (a .heads .now) (a .landings .now) (a .bases .now) (a .parts .now) (a .returns .now) (top .i) _ _ _ _ (ap (λ (x : NodeRecord). x .route) (c .before .before .before .before .before .before .before .node-at .ensures .is)) base (c .before .before .before .before .before .set-at .ensures) (c .before .before .before .before .set-at2 .ensures))
+            (stand-flat (returnWays m (a .nodes .now) (a .edges .now) ends (a .heads .now) (a .landings .now) (a .bases .now) (a .parts .now) (a .returns .now)) _ (top .i) (c .before .before .before .before .before .before .before .before .loop-test .taken) (pre .0 .2)),
+      ),
+      runs-fit (top .inv .1 m ends .runs) (pre .1),
       rw base (pre .4 (top .i) (c .before .before .before .before .before .before .before .before .loop-test .taken)),
     )
 
 add-i : tie.Need-add-i Inv-loop μ-loop
-add-i c = omega (arith, c .before .before .before .before .before .before .before .before .before .loop-test .taken, c .before .before .before .before .before .before .before .before .before .before .before .before .before .before .before .before .before .before .before .before .fits .n)
+add-i c = omega (arith, c .before .before .before .before .before .before .before .before .before .loop-test .taken, c .before .before .before .before .before .before .before .before .before .before .before .before .before .before .before .before .before .before .fits .n)
 
 loop-less : tie.Need-loop-less Inv-loop μ-loop
 loop-less c = omega (arith, c .before .before .before .before .before .before .before .before .before .loop-test .taken)
 
 loop-again : tie.Need-loop-again Inv-loop μ-loop
 loop-again c =
-    let a = c .before .before .before .before .before .before .before .before .before .before .before .before .before .before .before .before .before .before .before .before .args in
-    let m = routesIn (a .s .now) (a .y) in
+    let a = c .before .before .before .before .before .before .before .before .before .before .before .before .before .before .before .before .before .before .args in
     let top = c .before .before .before .before .before .before .before .before .before .before .loop in (
       omega (arith, c .before .before .before .before .before .before .before .before .before .loop-test .taken),
-      flat-next (returnWays m (a .nodes .now) (a .edges .now) (a .ends .now) (a .heads .now) (a .landings .now) (a .bases .now) (a .parts .now) (a .returns .now)) (top .i) (top .inv .1)
-          (rw (return-set m (a .nodes .now) (a .edges .now) (a .ends .now) (a .heads .now) (a .landings .now) (a .bases .now) (a .parts .now) (a .returns .now) (top .i) _ _ _ _ (ap (λ (x : NodeRecord). x .route) (c .before .before .before .before .before .before .before .before .node-at .ensures .is)) (c .before .before .before .before .before .before .before .number-at .ensures .0) (c .before .before .before .before .before .before .set-at .ensures) (c .before .before .before .before .before .set-at2 .ensures))
-          (c .want-set .ensures)),
+      λ m ends. flat-next (returnWays m (a .nodes .now) (a .edges .now) ends (a .heads .now) (a .landings .now) (a .bases .now) (a .parts .now) (a .returns .now)) (top .i) (top .inv .1 m ends)
+          (rw (return-set m (a .nodes .now) (a .edges .now) ends (a .heads .now) (a .landings .now) (a .bases .now) (a .parts .now) (a .returns .now) (top .i) _ _ _ _ (ap (λ (x : NodeRecord). x .route) (c .before .before .before .before .before .before .before .before .node-at .ensures .is)) (c .before .before .before .before .before .before .before .number-at .ensures .0) (c .before .before .before .before .before .before .set-at .ensures) (c .before .before .before .before .before .set-at2 .ensures))
+          (c .want-set .ensures m ends)),
     )
 
 returns : tie.Need-returns Inv-loop μ-loop
 returns c =
     let end = c .before .loop in
-    let all : end .i ≡ c .before .before .before .before .before .before .before .before .before .before .before .args .n = omega (arith, end .inv .0) in
+    let all : end .i ≡ c .before .before .before .before .before .before .before .before .before .args .n = omega (arith, end .inv .0) in
     rw all at (end .inv .1)
 
 pub want-returned-spec : {M : Type 1} → statement M

@@ -32,8 +32,6 @@ add-route-edges-requires c κs =
     let m = routesIn (start .args .s .now) (start .args .y) in
     let x = start .pre .0 in
     let l = all-lent w m x in (
-      l .0,
-      l .1,
       runs-stood w m x (c .before .before .before .before .add-clone-edges .ensures) (start .pre .1) (c .before .before .add-clone-blocks .ensures),
       x .instances .guards-fit,
       x .instances .slots .parts-fit,
