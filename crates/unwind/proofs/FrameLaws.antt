@@ -1,5 +1,5 @@
 -- The scratch of an addition, from its lengths to the instances that stand in it.
---     framed                       the lengths of a frame for so many steps, paths and routes
+--     all-few, framed              no routes and no graph has more; the lengths of a frame for no more than so many
 --     frame-room                   the room that is left where the tries stand
 --     nodes-checked                the checks of the nodes in scratch
 --     placements, at-hand          the instances, and then the sides
@@ -11,12 +11,18 @@ use native.Mathlib.Omega.{arith}
 use borrow.Author.Tests.{ltb-true}
 use lib.ListN.{length, replicate}
 use Rattle.image.specs.Refusal.{Check, clear}
-use Rattle.image.specs.Image.{RouteImage}
+use Rattle.image.specs.Record.{routeFrom, pathFrom, stepFrom}
+use Rattle.image.specs.Image.{RouteImage, routesIn}
 use Rattle.image.specs.Deal.{routesOf}
+use Rattle.image.specs.Accepted.{AcceptedRoutes}
+use Rattle.image.specs.declared.section.RouteLayout.{RouteLayout}
+use Rattle.image.proofs.Tables.{length-records}
 use Rattle.graph.specs.Graph.{Graph, Held}
+use Rattle.graph.specs.Words.{heldIn}
 use Rattle.graph.specs.Fold.{checks}
 use Rattle.graph.specs.Search.{Linked, Roomy}
 use Rattle.graph.specs.WellFormed.{isBlock}
+use Rattle.graph.proofs.RecordLaws.{block-most, edge-most}
 use Rattle.unwind.specs.declared.tries.store.Counts.{Counts}
 use Rattle.unwind.specs.Stands.{Stands}
 use Rattle.addition.specs.Trie.{Node, nodeAt, tries}
@@ -26,21 +32,32 @@ use Rattle.unwind.specs.Placed.{PlacedAll}
 use Rattle.unwind.specs.Sides.{Lands, GuardsIn}
 use Rattle.addition.specs.Add.{nodeCheck}
 use Rattle.unwind.specs.Answers.{RoutesChecked}
-use Rattle.unwind.specs.Frames.{Frame, Room, Placements, AtHand}
+use Rattle.unwind.specs.Frames.{Few, Frame, Room, Placements, AtHand}
 use Rattle.unwind.proofs.Standing.{stands-of}
 use Rattle.unwind.proofs.TrieNodes.{length-nodes}
 use Rattle.unwind.proofs.SizeChecks.{placed-in, bounded-in}
 
 -- ---- lengths
 
-module _ (g : Graph) (m : RouteImage) (steps paths routes : ℕ) (steps-few : length (m .steps) ≤ steps) (paths-few : length (m .paths) ≤ paths) (routes-few : length (m .routes) ≤ routes) (steps-most : steps ≤ 512) (paths-most : paths ≤ 128) (blocks-few : length (g .blocks) < 6 * (steps + paths)) where
+-- all routes that are accepted, and all graphs
+pub all-few : (w s : List ℕ) (y : RouteLayout) → AcceptedRoutes (routesIn s y) → Few (heldIn w .graph) y 512 128 32 1024 4096
+all-few w s y ok =
+    let steps-are = length-records stepFrom s (y .steps) in
+    let paths-are = length-records pathFrom s (y .paths) in
+    let routes-are = length-records routeFrom s (y .routes) in
+    record { steps-few = omega arith; paths-few = omega arith; routes-few = omega arith; blocks-few = block-most w; edges-few = edge-most w }
+
+module _ (g : Graph) (s : List ℕ) (y : RouteLayout) (steps paths routes blocks most : ℕ) (few : Few g y steps paths routes blocks most) (steps-most : steps ≤ 512) (paths-most : paths ≤ 128) (blocks-most : blocks < 6 * (steps + paths)) where
   pub framed : {starts nodes edges ends stack roots head next bases heads parts returns guards landings exits : List ℕ}
       → length starts ≡ paths + 1 → length nodes ≡ 6 * (routes + steps) → length edges ≡ 3 * steps → length ends ≡ 3 * paths → length stack ≡ 3 * steps → length roots ≡ routes
       → Roomy g head next → head ≡ replicate (length head) 0
       → length bases ≡ routes + steps → length heads ≡ routes + steps → length parts ≡ 16 * (routes + steps) → length returns ≡ 16 * (routes + steps)
       → length guards ≡ 16 * routes → length landings ≡ paths → length exits ≡ 6 * (steps + paths) → exits ≡ replicate (length exits) 0
-      → Frame g m starts nodes edges ends stack roots head next bases heads parts returns guards landings exits
+      → Frame g (routesIn s y) starts nodes edges ends stack roots head next bases heads parts returns guards landings exits
   framed starts-long nodes-long edges-long ends-long stack-long roots-long links unlinked bases-long heads-long parts-long returns-long guards-long landings-long exits-long unplaced =
+      let steps-are = length-records stepFrom s (y .steps) in
+      let paths-are = length-records pathFrom s (y .paths) in
+      let routes-are = length-records routeFrom s (y .routes) in
       record {
         scratch = record { starts-fit = omega arith; nodes-fit = omega arith; edges-fit = omega arith; ends-fit = omega arith; stack-fit = omega arith; roots-fit = omega arith };
         links = links;

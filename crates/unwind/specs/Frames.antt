@@ -20,13 +20,13 @@ use Rattle.unwind.specs.Lent as lent
 use Rattle.unwind.specs.Copies.{Bounded}
 use Rattle.unwind.specs.Instances.{Instances}
 
--- a graph of a small frame, and routes with no more than so many steps, paths and routes
-pub record Few (g : Graph) (y : RouteLayout) (steps paths routes : ℕ) : Type 0 where
+-- routes with no more than so many steps, paths and routes, and a graph with no more than so many blocks and edges
+pub record Few (g : Graph) (y : RouteLayout) (steps paths routes blocks edges : ℕ) : Type 0 where
   pub steps-few : y .steps .count ≤ steps
   pub paths-few : y .paths .count ≤ paths
   pub routes-few : y .routes .count ≤ routes
-  pub blocks-few : length (g .blocks) ≤ 64
-  pub edges-few : length (g .edges) ≤ 256
+  pub blocks-few : length (g .blocks) ≤ blocks
+  pub edges-few : length (g .edges) ≤ edges
 
 -- THE FRAME: there is room for the tries of the routes, for the links of the graph, of which there are none yet, for an instance
 -- of each node that there is room for, and for the exits of a block; where those go the first node of each slot stands before, of

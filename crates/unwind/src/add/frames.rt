@@ -35,7 +35,7 @@ pub fn add_checked(
 
 // Whether a graph is small, and routes have no more than so many steps, paths and routes.
 fn is_few(g: &Words, y: RouteLayout, steps: u32, paths: u32, routes: u32) -> bool
-    ensures { λ r. ⌜ (r ≡ true → Few (heldIn (now (g .entry)) .graph) y steps paths routes) ⌝ }
+    ensures { λ r. ⌜ (r ≡ true → Few (heldIn (now (g .entry)) .graph) y steps paths routes 64 256) ⌝ }
 {
     if steps < y.steps.count {
         return false;
@@ -51,7 +51,7 @@ fn is_few(g: &Words, y: RouteLayout, steps: u32, paths: u32, routes: u32) -> boo
 
 // Few routes, to a small graph.
 fn add_tiny(g: &mut Words, built: usize, s: &[u8], y: RouteLayout, h: &mut Hops) -> AddedRoutes
-    requires { ⌜ RoutesChecked (heldIn (now g)) built (routesIn (now s) y) × Few (heldIn (now g) .graph) y 8 8 4 ⌝ }
+    requires { ⌜ RoutesChecked (heldIn (now g)) built (routesIn (now s) y) × Few (heldIn (now g) .graph) y 8 8 4 64 256 ⌝ }
     ensures { λ r. ⌜ Adds (routesIn (now (s .entry)) y) (now (g .entry)) (now (g .exit)) (now (h .entry)) (now (h .exit)) r ⌝ }
 {
     let mut starts = [0u16; 9];
@@ -95,7 +95,7 @@ fn add_tiny(g: &mut Words, built: usize, s: &[u8], y: RouteLayout, h: &mut Hops)
 
 // More of them.
 fn add_small(g: &mut Words, built: usize, s: &[u8], y: RouteLayout, h: &mut Hops) -> AddedRoutes
-    requires { ⌜ RoutesChecked (heldIn (now g)) built (routesIn (now s) y) × Few (heldIn (now g) .graph) y 64 32 8 ⌝ }
+    requires { ⌜ RoutesChecked (heldIn (now g)) built (routesIn (now s) y) × Few (heldIn (now g) .graph) y 64 32 8 64 256 ⌝ }
     ensures { λ r. ⌜ Adds (routesIn (now (s .entry)) y) (now (g .entry)) (now (g .exit)) (now (h .entry)) (now (h .exit)) r ⌝ }
 {
     let mut starts = [0u16; 33];
@@ -139,7 +139,7 @@ fn add_small(g: &mut Words, built: usize, s: &[u8], y: RouteLayout, h: &mut Hops
 
 // Any routes, to any graph.
 fn add_full(g: &mut Words, built: usize, s: &[u8], y: RouteLayout, h: &mut Hops) -> AddedRoutes
-    requires { ⌜ RoutesChecked (heldIn (now g)) built (routesIn (now s) y) ⌝ }
+    requires { ⌜ RoutesChecked (heldIn (now g)) built (routesIn (now s) y) × Few (heldIn (now g) .graph) y 512 128 32 1024 4096 ⌝ }
     ensures { λ r. ⌜ Adds (routesIn (now (s .entry)) y) (now (g .entry)) (now (g .exit)) (now (h .entry)) (now (h .exit)) r ⌝ }
 {
     let mut starts = [0u16; 129];

@@ -1,9 +1,6 @@
 -- The lengths are those of a frame for 64 steps, 32 paths and 8 routes. Assumes nothing.
 use mathlib.Core.Path.{refl}
 use native.Mathlib.Omega.{arith}
-use Rattle.image.specs.Record.{routeFrom, pathFrom, stepFrom}
-use Rattle.image.specs.Image.{routesIn}
-use Rattle.image.proofs.Tables.{length-records}
 use Rattle.graph.specs.Words.{heldIn}
 use Rattle.unwind.proofs.FrameLaws.{framed}
 use borrow.Author.Needs.{needs}
@@ -15,10 +12,7 @@ add-in-requires c κs =
     let start = c .before .before .before .before .before .before .before .before .before .before .before .before .before .before .before .before .before .before in
     let a = start .args in
     let few = start .pre .1 in
-    let steps = length-records stepFrom (a .s .now) (a .y .steps) in
-    let paths = length-records pathFrom (a .s .now) (a .y .paths) in
-    let routes = length-records routeFrom (a .s .now) (a .y .routes) in
-    (start .pre .0, framed (heldIn (a .g .now) .graph) (routesIn (a .s .now) (a .y)) 64 32 8 (omega (arith, few .steps-few)) (omega (arith, few .paths-few)) (omega (arith, few .routes-few)) (omega arith) (omega arith) (omega (arith, few .blocks-few)) refl refl refl refl refl refl (record { blocks = few .blocks-few; edges = few .edges-few }) refl refl refl refl refl refl refl refl refl)
+    (start .pre .0, framed (heldIn (a .g .now) .graph) (a .s .now) (a .y) 64 32 8 64 256 few (omega arith) (omega arith) (omega arith) refl refl refl refl refl refl (record { blocks = few .blocks-few; edges = few .edges-few }) refl refl refl refl refl refl refl refl refl)
 
 pub add-small-spec : {M : Type 1} → statement M
 add-small-spec =
