@@ -190,7 +190,7 @@ fn same_node(
     false
 }
 
-pub fn same_funclet(s: &[u8], y: RouteLayout, a: usize, b: usize) -> bool
+fn same_funclet(s: &[u8], y: RouteLayout, a: usize, b: usize) -> bool
     ensures { λ r. ⌜ r ≡ sameFunclet (funcletIn (routesIn (now (s .entry)) y) a) (funcletIn (routesIn (now (s .entry)) y) b) ⌝ }
 {
     if a == 0 {
