@@ -83,11 +83,11 @@ module _ (m : Image) (accepted : Accepted m) (p : Parts m) where
   passed = record { sourced = sourced m accepted (p .table) (p .sources); table = p .table; handlers = p .handlers; routed = p .routed }
 
   module _ (blocks : List ℕ) where
-    pub numbered : ((q : ℕ) → q < size m → getD blocks q 0 ≡ blockOf m q) → Numbered m blocks
-    numbered is = record { rising = rising (tableOf m) (p .table); most = accepted .instructions-most; block = is }
+    pub numbered : size m ≤ length blocks → ((q : ℕ) → q < size m → getD blocks q 0 ≡ blockOf m q) → Numbered m blocks
+    numbered room is = record { rising = rising (tableOf m) (p .table); room = room; block = is }
 
     pub emitting : Numbered m blocks → Emitting m blocks
-    emitting n = record { sourced = passed .sourced; given = p .given; block = n .block }
+    emitting n = record { sourced = passed .sourced; given = p .given; room = n .room; block = n .block }
 
     pub handled : Numbered m blocks → Handled m blocks
     handled n = record { few = accepted .handlers-most; table = p .table; passed = p .handlers; numbered = n }

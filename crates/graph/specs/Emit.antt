@@ -3,7 +3,7 @@ use mathlib.Core.Bool.{Bool, true, false}
 use mathlib.Core.Path.{_≡_}
 use mathlib.Core.List.{List, []}
 use Prim.Native.Nat.{ℕ, _+_, _<_, _≤_}
-use lib.ListN.{getD}
+use lib.ListN.{length, getD}
 use Rattle.image.specs.Refusal.{clear}
 use Rattle.image.specs.Image.{Image}
 use Rattle.image.specs.Record.{caseFrom}
@@ -24,16 +24,21 @@ use Rattle.graph.specs.Edges.{resolved, transferEdges, transferUnresolve
 use Rattle.graph.specs.Cursor.{Sourced, cursorAt, visitAt}
 use Rattle.graph.specs.Build.{givenCheck}
 
+-- there is room for the number of each position's block, and the first is 0
+abbrev pub Fits : Image → List ℕ → Type 0
+Fits m blocks = (size m ≤ length blocks) × (getD blocks 0 0 ≡ 0)
+
 -- the blocks are numbered by position, in a table that rises
 pub record Numbered (m : Image) (blocks : List ℕ) : Type 0 where
   pub rising : Rising (tableOf m)
-  pub most : size m ≤ 512
+  pub room : size m ≤ length blocks
   pub block : (p : ℕ) → p < size m → getD blocks p 0 ≡ blockOf m p
 
 -- 1 to 9 found nothing, but for 6, and the blocks are numbered by position
 pub record Emitting (m : Image) (blocks : List ℕ) : Type 0 where
   pub sourced : Sourced m
   pub given : checks (givenCheck m) (size m) ≡ clear
+  pub room : size m ≤ length blocks
   pub block : (p : ℕ) → p < size m → getD blocks p 0 ≡ blockOf m p
 
 -- a cursor, and the visit of the instruction there

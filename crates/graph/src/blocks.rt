@@ -10,7 +10,7 @@ use image::section::Section;
 ghost use mathlib.Core.Bool.{cond, not};
 ghost use mathlib.Core.Path.{_≡_};
 ghost use Prim.Native.Nat.{ℕ, suc, _+_, _≤_, _<_};
-ghost use lib.ListN.{getD, replicate};
+ghost use lib.ListN.{length, getD};
 ghost use Rattle.image.specs.Image.{Image};
 ghost use Rattle.graph.specs.Words.{heldIn};
 ghost use Rattle.graph.specs.Stored.{Stored};
@@ -95,9 +95,9 @@ fn same_block(marks: &[bool; 512], n: usize, p: usize) -> bool
     false
 }
 
-// The number of the block of each position, into an array of zeros.
-pub fn number_blocks(numbers: &mut [u16; 512], marks: &[bool; 512], n: usize)
-    requires { ⌜ (n ≤ 512) × (now numbers ≡ replicate 512 0) ⌝ }
+// The number of the block of each position. That of the first is 0 before.
+pub fn number_blocks(numbers: &mut [u16], marks: &[bool; 512], n: usize)
+    requires { ⌜ (n ≤ 512) × (n ≤ length (now numbers)) × (getD (now numbers) 0 0 ≡ 0) ⌝ }
     ensures { λ _. ⌜ ((m : Image) → size m ≡ n → Leading m (now (marks .entry)) → (p : ℕ) → p < n → getD (now (numbers .exit)) p 0 ≡ blockOf m p) ⌝ }
 {
     let mut block: u16 = 0;

@@ -15,8 +15,6 @@ use crate::error::AddressBuildError;
 use crate::error::Checked;
 use crate::exceptions::add_exception_edges;
 use crate::leaders::leaders;
-use crate::lookup::Hints;
-use crate::lookup::fill_hints;
 use crate::ranges::check_handlers;
 use crate::ranges::code_end;
 use crate::regions::add_regions;
@@ -42,7 +40,7 @@ ghost use Rattle.graph.specs.Blocks.{entryOf};
 ghost use Rattle.graph.specs.Edges.{edgesOf, unresolvedOf, callsOf};
 ghost use Rattle.graph.specs.Adding.{Added};
 ghost use Rattle.graph.specs.Marks.{Leading};
-ghost use Rattle.graph.specs.Emit.{Numbered};
+ghost use Rattle.graph.specs.Emit.{Fits, Numbered};
 ghost use Rattle.graph.specs.Build.{entryCheck, inputCheck, resultCheck, graphFrom, buildOf, buildFrom};
 ghost use Rattle.graph.specs.Answers.{buildAnswer, BuildLeaves, Building, Laid, codeOnly};
 
@@ -71,31 +69,60 @@ fn form_error(e: ImageError) -> AddressBuildError
     }
 }
 
-// The same of an image that was read.
+// The same of an image that was read, in the smallest frame that has room for it.
 fn build_read(s: &[u8], y: Layout, g: &mut Words) -> Built
     requires { ⌜ Accepted (imageIn (now s) y) ⌝ }
     ensures { λ r. ⌜ (buildAnswer (now (g .exit)) r ≡ buildOf (imageIn (now (s .entry)) y)) × BuildLeaves (now (g .entry)) (now (g .exit)) r ⌝ }
 {
+    if y.code.instructions.count <= 64 {
+        return build_small(s, y, g);
+    }
+    build_full(s, y, g)
+}
+
+// At most 64 instructions.
+fn build_small(s: &[u8], y: Layout, g: &mut Words) -> Built
+    requires { ⌜ Accepted (imageIn (now s) y) × (y .code .instructions .count ≤ 64) ⌝ }
+    ensures { λ r. ⌜ (buildAnswer (now (g .exit)) r ≡ buildOf (imageIn (now (s .entry)) y)) × BuildLeaves (now (g .entry)) (now (g .exit)) r ⌝ }
+{
+    let mut hints = [0u16; 127];
+    let mut blocks = [0u16; 64];
+    build_in(s, y, g, &mut hints, &mut blocks)
+}
+
+// Any number of them.
+fn build_full(s: &[u8], y: Layout, g: &mut Words) -> Built
+    requires { ⌜ Accepted (imageIn (now s) y) ⌝ }
+    ensures { λ r. ⌜ (buildAnswer (now (g .exit)) r ≡ buildOf (imageIn (now (s .entry)) y)) × BuildLeaves (now (g .entry)) (now (g .exit)) r ⌝ }
+{
+    let mut hints = [0u16; 1023];
+    let mut blocks = [0u16; 512];
+    build_in(s, y, g, &mut hints, &mut blocks)
+}
+
+// By hints, and by the numbers of the positions' blocks, for which there is room.
+fn build_in(s: &[u8], y: Layout, g: &mut Words, hints: &mut [u16], blocks: &mut [u16]) -> Built
+    requires { ⌜ Accepted (imageIn (now s) y) × Fits (imageIn (now s) y) (now blocks) ⌝ }
+    ensures { λ r. ⌜ (buildAnswer (now (g .exit)) r ≡ buildOf (imageIn (now (s .entry)) y)) × BuildLeaves (now (g .entry)) (now (g .exit)) r ⌝ }
+{
     let end = code_end(s, y.code.instructions);
-    let mut hints = [0u16; 1024];
-    fill_hints(&mut hints, s, y.code.instructions);
-    if let Checked::Refused(e) = check_input(s, y, &hints, end) {
+    if let Checked::Refused(e) = check_input(s, y, hints, end) {
         return Built::Refused(e);
     }
-    let marks = leaders(s, y, &hints, end);
-    if let Checked::Refused(e) = check_result(s, y, &hints, end, &marks) {
+    let marks = leaders(s, y, hints, end);
+    if let Checked::Refused(e) = check_result(s, y, hints, end, &marks) {
         return Built::Refused(e);
     }
-    store_graph(s, y, &hints, end, &marks, g);
+    store_graph(s, y, hints, end, &marks, blocks, g);
     Built::Stored
 }
 
 // 3 to 15, in their order.
-fn check_input(s: &[u8], y: Layout, hints: &Hints, end: u64) -> Checked
+fn check_input(s: &[u8], y: Layout, hints: &mut [u16], end: u64) -> Checked
     requires { ⌜ Accepted (imageIn (now s) y) × (end ≡ codeEnd (tableOf (imageIn (now s) y))) ⌝ }
     ensures { λ r. ⌜ checkOf r ≡ inputCheck (imageIn (now (s .entry)) y) ⌝ }
 {
-    if let Checked::Refused(e) = check_table(s, y.code.instructions) {
+    if let Checked::Refused(e) = check_table(s, y.code.instructions, hints) {
         return Checked::Refused(e);
     }
     if let Checked::Refused(e) = check_entry(s, y, hints) {
@@ -114,7 +141,7 @@ fn check_input(s: &[u8], y: Layout, hints: &Hints, end: u64) -> Checked
 }
 
 // 16 and 19.
-fn check_result(s: &[u8], y: Layout, hints: &Hints, end: u64, marks: &[bool; 512]) -> Checked
+fn check_result(s: &[u8], y: Layout, hints: &[u16], end: u64, marks: &[bool; 512]) -> Checked
     requires { ⌜ Building (imageIn (now s) y) end (now marks) ⌝ }
     ensures { λ r. ⌜ checkOf r ≡ resultCheck (imageIn (now (s .entry)) y) ⌝ }
 {
@@ -125,17 +152,24 @@ fn check_result(s: &[u8], y: Layout, hints: &Hints, end: u64, marks: &[bool; 512
 }
 
 // The graph of an image that no check refused.
-fn store_graph(s: &[u8], y: Layout, hints: &Hints, end: u64, marks: &[bool; 512], g: &mut Words)
-    requires { ⌜ Building (imageIn (now s) y) end (now marks) × (resultCheck (imageIn (now s) y) ≡ clear) ⌝ }
+fn store_graph(
+    s: &[u8],
+    y: Layout,
+    hints: &[u16],
+    end: u64,
+    marks: &[bool; 512],
+    blocks: &mut [u16],
+    g: &mut Words,
+)
+    requires { ⌜ Building (imageIn (now s) y) end (now marks) × (resultCheck (imageIn (now s) y) ≡ clear) × Fits (imageIn (now s) y) (now blocks) ⌝ }
     ensures { λ _. ⌜ Laid (now (g .entry)) (now (g .exit)) (graphFrom (imageIn (now (s .entry)) y)) ⌝ }
 {
     let n = y.code.instructions.count as usize;
-    let mut blocks = [0u16; 512];
-    number_blocks(&mut blocks, marks, n);
+    number_blocks(blocks, marks, n);
     store_code(s, y, marks, g);
-    store_edges(s, y, hints, end, marks, &blocks, g);
-    add_regions(g, s, y, hints, end, &blocks);
-    set_entry(g, entry_block(s, y, hints, &blocks));
+    store_edges(s, y, hints, end, marks, blocks, g);
+    add_regions(g, s, y, hints, end, blocks);
+    set_entry(g, entry_block(s, y, hints, blocks));
 }
 
 // The table and its blocks, and nothing else.
@@ -153,10 +187,10 @@ fn store_code(s: &[u8], y: Layout, marks: &[bool; 512], g: &mut Words)
 fn store_edges(
     s: &[u8],
     y: Layout,
-    hints: &Hints,
+    hints: &[u16],
     end: u64,
     marks: &[bool; 512],
-    blocks: &[u16; 512],
+    blocks: &[u16],
     g: &mut Words,
 )
     requires { ⌜ Building (imageIn (now s) y) end (now marks) × Numbered (imageIn (now s) y) (now blocks) ⌝ }
@@ -168,7 +202,7 @@ fn store_edges(
 }
 
 // The block at which the sequence is entered.
-fn entry_block(s: &[u8], y: Layout, hints: &Hints, blocks: &[u16; 512]) -> u64
+fn entry_block(s: &[u8], y: Layout, hints: &[u16], blocks: &[u16]) -> u64
     requires { ⌜ Numbered (imageIn (now s) y) (now blocks) × (entryCheck (imageIn (now s) y) ≡ clear) ⌝ }
     ensures { λ r. ⌜ r ≡ entryOf (imageIn (now (s .entry)) y) ⌝ }
 {

@@ -8,9 +8,9 @@ use crate::cursor::given_at;
 use crate::error::AddressBuildError;
 use crate::error::Checked;
 use crate::lookup::Found;
-use crate::lookup::Hints;
 use crate::lookup::address_at;
 use crate::lookup::find;
+use crate::lookup::put_hint;
 use crate::lookup::record_at;
 use crate::transfer::is_call;
 use image::access::edge_at;
@@ -37,13 +37,13 @@ ghost use Rattle.graph.specs.Transfer.{entriesOf, tableOf, size};
 ghost use Rattle.graph.specs.Cursor.{Sourced, cursorAt, visitAt};
 ghost use Rattle.graph.specs.Build.{orderCheck, instructionCheck, tableCheck, entryCheck, sourceCheck, targetCheck, givenCheck};
 
-// The first refusal among those of the instructions: its end, its size, its order.
-pub fn check_table(s: &[u8], y: Section) -> Checked
+// The first refusal among those of the instructions: its end, its size, its order. On the way their addresses become hints.
+pub fn check_table(s: &[u8], y: Section, hints: &mut [u16]) -> Checked
     ensures { λ r. ⌜ checkOf r ≡ tableCheck (entriesOf (recordsIn instructionFrom (now (s .entry)) y)) ⌝ }
 {
     let n = y.count as usize;
     for p in 0..n {
-        let found = check_instruction(s, y, p);
+        let found = check_instruction(s, y, hints, p);
         let Checked::Clear = found else {
             return found;
         };
@@ -51,12 +51,13 @@ pub fn check_table(s: &[u8], y: Section) -> Checked
     Checked::Clear
 }
 
-fn check_instruction(s: &[u8], y: Section, p: usize) -> Checked
+fn check_instruction(s: &[u8], y: Section, hints: &mut [u16], p: usize) -> Checked
     requires { ⌜ p < y .count ⌝ }
     ensures { λ r. ⌜ checkOf r ≡ instructionCheck (entriesOf (recordsIn instructionFrom (now (s .entry)) y)) p ⌝ }
 {
     let i = record_at(s, y, p);
     let address = i.address;
+    put_hint(hints, address, p);
     if !i.has_end {
         return Checked::Refused(AddressBuildError::AddressOverflow { address });
     }
@@ -82,7 +83,7 @@ fn check_order(s: &[u8], y: Section, p: usize, address: u64) -> Checked
 }
 
 // The entry, if there is one, is a start.
-pub fn check_entry(s: &[u8], y: Layout, hints: &Hints) -> Checked
+pub fn check_entry(s: &[u8], y: Layout, hints: &[u16]) -> Checked
     requires { ⌜ Rising (tableOf (imageIn (now s) y)) ⌝ }
     ensures { λ r. ⌜ checkOf r ≡ entryCheck (imageIn (now (s .entry)) y) ⌝ }
 {
@@ -99,7 +100,7 @@ pub fn check_entry(s: &[u8], y: Layout, hints: &Hints) -> Checked
 }
 
 // Each given source is a start.
-pub fn check_sources(s: &[u8], y: Layout, hints: &Hints) -> Checked
+pub fn check_sources(s: &[u8], y: Layout, hints: &[u16]) -> Checked
     requires { ⌜ Rising (tableOf (imageIn (now s) y)) ⌝ }
     ensures { λ r. ⌜ checkOf r ≡ checks (sourceCheck (imageIn (now (s .entry)) y)) (length (imageIn (now (s .entry)) y .sources)) ⌝ }
 {
@@ -116,7 +117,7 @@ pub fn check_sources(s: &[u8], y: Layout, hints: &Hints) -> Checked
 }
 
 // The targets of the given edges are starts, and where nothing is given the flow does without. The other modes give nothing.
-pub fn check_given(s: &[u8], y: Layout, hints: &Hints) -> Checked
+pub fn check_given(s: &[u8], y: Layout, hints: &[u16]) -> Checked
     requires { ⌜ Sourced (imageIn (now s) y) ⌝ }
     ensures { λ r. ⌜ checkOf r ≡ checks (givenCheck (imageIn (now (s .entry)) y)) (size (imageIn (now (s .entry)) y)) ⌝ }
 {
@@ -145,7 +146,7 @@ pub fn check_given(s: &[u8], y: Layout, hints: &Hints) -> Checked
     Checked::Clear
 }
 
-fn check_visit(s: &[u8], y: Layout, hints: &Hints, c: Cursor, visit: Visit) -> Checked
+fn check_visit(s: &[u8], y: Layout, hints: &[u16], c: Cursor, visit: Visit) -> Checked
     requires { ⌜ Sourced (imageIn (now s) y) × (y .header .mode ≡ 2) ⌝ }
     requires { ⌜ (c ≡ cursorAt (imageIn (now s) y) (c .at)) × (c .at < y .code .instructions .count) × (visit ≡ visitAt (imageIn (now s) y) (c .at)) ⌝ }
     ensures { λ r. ⌜ checkOf r ≡ givenCheck (imageIn (now (s .entry)) y) (c .at) ⌝ }
@@ -162,7 +163,7 @@ fn check_visit(s: &[u8], y: Layout, hints: &Hints, c: Cursor, visit: Visit) -> C
 fn check_targets(
     s: &[u8],
     code: CodeLayout,
-    hints: &Hints,
+    hints: &[u16],
     source: u64,
     edge: usize,
     n: usize,

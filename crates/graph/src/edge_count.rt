@@ -11,7 +11,6 @@ use crate::edges::resolve;
 use crate::error::AddressBuildError;
 use crate::error::Checked;
 use crate::lookup::Found;
-use crate::lookup::Hints;
 use crate::ranges::Ranged;
 use crate::ranges::range_check;
 use crate::transfer::Transfer;
@@ -52,7 +51,7 @@ const MOST: usize = 4096;
 pub fn check_edge_count(
     s: &[u8],
     y: Layout,
-    hints: &Hints,
+    hints: &[u16],
     code_end: u64,
     marks: &[bool; 512],
 ) -> Checked
@@ -73,14 +72,14 @@ pub fn check_edge_count(
     if normal_most + exceptional <= MOST {
         return Checked::Clear;
     }
-    if normal_count(s, y, marks) + exceptional <= MOST {
+    if normal_count(s, y, hints, marks) + exceptional <= MOST {
         return Checked::Clear;
     }
     Checked::Refused(AddressBuildError::TooManyEdges)
 }
 
 // How many exception edges the handlers have, in mode 0.
-fn exception_count(s: &[u8], y: Layout, hints: &Hints, code_end: u64) -> usize
+fn exception_count(s: &[u8], y: Layout, hints: &[u16], code_end: u64) -> usize
     requires { ⌜ Passed (imageIn (now s) y) × (y .header .mode ≡ 0) × («code_end» ≡ codeEnd (tableOf (imageIn (now s) y))) ⌝ }
     ensures { λ r. ⌜ r ≡ length (exceptionEdges (imageIn (now (s .entry)) y)) ⌝ }
 {
@@ -119,7 +118,7 @@ fn behind(kept: usize, keeps: bool) -> usize
 fn kept_by(
     s: &[u8],
     y: Layout,
-    hints: &Hints,
+    hints: &[u16],
     code_end: u64,
     kept: &[usize; 513],
     h: usize,
@@ -139,7 +138,7 @@ fn kept_by(
 }
 
 // How many normal edges the blocks' ends have, in mode 0: no edges are given there.
-fn normal_count(s: &[u8], y: Layout, marks: &[bool; 512]) -> usize
+fn normal_count(s: &[u8], y: Layout, hints: &[u16], marks: &[bool; 512]) -> usize
     requires { ⌜ Sourced (imageIn (now s) y) × Leading (imageIn (now s) y) (now marks) × (y .header .mode ≡ 0) ⌝ }
     ensures { λ r. ⌜ r ≡ length (normalEdges (imageIn (now (s .entry)) y)) ⌝ }
 {
@@ -148,57 +147,64 @@ fn normal_count(s: &[u8], y: Layout, marks: &[bool; 512]) -> usize
     let mut edges: usize = 0;
     for p in 0..n {
         let visit = visit_at(s, y, c);
-        edges += end_count(s, y, c, visit.instruction, is_terminator(marks, n, p));
+        edges += end_count(
+            s,
+            y,
+            hints,
+            c,
+            visit.instruction,
+            is_terminator(marks, n, p),
+        );
         c = visit.next;
     }
     edges
 }
 
 // Those of the instruction at a cursor, where it ends its block.
-fn end_count(s: &[u8], y: Layout, c: Cursor, i: Instruction, ends: bool) -> usize
+fn end_count(s: &[u8], y: Layout, hints: &[u16], c: Cursor, i: Instruction, ends: bool) -> usize
     requires { ⌜ Sourced (imageIn (now s) y) × (y .header .mode ≡ 0) ⌝ }
     requires { ⌜ (c ≡ cursorAt (imageIn (now s) y) (c .at)) × (c .at < size (imageIn (now s) y)) × (i ≡ instructionAt (imageIn (now s) y) (c .at)) ⌝ }
     ensures { λ r. ⌜ r ≡ length (cond ends (edgesAt (imageIn (now (s .entry)) y) (c .at)) []) ⌝ }
 {
     if ends {
-        return transfer_count(s, y, c, i);
+        return transfer_count(s, y, hints, c, i);
     }
     0
 }
 
 // How many transfers of the instruction at a cursor are resolved.
-fn transfer_count(s: &[u8], y: Layout, c: Cursor, i: Instruction) -> usize
+fn transfer_count(s: &[u8], y: Layout, hints: &[u16], c: Cursor, i: Instruction) -> usize
     requires { ⌜ Sourced (imageIn (now s) y) × (c ≡ cursorAt (imageIn (now s) y) (c .at)) × (c .at < size (imageIn (now s) y)) × (i ≡ instructionAt (imageIn (now s) y) (c .at)) ⌝ }
     ensures { λ r. ⌜ r ≡ length (slotEdges (imageIn (now (s .entry)) y) (c .at) (slotCount (imageIn (now (s .entry)) y) (c .at))) ⌝ }
 {
     let flow = flow_under(y.header.calls, i.flow);
     let slots = slots_of(flow);
-    let first = resolves(s, y, slot_transfer(i, slots.0));
+    let first = resolves(s, y, hints, slot_transfer(i, slots.0));
     if flow == SWITCH {
-        return first + case_count(s, y, c.case, i.cases);
+        return first + case_count(s, y, hints, c.case, i.cases);
     }
-    first + resolves(s, y, slot_transfer(i, slots.1))
+    first + resolves(s, y, hints, slot_transfer(i, slots.1))
 }
 
 // How many of the n cases from `first` on are resolved.
-fn case_count(s: &[u8], y: Layout, first: usize, n: usize) -> usize
+fn case_count(s: &[u8], y: Layout, hints: &[u16], first: usize, n: usize) -> usize
     requires { ⌜ Rising (tableOf (imageIn (now s) y)) × (first + n ≤ 512) ⌝ }
     ensures { λ r. ⌜ r ≡ count (λ k. resolved (imageIn (now (s .entry)) y) (caseTransfer (getD (imageIn (now (s .entry)) y .cases) (first + k) (caseFrom [] 0)) k)) n ⌝ }
 {
     let mut edges: usize = 0;
     for k in 0..n {
         let case = case_at(s, y.code.cases, first + k);
-        edges += resolves(s, y, case_transfer(case, k));
+        edges += resolves(s, y, hints, case_transfer(case, k));
     }
     edges
 }
 
 // One where a transfer is resolved, else none.
-fn resolves(s: &[u8], y: Layout, x: Transfer) -> usize
+fn resolves(s: &[u8], y: Layout, hints: &[u16], x: Transfer) -> usize
     requires { ⌜ Rising (tableOf (imageIn (now s) y)) ⌝ }
     ensures { λ r. ⌜ r ≡ word (resolved (imageIn (now (s .entry)) y) (transferIn x)) ⌝ }
 {
-    match resolve(s, y.code.instructions, 0, x) {
+    match resolve(s, y.code.instructions, hints, x) {
         Found::At(_) => 1,
         Found::Nothing => 0,
     }

@@ -6,10 +6,7 @@ use crate::cursor::cursor_after;
 use crate::cursor::cursor_start;
 use crate::cursor::given_at;
 use crate::lookup::Found;
-use crate::lookup::Hints;
 use crate::lookup::find;
-use crate::lookup::find_near;
-use crate::lookup::hint_of;
 use crate::lookup::record_at;
 use crate::record::Edge;
 use crate::record::UnresolvedTransfer;
@@ -60,9 +57,9 @@ pub fn add_normal_edges(
     g: &mut Words,
     s: &[u8],
     y: Layout,
-    hints: &Hints,
+    hints: &[u16],
     marks: &[bool; 512],
-    blocks: &[u16; 512],
+    blocks: &[u16],
 )
     requires { ⌜ Emitting (imageIn (now s) y) (now blocks) ⌝ }
     requires { ⌜ Leading (imageIn (now s) y) (now marks) ⌝ }
@@ -102,8 +99,8 @@ fn emit_if(
     g: &mut Words,
     s: &[u8],
     y: Layout,
-    hints: &Hints,
-    blocks: &[u16; 512],
+    hints: &[u16],
+    blocks: &[u16],
     c: Cursor,
     visit: Visit,
     ends: bool,
@@ -117,15 +114,7 @@ fn emit_if(
     }
 }
 
-fn emit(
-    g: &mut Words,
-    s: &[u8],
-    y: Layout,
-    hints: &Hints,
-    blocks: &[u16; 512],
-    c: Cursor,
-    visit: Visit,
-)
+fn emit(g: &mut Words, s: &[u8], y: Layout, hints: &[u16], blocks: &[u16], c: Cursor, visit: Visit)
     requires { ⌜ Emitting (imageIn (now s) y) (now blocks) ⌝ }
     requires { ⌜ Visiting (imageIn (now s) y) c visit ⌝ }
     ensures { λ _. ⌜ Added (now (g .entry)) (now (g .exit)) (edgesAt (imageIn (now (s .entry)) y) (c .at)) (unresolvedAt (imageIn (now (s .entry)) y) (c .at)) [] ⌝ }
@@ -142,8 +131,8 @@ fn add_given_edges(
     g: &mut Words,
     s: &[u8],
     y: Layout,
-    hints: &Hints,
-    blocks: &[u16; 512],
+    hints: &[u16],
+    blocks: &[u16],
     c: Cursor,
     n: usize,
 )
@@ -160,15 +149,7 @@ fn add_given_edges(
 }
 
 // Given edge e, of the instruction at p. Its target starts an instruction (8).
-fn add_given(
-    g: &mut Words,
-    s: &[u8],
-    y: Layout,
-    hints: &Hints,
-    blocks: &[u16; 512],
-    p: usize,
-    e: usize,
-)
+fn add_given(g: &mut Words, s: &[u8], y: Layout, hints: &[u16], blocks: &[u16], p: usize, e: usize)
     requires { ⌜ Emitting (imageIn (now s) y) (now blocks) ⌝ }
     requires { ⌜ (p < size (imageIn (now s) y)) × (isStart (tableOf (imageIn (now s) y)) (getD (imageIn (now s) y .edges) e (edgeFrom [] 0) .target) ≡ true) ⌝ }
     ensures { λ _. ⌜ Added (now (g .entry)) (now (g .exit)) (givenEdge (imageIn (now (s .entry)) y) p (getD (imageIn (now (s .entry)) y .edges) e (edgeFrom [] 0)) ∷ []) [] [] ⌝ }
@@ -198,8 +179,8 @@ fn add_transfers(
     g: &mut Words,
     s: &[u8],
     y: Layout,
-    hints: &Hints,
-    blocks: &[u16; 512],
+    hints: &[u16],
+    blocks: &[u16],
     c: Cursor,
     i: Instruction,
 )
@@ -257,8 +238,8 @@ fn add_transfer(
     g: &mut Words,
     s: &[u8],
     y: Layout,
-    hints: &Hints,
-    blocks: &[u16; 512],
+    hints: &[u16],
+    blocks: &[u16],
     p: usize,
     source: u64,
     x: Transfer,
@@ -268,7 +249,7 @@ fn add_transfer(
     ensures { λ _. ⌜ Added (now (g .entry)) (now (g .exit)) (transferEdges (imageIn (now (s .entry)) y) p (transferIn x)) (transferUnresolved (imageIn (now (s .entry)) y) p (transferIn x)) [] ⌝ }
 {
     let table = y.code.instructions;
-    match resolve(s, table, hint_of(hints, x.target), x) {
+    match resolve(s, table, hints, x) {
         Found::At(to) => add_edge(
             g,
             edge_between(block_of(blocks, p), block_of(blocks, to), source, x),
@@ -277,13 +258,13 @@ fn add_transfer(
     }
 }
 
-// Where a transfer leads: the position of its target, if it has one that starts an instruction. It is likely to be `near`.
-pub fn resolve(s: &[u8], table: Section, near: usize, x: Transfer) -> Found
+// Where a transfer leads: the position of its target, if it has one that starts an instruction.
+pub fn resolve(s: &[u8], table: Section, hints: &[u16], x: Transfer) -> Found
     requires { ⌜ Rising (entriesIn (now s) table) ⌝ }
     ensures { λ r. ⌜ ((m : Image) → tableOf m ≡ entriesIn (now (s .entry)) table → Resolves m (transferIn x) r) ⌝ }
 {
     if has_target(x) {
-        return find_near(s, table, near, x.target);
+        return find(s, table, hints, x.target);
     }
     Found::Nothing
 }
@@ -324,15 +305,10 @@ fn report(g: &mut Words, source: u64, x: Transfer)
     add_unresolved(g, record);
 }
 
-pub fn block_of(blocks: &[u16; 512], p: usize) -> u64
-    requires { ⌜ p < 512 ⌝ }
+// The block of position p, by the numbers of the positions.
+pub fn block_of(blocks: &[u16], p: usize) -> u64
+    requires { ⌜ p < length (now blocks) ⌝ }
     ensures { λ r. ⌜ r ≡ getD (now (blocks .entry)) p 0 ⌝ }
 {
-    wide(blocks[p])
-}
-
-fn wide(x: u16) -> u64
-    ensures { λ r. ⌜ r ≡ x ⌝ }
-{
-    x as u64
+    blocks[p] as u64
 }

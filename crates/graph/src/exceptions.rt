@@ -2,7 +2,6 @@
 use crate::drafts::handler;
 use crate::edges::block_of;
 use crate::edges::edge_between;
-use crate::lookup::Hints;
 use crate::lookup::record_at;
 use crate::ranges::Ranged;
 use crate::ranges::range_check;
@@ -36,9 +35,9 @@ pub fn add_exception_edges(
     g: &mut Words,
     s: &[u8],
     y: Layout,
-    hints: &Hints,
+    hints: &[u16],
     code_end: u64,
-    blocks: &[u16; 512],
+    blocks: &[u16],
 )
     requires { ⌜ Handled (imageIn (now s) y) (now blocks) × («code_end» ≡ codeEnd (tableOf (imageIn (now s) y))) ⌝ }
     ensures { λ _. ⌜ Added (now (g .entry)) (now (g .exit)) (exceptionEdges (imageIn (now (s .entry)) y)) [] [] ⌝ }
@@ -57,9 +56,9 @@ fn add_handler_edges(
     g: &mut Words,
     s: &[u8],
     y: Layout,
-    hints: &Hints,
+    hints: &[u16],
     code_end: u64,
-    blocks: &[u16; 512],
+    blocks: &[u16],
     h: usize,
 )
     requires { ⌜ Handled (imageIn (now s) y) (now blocks) × («code_end» ≡ codeEnd (tableOf (imageIn (now s) y))) ⌝ }
@@ -95,15 +94,7 @@ fn unwind_transfer(h: usize, entry: u64) -> Transfer
 }
 
 // The edge to block `to` of a transfer of the instruction at p, where that one keeps its exception edge.
-fn add_if_kept(
-    g: &mut Words,
-    s: &[u8],
-    y: Layout,
-    blocks: &[u16; 512],
-    p: usize,
-    to: u64,
-    x: Transfer,
-)
+fn add_if_kept(g: &mut Words, s: &[u8], y: Layout, blocks: &[u16], p: usize, to: u64, x: Transfer)
     requires { ⌜ Numbered (imageIn (now s) y) (now blocks) × (p < size (imageIn (now s) y)) ⌝ }
     requires { ⌜ (resolved (imageIn (now s) y) (transferIn x) ≡ true) × (to ≡ blockAt (imageIn (now s) y) (x .target)) ⌝ }
     ensures { λ _. ⌜ Added (now (g .entry)) (now (g .exit)) (cond (instructionAt (imageIn (now (s .entry)) y) p .keeps) (transferEdges (imageIn (now (s .entry)) y) p (transferIn x)) []) [] [] ⌝ }

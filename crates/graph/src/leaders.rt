@@ -11,7 +11,6 @@ use crate::cursor::given_at;
 use crate::leaders::flows::mark_lead;
 use crate::leaders::routes::mark_routes;
 use crate::lookup::Found;
-use crate::lookup::Hints;
 use crate::lookup::address_at;
 use crate::lookup::find;
 use crate::lookup::record_at;
@@ -43,7 +42,7 @@ const JUMP: u64 = 6;
 const EXCEPTIONAL: u64 = 9;
 
 // Which instructions of an image that passed its checks start a block; `code_end` is the greatest end of all.
-pub fn leaders(s: &[u8], y: Layout, hints: &Hints, code_end: u64) -> [bool; 512]
+pub fn leaders(s: &[u8], y: Layout, hints: &[u16], code_end: u64) -> [bool; 512]
     requires { ⌜ Passed (imageIn (now s) y) × («code_end» ≡ codeEnd (tableOf (imageIn (now s) y))) ⌝ }
     ensures { λ r. ⌜ Leading (imageIn (now (s .entry)) y) r ⌝ }
 {
@@ -61,7 +60,7 @@ pub fn leaders(s: &[u8], y: Layout, hints: &Hints, code_end: u64) -> [bool; 512]
 }
 
 // The first instruction, and the entry.
-fn mark_entry(marks: &mut [bool; 512], s: &[u8], y: Layout, hints: &Hints)
+fn mark_entry(marks: &mut [bool; 512], s: &[u8], y: Layout, hints: &[u16])
     requires { ⌜ Passed (imageIn (now s) y) ⌝ }
     ensures { λ _. ⌜ Marked (y .code .instructions .count) (entryMark (imageIn (now (s .entry)) y)) (now (marks .entry)) (now (marks .exit)) ⌝ }
 {
@@ -72,7 +71,7 @@ fn mark_entry(marks: &mut [bool; 512], s: &[u8], y: Layout, hints: &Hints)
 }
 
 // The entry, and instruction by instruction.
-fn mark_code(mut marks: [bool; 512], s: &[u8], y: Layout, hints: &Hints) -> [bool; 512]
+fn mark_code(mut marks: [bool; 512], s: &[u8], y: Layout, hints: &[u16]) -> [bool; 512]
     requires { ⌜ Passed (imageIn (now s) y) ⌝ }
     ensures { λ r. ⌜ Marked (y .code .instructions .count) (λ p. entryMark (imageIn (now (s .entry)) y) p || instructionMark (imageIn (now (s .entry)) y) p) marks r ⌝ }
 {
@@ -91,7 +90,7 @@ fn mark_visit(
     marks: &mut [bool; 512],
     s: &[u8],
     y: Layout,
-    hints: &Hints,
+    hints: &[u16],
     c: Cursor,
     routed: bool,
 ) -> Cursor
@@ -111,7 +110,7 @@ fn mark_visit(
 }
 
 // An instruction after a gap or an overlap, and the start at that end.
-fn mark_gap(marks: &mut [bool; 512], s: &[u8], y: Layout, hints: &Hints, q: usize, i: Instruction)
+fn mark_gap(marks: &mut [bool; 512], s: &[u8], y: Layout, hints: &[u16], q: usize, i: Instruction)
     requires { ⌜ Passed (imageIn (now s) y) × (q < y .code .instructions .count) × (i ≡ instructionAt (imageIn (now s) y) q) ⌝ }
     ensures { λ _. ⌜ Marked (y .code .instructions .count) (gapMark (imageIn (now (s .entry)) y) q) (now (marks .entry)) (now (marks .exit)) ⌝ }
 {
@@ -141,7 +140,7 @@ fn mark_funclet_end(
     marks: &mut [bool; 512],
     s: &[u8],
     y: Layout,
-    hints: &Hints,
+    hints: &[u16],
     q: usize,
     i: Instruction,
     routed: bool,
@@ -156,7 +155,7 @@ fn mark_funclet_end(
 }
 
 // Whether a funclet may end at q: by a Return, or by a Jump to no start.
-fn ends_funclet(s: &[u8], y: Layout, hints: &Hints, q: usize, i: Instruction) -> bool
+fn ends_funclet(s: &[u8], y: Layout, hints: &[u16], q: usize, i: Instruction) -> bool
     requires { ⌜ Rising (tableOf (imageIn (now s) y)) × (i ≡ instructionAt (imageIn (now s) y) q) ⌝ }
     ensures { λ r. ⌜ r ≡ endsFunclet (imageIn (now (s .entry)) y) q ⌝ }
 {
@@ -178,7 +177,7 @@ fn mark_handlers(
     mut marks: [bool; 512],
     s: &[u8],
     y: Layout,
-    hints: &Hints,
+    hints: &[u16],
     code_end: u64,
 ) -> [bool; 512]
     requires { ⌜ Passed (imageIn (now s) y) × («code_end» ≡ codeEnd (tableOf (imageIn (now s) y))) ⌝ }
@@ -195,7 +194,7 @@ fn mark_handler(
     marks: &mut [bool; 512],
     s: &[u8],
     y: Layout,
-    hints: &Hints,
+    hints: &[u16],
     code_end: u64,
     h: usize,
 )

@@ -9,52 +9,49 @@ use image::section::Section;
 use image::section::place;
 ghost use mathlib.Core.List.{[]};
 ghost use mathlib.Core.Path.{_≡_};
+ghost use mathlib.Core.Bool.{true};
 ghost use Prim.Native.Nat.{_+_, _<_, _≤_};
 ghost use lib.ListN.{length, getD};
 ghost use Rattle.image.specs.Image.{recordsIn};
 ghost use Rattle.image.specs.Record.{instructionFrom};
 ghost use Rattle.graph.specs.Table.{entryAt};
 ghost use Rattle.graph.specs.Lookup.{entriesIn, Rising, Finds};
+ghost use Rattle.graph.specs.declared.lookup.Found.the-variants.{At};
 
 pub enum Found {
     At(usize),
     Nothing,
 }
 
-// Where an address is likely to stand. Whatever the hints are, an answer is the same: each is tried before it is believed.
-pub type Hints = [u16; 1024];
-
-// The hints of a table: each address's position, or that of another address in the same slot.
-pub fn fill_hints(hints: &mut Hints, s: &[u8], y: Section) {
-    let n = y.count as usize;
-    for p in 0..n {
-        let slot = slot_of(address_at(s, y, p));
+// A hint says where an address is likely to stand. Whatever the hints are, an answer is the same: each is tried before it is
+// believed. This one is that address a stands at position p.
+pub fn put_hint(hints: &mut [u16], a: u64, p: usize) {
+    let slot = slot_of(a, hints.len());
+    if slot < hints.len() {
         hints[slot] = (p % 65536) as u16;
     }
 }
 
-fn slot_of(a: u64) -> usize
-    ensures { λ r. ⌜ r < 1024 ⌝ }
-{
-    let mixed = a % 0x100000000 * 0x9E3779B9;
-    (mixed / 0x400000 % 1024) as usize
-}
-
-pub fn hint_of(hints: &Hints, a: u64) -> usize {
-    let slot = slot_of(a);
-    wide(hints[slot])
-}
-
-fn wide(x: u16) -> usize {
-    x as usize
+// The slot of an address, of 2^k - 1: their number masks it, and where it comes out itself, the address has no slot. The factor
+// spreads addresses that rise by even steps.
+fn slot_of(a: u64, slots: usize) -> usize {
+    let mixed = a % 0x100000000 * 0x7972AD09;
+    (mixed / 0x400000) as usize & slots
 }
 
 // In a table whose addresses rise: by its hint, or else by halving.
-pub fn find(s: &[u8], y: Section, hints: &Hints, a: u64) -> Found
+pub fn find(s: &[u8], y: Section, hints: &[u16], a: u64) -> Found
     requires { ⌜ Rising (entriesIn (now s) y) ⌝ }
     ensures { λ r. ⌜ Finds (entriesIn (now (s .entry)) y) a r ⌝ }
 {
-    find_near(s, y, hint_of(hints, a), a)
+    let slot = slot_of(a, hints.len());
+    if slot < hints.len() {
+        let near = hints[slot] as usize;
+        if stands_at(s, y, near, a) {
+            return Found::At(near);
+        }
+    }
+    search(s, y, a)
 }
 
 // By halving.
@@ -84,14 +81,26 @@ pub fn find_near(s: &[u8], y: Section, near: usize, a: u64) -> Found
     requires { ⌜ Rising (entriesIn (now s) y) ⌝ }
     ensures { λ r. ⌜ Finds (entriesIn (now (s .entry)) y) a r ⌝ }
 {
-    let n = y.count as usize;
-    if near < n {
-        let x = address_at(s, y, near);
-        if x == a {
-            return Found::At(near);
-        }
+    if stands_at(s, y, near, a) {
+        return Found::At(near);
     }
     search(s, y, a)
+}
+
+// Whether the instruction at position i starts at address a; not where its bytes are cut off.
+fn stands_at(s: &[u8], y: Section, i: usize, a: u64) -> bool
+    requires { ⌜ Rising (entriesIn (now s) y) ⌝ }
+    ensures { λ r. ⌜ (r ≡ true → Finds (entriesIn (now (s .entry)) y) a (At i)) ⌝ }
+{
+    let n = y.count as usize;
+    if n <= i {
+        return false;
+    }
+    let at = place(y, i);
+    if s.len() < at + 8 {
+        return false;
+    }
+    octet(s, at) == a
 }
 
 // Where the instruction at position i starts, and where it ends: of its record that alone is read.
@@ -99,7 +108,11 @@ pub fn address_at(s: &[u8], y: Section, i: usize) -> u64
     requires { ⌜ i < y .count ⌝ }
     ensures { λ r. ⌜ r ≡ entryAt (entriesIn (now (s .entry)) y) i .address ⌝ }
 {
-    u64_at(s, place(y, i))
+    let at = place(y, i);
+    if s.len() < at + 8 {
+        return instruction_at(s, y, i).address;
+    }
+    octet(s, at)
 }
 
 pub fn end_at(s: &[u8], y: Section, i: usize) -> u64

@@ -1,6 +1,5 @@
 // Marks of positions, lent to be set: `[bool; 512]`, as many as a table may have.
 use crate::lookup::Found;
-use crate::lookup::Hints;
 use crate::lookup::find;
 use crate::ranges::Ranged;
 use crate::ranges::range_check;
@@ -22,7 +21,7 @@ pub fn mark_range(
     marks: &mut [bool; 512],
     s: &[u8],
     y: Section,
-    hints: &Hints,
+    hints: &[u16],
     code_end: u64,
     start: u64,
     end: u64,
@@ -45,7 +44,7 @@ pub fn mark_target_if(
     marks: &mut [bool; 512],
     s: &[u8],
     y: Section,
-    hints: &Hints,
+    hints: &[u16],
     leads: bool,
     a: u64,
 )
@@ -68,7 +67,7 @@ pub fn mark_if(marks: &mut [bool; 512], leads: bool, p: usize)
 }
 
 // The start at a, if there is one.
-pub fn mark_target(marks: &mut [bool; 512], s: &[u8], y: Section, hints: &Hints, a: u64)
+pub fn mark_target(marks: &mut [bool; 512], s: &[u8], y: Section, hints: &[u16], a: u64)
     requires { ⌜ Rising (entriesIn (now s) y) ⌝ }
     requires { ⌜ y .count ≤ 512 ⌝ }
     ensures { λ _. ⌜ Marked (y .count) (startMark (entriesIn (now (s .entry)) y) a) (now (marks .entry)) (now (marks .exit)) ⌝ }

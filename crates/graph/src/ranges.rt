@@ -2,7 +2,6 @@
 use crate::error::AddressBuildError;
 use crate::error::Checked;
 use crate::lookup::Found;
-use crate::lookup::Hints;
 use crate::lookup::end_at;
 use crate::lookup::find;
 use image::access::handler_at;
@@ -42,7 +41,7 @@ pub fn code_end(s: &[u8], y: Section) -> u64
 pub fn range_check(
     s: &[u8],
     y: Section,
-    hints: &Hints,
+    hints: &[u16],
     code_end: u64,
     start: u64,
     end: u64,
@@ -67,7 +66,7 @@ pub fn range_check(
 }
 
 // The first refusal among those of the handlers.
-pub fn check_handlers(s: &[u8], y: Layout, hints: &Hints, code_end: u64) -> Checked
+pub fn check_handlers(s: &[u8], y: Layout, hints: &[u16], code_end: u64) -> Checked
     requires { ⌜ Ended (tableOf (imageIn (now s) y)) «code_end» ⌝ }
     ensures { λ r. ⌜ checkOf r ≡ handlersCheck (imageIn (now (s .entry)) y) ⌝ }
 {
@@ -81,7 +80,7 @@ pub fn check_handlers(s: &[u8], y: Layout, hints: &Hints, code_end: u64) -> Chec
     Checked::Clear
 }
 
-fn check_handler(s: &[u8], y: Layout, hints: &Hints, code_end: u64, h: usize) -> Checked
+fn check_handler(s: &[u8], y: Layout, hints: &[u16], code_end: u64, h: usize) -> Checked
     requires { ⌜ Ended (tableOf (imageIn (now s) y)) «code_end» ⌝ }
     ensures { λ r. ⌜ checkOf r ≡ handlerCheck (imageIn (now (s .entry)) y) h ⌝ }
 {

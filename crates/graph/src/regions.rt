@@ -7,7 +7,6 @@ use crate::drafts::same_range;
 use crate::drafts::span;
 use crate::edges::block_of;
 use crate::lookup::Found;
-use crate::lookup::Hints;
 use crate::lookup::find;
 use crate::ranges::Ranged;
 use crate::ranges::range_check;
@@ -43,14 +42,7 @@ pub enum Parent {
 }
 
 // The regions and the handlers of the image, in a graph that has none.
-pub fn add_regions(
-    g: &mut Words,
-    s: &[u8],
-    y: Layout,
-    hints: &Hints,
-    code_end: u64,
-    blocks: &[u16; 512],
-)
+pub fn add_regions(g: &mut Words, s: &[u8], y: Layout, hints: &[u16], code_end: u64, blocks: &[u16])
     requires { ⌜ Handled (imageIn (now s) y) (now blocks) × («code_end» ≡ codeEnd (tableOf (imageIn (now s) y))) ⌝ }
     requires { ⌜ Whole (now g) × (heldIn (now g) .graph .regions ≡ []) × (heldIn (now g) .graph .handlers ≡ []) ⌝ }
     ensures { λ _. ⌜ Stored (now (g .entry)) (now (g .exit)) (held (withHandlers (withRegions (heldIn (now (g .entry)) .graph) (regionsOf (imageIn (now (s .entry)) y))) (handlersOf (imageIn (now (s .entry)) y)))) ⌝ }
@@ -83,9 +75,9 @@ fn store_regions(
     g: &mut Words,
     s: &[u8],
     y: Layout,
-    hints: &Hints,
+    hints: &[u16],
     code_end: u64,
-    blocks: &[u16; 512],
+    blocks: &[u16],
     starts: &[u64; 32],
     ends: &[u64; 32],
     list: &[usize; 32],
@@ -108,8 +100,8 @@ fn store_handlers(
     g: &mut Words,
     s: &[u8],
     y: Layout,
-    hints: &Hints,
-    blocks: &[u16; 512],
+    hints: &[u16],
+    blocks: &[u16],
     starts: &[u64; 32],
     ends: &[u64; 32],
     list: &[usize; 32],
@@ -132,9 +124,9 @@ fn store_handlers(
 fn region_of(
     s: &[u8],
     y: Layout,
-    hints: &Hints,
+    hints: &[u16],
     code_end: u64,
-    blocks: &[u16; 512],
+    blocks: &[u16],
     starts: &[u64; 32],
     ends: &[u64; 32],
     list: &[usize; 32],
@@ -243,9 +235,9 @@ fn same_ranges(starts: &[u64; 32], ends: &[u64; 32], h: usize, n: usize) -> u64
 fn protected_by(
     s: &[u8],
     y: Layout,
-    hints: &Hints,
+    hints: &[u16],
     code_end: u64,
-    blocks: &[u16; 512],
+    blocks: &[u16],
     h: usize,
 ) -> [u64; 16]
     requires { ⌜ Handled (imageIn (now s) y) (now blocks) × («code_end» ≡ codeEnd (tableOf (imageIn (now s) y))) ⌝ }
@@ -263,8 +255,8 @@ fn protected_by(
 }
 
 // The blocks of the instructions from `first` up to `past`.
-fn blocks_between(blocks: &[u16; 512], first: usize, past: usize) -> [u64; 16]
-    requires { ⌜ (first ≤ past) × (past ≤ 512) ⌝ }
+fn blocks_between(blocks: &[u16], first: usize, past: usize) -> [u64; 16]
+    requires { ⌜ (first ≤ past) × (past ≤ length (now blocks)) ⌝ }
     ensures { λ r. ⌜ r ≡ setBelow (λ i. getD (now (blocks .entry)) (first + i) 0) (past - first) ⌝ }
 {
     let mut set = [0u64; 16];
@@ -277,8 +269,8 @@ fn blocks_between(blocks: &[u16; 512], first: usize, past: usize) -> [u64; 16]
 fn handler_record(
     s: &[u8],
     y: Layout,
-    hints: &Hints,
-    blocks: &[u16; 512],
+    hints: &[u16],
+    blocks: &[u16],
     starts: &[u64; 32],
     ends: &[u64; 32],
     list: &[usize; 32],
@@ -319,7 +311,7 @@ fn region_in(
 }
 
 // The block of the instruction that starts at a.
-pub fn block_at(s: &[u8], y: Layout, hints: &Hints, blocks: &[u16; 512], a: u64) -> u64
+pub fn block_at(s: &[u8], y: Layout, hints: &[u16], blocks: &[u16], a: u64) -> u64
     requires { ⌜ Numbered (imageIn (now s) y) (now blocks) × (isStart (tableOf (imageIn (now s) y)) a ≡ true) ⌝ }
     ensures { λ r. ⌜ r ≡ blockAt (imageIn (now (s .entry)) y) a ⌝ }
 {

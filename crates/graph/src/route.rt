@@ -2,7 +2,6 @@
 use crate::error::AddressBuildError;
 use crate::error::Checked;
 use crate::lookup::Found;
-use crate::lookup::Hints;
 use crate::lookup::find;
 use crate::ranges::Ranged;
 use crate::ranges::range_check;
@@ -35,7 +34,7 @@ pub enum Entered {
 }
 
 // The first refusal among those of the routes. The scan carries along where a route's paths and their steps start.
-pub fn check_routes(s: &[u8], y: Layout, hints: &Hints, code_end: u64) -> Checked
+pub fn check_routes(s: &[u8], y: Layout, hints: &[u16], code_end: u64) -> Checked
     requires { ⌜ Accepted (imageIn (now s) y) × Ended (tableOf (imageIn (now s) y)) «code_end» ⌝ }
     ensures { λ r. ⌜ checkOf r ≡ routesCheck (imageIn (now (s .entry)) y) ⌝ }
 {
@@ -59,7 +58,7 @@ pub fn check_routes(s: &[u8], y: Layout, hints: &Hints, code_end: u64) -> Checke
 fn check_route(
     s: &[u8],
     t: Section,
-    hints: &Hints,
+    hints: &[u16],
     y: RouteLayout,
     code_end: u64,
     r: usize,
@@ -85,7 +84,7 @@ fn check_route(
 fn check_entries(
     s: &[u8],
     t: Section,
-    hints: &Hints,
+    hints: &[u16],
     y: RouteLayout,
     path: usize,
     n: usize,
@@ -105,7 +104,7 @@ fn check_entries(
 }
 
 // The entries of path p, whose steps start at `step`: its funclets in order, then its handler.
-fn check_path(s: &[u8], t: Section, hints: &Hints, y: RouteLayout, p: usize, step: usize) -> Entered
+fn check_path(s: &[u8], t: Section, hints: &[u16], y: RouteLayout, p: usize, step: usize) -> Entered
     requires { ⌜ AcceptedRoutes (routesIn (now s) y) × Rising (entriesIn (now s) t) × (p < length (routesIn (now s) y .paths)) × (step ≡ stepsBefore (routesIn (now s) y) p) ⌝ }
     ensures { λ e. ⌜ Enters (routesIn (now (s .entry)) y) (pathCheck (entriesIn (now (s .entry)) t) (pathIn (routesIn (now (s .entry)) y) p)) (p + 1) e ⌝ }
 {
@@ -127,7 +126,7 @@ fn check_path(s: &[u8], t: Section, hints: &Hints, y: RouteLayout, p: usize, ste
     Entered::Next(step + size)
 }
 
-fn check_entry(s: &[u8], t: Section, hints: &Hints, a: u64) -> Checked
+fn check_entry(s: &[u8], t: Section, hints: &[u16], a: u64) -> Checked
     requires { ⌜ Rising (entriesIn (now s) t) ⌝ }
     ensures { λ r. ⌜ checkOf r ≡ namedCheck (entriesIn (now (s .entry)) t) a ⌝ }
 {

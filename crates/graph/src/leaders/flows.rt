@@ -1,7 +1,6 @@
 // Marks of transfers: a block ends where an instruction leads elsewhere.
 use crate::cursor::Cursor;
 use crate::cursor::Given;
-use crate::lookup::Hints;
 use crate::marks::mark_at;
 use crate::marks::mark_target;
 use crate::transfer::Origin;
@@ -29,7 +28,7 @@ pub fn mark_lead(
     marks: &mut [bool; 512],
     s: &[u8],
     y: Layout,
-    hints: &Hints,
+    hints: &[u16],
     c: Cursor,
     given: Given,
     i: Instruction,
@@ -44,7 +43,7 @@ pub fn mark_lead(
 }
 
 // The targets of n given edges, and the next instruction.
-fn mark_given(marks: &mut [bool; 512], s: &[u8], y: Layout, hints: &Hints, c: Cursor, n: usize)
+fn mark_given(marks: &mut [bool; 512], s: &[u8], y: Layout, hints: &[u16], c: Cursor, n: usize)
     requires { ⌜ Passed (imageIn (now s) y) × (c ≡ cursorAt (imageIn (now s) y) (c .at)) × (c .at < y .code .instructions .count) × (givenFor (imageIn (now s) y) (c .at) ≡ Given.Edges n) ⌝ }
     ensures { λ _. ⌜ Marked (y .code .instructions .count) (leadMark (imageIn (now (s .entry)) y) (c .at)) (now (marks .entry)) (now (marks .exit)) ⌝ }
 {
@@ -54,7 +53,7 @@ fn mark_given(marks: &mut [bool; 512], s: &[u8], y: Layout, hints: &Hints, c: Cu
 }
 
 // The targets of a flow that ends its block, and the next instruction.
-fn mark_flow(marks: &mut [bool; 512], s: &[u8], y: Layout, hints: &Hints, c: Cursor, i: Instruction)
+fn mark_flow(marks: &mut [bool; 512], s: &[u8], y: Layout, hints: &[u16], c: Cursor, i: Instruction)
     requires { ⌜ Passed (imageIn (now s) y) × (c ≡ cursorAt (imageIn (now s) y) (c .at)) × (c .at < y .code .instructions .count) × (givenFor (imageIn (now s) y) (c .at) ≡ Given.Flow) × (i ≡ instructionAt (imageIn (now s) y) (c .at)) ⌝ }
     ensures { λ _. ⌜ Marked (y .code .instructions .count) (leadMark (imageIn (now (s .entry)) y) (c .at)) (now (marks .entry)) (now (marks .exit)) ⌝ }
 {
@@ -71,7 +70,7 @@ fn mark_names(
     marks: &mut [bool; 512],
     s: &[u8],
     y: Layout,
-    hints: &Hints,
+    hints: &[u16],
     first: usize,
     i: Instruction,
 )
@@ -95,7 +94,7 @@ fn mark_slot(
     marks: &mut [bool; 512],
     s: &[u8],
     y: Layout,
-    hints: &Hints,
+    hints: &[u16],
     i: Instruction,
     slot: Slot,
 )
@@ -112,7 +111,7 @@ fn mark_slot(
     }
 }
 
-fn mark_cases(marks: &mut [bool; 512], s: &[u8], y: Layout, hints: &Hints, first: usize, n: usize)
+fn mark_cases(marks: &mut [bool; 512], s: &[u8], y: Layout, hints: &[u16], first: usize, n: usize)
     requires { ⌜ Passed (imageIn (now s) y) × (first + n ≤ 512) ⌝ }
     ensures { λ _. ⌜ Marked (y .code .instructions .count) (caseMark (imageIn (now (s .entry)) y) first n) (now (marks .entry)) (now (marks .exit)) ⌝ }
 {
@@ -121,7 +120,7 @@ fn mark_cases(marks: &mut [bool; 512], s: &[u8], y: Layout, hints: &Hints, first
     }
 }
 
-fn mark_case(marks: &mut [bool; 512], s: &[u8], y: Layout, hints: &Hints, k: usize)
+fn mark_case(marks: &mut [bool; 512], s: &[u8], y: Layout, hints: &[u16], k: usize)
     requires { ⌜ Passed (imageIn (now s) y) ⌝ }
     ensures { λ _. ⌜ Marked (y .code .instructions .count) (caseTarget (imageIn (now (s .entry)) y) k) (now (marks .entry)) (now (marks .exit)) ⌝ }
 {
@@ -131,7 +130,7 @@ fn mark_case(marks: &mut [bool; 512], s: &[u8], y: Layout, hints: &Hints, k: usi
     mark_target(marks, s, table, hints, case.target);
 }
 
-fn mark_edges(marks: &mut [bool; 512], s: &[u8], y: Layout, hints: &Hints, first: usize, n: usize)
+fn mark_edges(marks: &mut [bool; 512], s: &[u8], y: Layout, hints: &[u16], first: usize, n: usize)
     requires { ⌜ Passed (imageIn (now s) y) × (first + n ≤ 512) ⌝ }
     ensures { λ _. ⌜ Marked (y .code .instructions .count) (edgeMark (imageIn (now (s .entry)) y) first n) (now (marks .entry)) (now (marks .exit)) ⌝ }
 {
@@ -140,7 +139,7 @@ fn mark_edges(marks: &mut [bool; 512], s: &[u8], y: Layout, hints: &Hints, first
     }
 }
 
-fn mark_edge(marks: &mut [bool; 512], s: &[u8], y: Layout, hints: &Hints, k: usize)
+fn mark_edge(marks: &mut [bool; 512], s: &[u8], y: Layout, hints: &[u16], k: usize)
     requires { ⌜ Passed (imageIn (now s) y) ⌝ }
     ensures { λ _. ⌜ Marked (y .code .instructions .count) (edgeTarget (imageIn (now (s .entry)) y) k) (now (marks .entry)) (now (marks .exit)) ⌝ }
 {

@@ -1,5 +1,4 @@
 // Marks of the routes: what they protect, and the funclets and handlers that their paths name.
-use crate::lookup::Hints;
 use crate::marks::mark_range;
 use crate::marks::mark_target_if;
 use image::access::path_at;
@@ -22,7 +21,7 @@ pub fn mark_routes(
     marks: [bool; 512],
     s: &[u8],
     y: Layout,
-    hints: &Hints,
+    hints: &[u16],
     code_end: u64,
 ) -> [bool; 512]
     requires { ⌜ Passed (imageIn (now s) y) × («code_end» ≡ codeEnd (tableOf (imageIn (now s) y))) ⌝ }
@@ -37,7 +36,7 @@ fn mark_route_ranges(
     mut marks: [bool; 512],
     s: &[u8],
     y: Layout,
-    hints: &Hints,
+    hints: &[u16],
     code_end: u64,
 ) -> [bool; 512]
     requires { ⌜ Passed (imageIn (now s) y) × («code_end» ≡ codeEnd (tableOf (imageIn (now s) y))) ⌝ }
@@ -54,7 +53,7 @@ fn mark_route_range(
     marks: &mut [bool; 512],
     s: &[u8],
     y: Layout,
-    hints: &Hints,
+    hints: &[u16],
     code_end: u64,
     r: usize,
 )
@@ -74,7 +73,7 @@ fn mark_route_range(
 }
 
 // The funclets that the routes' paths enter.
-fn mark_funclets(mut marks: [bool; 512], s: &[u8], y: Layout, hints: &Hints) -> [bool; 512]
+fn mark_funclets(mut marks: [bool; 512], s: &[u8], y: Layout, hints: &[u16]) -> [bool; 512]
     requires { ⌜ Passed (imageIn (now s) y) ⌝ }
     ensures { λ r. ⌜ Marked (y .code .instructions .count) (funcletMark (imageIn (now (s .entry)) y)) marks r ⌝ }
 {
@@ -85,7 +84,7 @@ fn mark_funclets(mut marks: [bool; 512], s: &[u8], y: Layout, hints: &Hints) -> 
     marks
 }
 
-fn mark_funclet(marks: &mut [bool; 512], s: &[u8], y: Layout, hints: &Hints, k: usize)
+fn mark_funclet(marks: &mut [bool; 512], s: &[u8], y: Layout, hints: &[u16], k: usize)
     requires { ⌜ Passed (imageIn (now s) y) ⌝ }
     ensures { λ _. ⌜ Marked (y .code .instructions .count) (stepMark (imageIn (now (s .entry)) y) k) (now (marks .entry)) (now (marks .exit)) ⌝ }
 {
@@ -101,7 +100,7 @@ fn mark_funclet(marks: &mut [bool; 512], s: &[u8], y: Layout, hints: &Hints, k: 
 }
 
 // The handlers at which they end.
-fn mark_path_ends(mut marks: [bool; 512], s: &[u8], y: Layout, hints: &Hints) -> [bool; 512]
+fn mark_path_ends(mut marks: [bool; 512], s: &[u8], y: Layout, hints: &[u16]) -> [bool; 512]
     requires { ⌜ Passed (imageIn (now s) y) ⌝ }
     ensures { λ r. ⌜ Marked (y .code .instructions .count) (pathEndMark (imageIn (now (s .entry)) y)) marks r ⌝ }
 {
@@ -112,7 +111,7 @@ fn mark_path_ends(mut marks: [bool; 512], s: &[u8], y: Layout, hints: &Hints) ->
     marks
 }
 
-fn mark_path_end(marks: &mut [bool; 512], s: &[u8], y: Layout, hints: &Hints, k: usize)
+fn mark_path_end(marks: &mut [bool; 512], s: &[u8], y: Layout, hints: &[u16], k: usize)
     requires { ⌜ Passed (imageIn (now s) y) ⌝ }
     ensures { λ _. ⌜ Marked (y .code .instructions .count) (pathMark (imageIn (now (s .entry)) y) k) (now (marks .entry)) (now (marks .exit)) ⌝ }
 {

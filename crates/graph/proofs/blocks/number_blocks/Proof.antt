@@ -16,14 +16,14 @@ use Rattle.graph.proofs.blocks.number_blocks.Tie as tie
 
 abbrev Inv-loop : tie.InvT-loop
 Inv-loop numbers₀ marks n block₀ p₀ numbers block p =
-    (1 ≤ p) × (p ≤ max 1 n) × (block < p) × (length numbers ≡ 512) × ((m : Image) → size m ≡ n → Leading m marks → (block ≡ blockOf m (p - 1)) × ((q : ℕ) → q < p → getD numbers q 0 ≡ blockOf m q))
+    (1 ≤ p) × (p ≤ max 1 n) × (block < p) × (length numbers ≡ length numbers₀) × ((m : Image) → size m ≡ n → Leading m marks → (block ≡ blockOf m (p - 1)) × ((q : ℕ) → q < p → getD numbers q 0 ≡ blockOf m q))
 
 abbrev μ-loop : tie.MeasureT-loop
 μ-loop numbers₀ marks n block₀ p₀ numbers block p = n - p
 
 loop-holds : tie.Need-loop-holds Inv-loop μ-loop
 unfolding blockOf count
-loop-holds c = (search needs, search needs, search needs, rw (c .pre .1), λ m sized leading. (refl, λ q h. let e : q ≡ 0 = omega arith in rw (e, c .pre .1)))
+loop-holds c = (search needs, search needs, search needs, refl, λ m sized leading. (refl, λ q h. let e : q ≡ 0 = omega arith in rw e (c .before .pre .2)))
 
 element-copy-out-block-behind : tie.Need-element-copy-out-block-behind Inv-loop μ-loop
 element-copy-out-block-behind c = search needs
@@ -34,8 +34,8 @@ block-behind-requires c κs = search needs
 mul-numbers : tie.Need-mul-numbers Inv-loop μ-loop
 mul-numbers c = search needs
 
-element-write-numbers : tie.Need-element-write-numbers Inv-loop μ-loop
-element-write-numbers c = search needs
+slice-write-numbers : tie.Need-slice-write-numbers Inv-loop μ-loop
+slice-write-numbers c = search needs
 
 add-p : tie.Need-add-p Inv-loop μ-loop
 add-p c = search needs
@@ -46,7 +46,7 @@ loop-less c = search needs
 loop-again : tie.Need-loop-again Inv-loop μ-loop
 loop-again c =
     let top = c .before .before .before .loop in
-    let a = c .before .before .before .before .args in
+    let a = c .before .before .before .before .before .args in
     let behind = c .block-behind in (
       search needs,
       omega (arith, c .before .before .loop-test .taken),
@@ -55,8 +55,11 @@ loop-again c =
       λ m sized leading.
           let before = top .inv .4 m sized leading in
           let now = number-is m (a .marks .now) leading (top .p) (top .block) (behind .result) (top .inv .0) (rw sized (c .before .before .loop-test .taken)) (before .0) (behind .ensures) in
-          (now ∙ ap (blockOf m) (omega arith), numbers-more m (top .numbers) (top .p) (behind .result) (omega (arith, top .inv .3, c .before .before .before .before .pre, c .before .before .loop-test .taken)) now (before .1)),
+          (now ∙ ap (blockOf m) (omega arith), numbers-more m (top .numbers) (top .p) (behind .result) (omega (arith, top .inv .3, c .before .before .before .before .before .pre, c .before .before .loop-test .taken)) now (before .1)),
     )
+
+same-length : tie.Need-same-length Inv-loop μ-loop
+same-length c = c .before .loop .inv .3
 
 returns : tie.Need-returns Inv-loop μ-loop
 returns c = λ m sized leading p h. c .before .loop .inv .4 m sized leading .1 p (omega arith)
@@ -71,8 +74,9 @@ number-blocks-spec =
     element-copy-out-block-behind
     block-behind-requires
     mul-numbers
-    element-write-numbers
+    slice-write-numbers
     add-p
     loop-less
     loop-again
+    same-length
     returns)

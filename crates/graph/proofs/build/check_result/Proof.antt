@@ -9,7 +9,7 @@ use Rattle.graph.proofs.build.check_result.Tie as tie
 
 check-continuations-requires : tie.Need-check-continuations-requires
 check-continuations-requires c κs =
-    let start = c .before in
+    let start = c .before .before in
     let m = imageIn (start .args .s .now) (start .args .y) in
     let p = parts m (start .pre .passed) in
     (passed m (start .pre .accepted) p .sourced, p .given, start .pre .leading)
@@ -20,7 +20,7 @@ returns c = rw (← rw (c .before .e .given .1) at (c .before .before .before .c
 
 check-edge-count-requires : tie.Need-check-edge-count-requires
 check-edge-count-requires c κs =
-    let start = c .before .before .before .before in
+    let start = c .before .before .before .before .before in
     let m = imageIn (start .args .s .now) (start .args .y) in
     (passed m (start .pre .accepted) (parts m (start .pre .passed)), start .pre .leading, start .pre .ended)
 

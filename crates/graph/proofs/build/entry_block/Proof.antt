@@ -10,17 +10,17 @@ use Rattle.graph.proofs.build.entry_block.Tie as tie
 
 block-at-requires : tie.Need-block-at-requires
 block-at-requires c κs =
-    let start = c .before .before .before in
+    let start = c .before .before .before .before .before in
     (start .pre .0, entry-starts (imageIn (start .args .s .now) (start .args .y)) (c .if1 .taken) (start .pre .1))
 
 returns : tie.Need-returns
 returns c =
-    let start = c .before .before .before .before in
+    let start = c .before .before .before .before .before .before in
     c .block-at .ensures ∙ entry-is (imageIn (start .args .s .now) (start .args .y)) (c .before .if1 .taken)
 
 returns-2 : tie.Need-returns-2
 returns-2 c =
-    let start = c .before .before .before in
+    let start = c .before .before .before .before .before in
     entry-none (imageIn (start .args .s .now) (start .args .y)) (c .if1 .left)
 
 pub entry-block-spec : {M : Type 1} → statement M

@@ -28,14 +28,14 @@ abbrev μ-loop : tie.MeasureT-loop
 
 returns : tie.Need-returns Inv-loop μ-loop
 returns c =
-    let start = c .before .before .before in
+    let start = c .before .before .before .before in
     let m = imageIn (start .args .s .now) (start .args .y) in
     sym (not-given m (start .pre .accepted) (c .if1 .taken) (size m))
 
 loop-holds : tie.Need-loop-holds Inv-loop μ-loop
 unfolding checks
 loop-holds c =
-    let a = c .before .before .before .before .before .before .before .args in
+    let a = c .before .before .before .before .before .before .before .before .args in
     let here = c .cursor-start .ensures (imageIn (a .s .now) (a .y)) in
     (omega (arith, ap (λ (x : Cursor). x .at) here), rw here, rw here)
 
@@ -44,14 +44,14 @@ record-at-requires c κs = c .if2 .taken
 
 cursor-after-requires : tie.Need-cursor-after-requires Inv-loop μ-loop
 cursor-after-requires c κs =
-    let start = c .before .before .before .before .before .before .before .before .before .before .before .before in
+    let start = c .before .before .before .before .before .before .before .before .before .before .before .before .before in
     let a = start .args in
     let top = c .before .before .before .before .loop in
     scan-fits (a .s .now) (a .y) (start .pre) (top .c) (top .inv .1) (c .before .before .if2 .taken) (c .before .record-at .result) (c .before .record-at .ensures) (c .given-at .result) (c .given-at .ensures)
 
 check-visit-requires : tie.Need-check-visit-requires Inv-loop μ-loop
 check-visit-requires c κs =
-    let start = c .before .before .before .before .before .before .before .before .before .before .before .before .before in
+    let start = c .before .before .before .before .before .before .before .before .before .before .before .before .before .before in
     let a = start .args in
     let top = c .before .before .before .before .before .loop in
     let visited = scan-visit (a .s .now) (a .y) (start .pre) (top .c) (top .inv .1) (c .before .before .before .if2 .taken) (c .before .before .record-at .result) (c .before .before .record-at .ensures) (c .before .given-at .result) (c .before .given-at .ensures) _ (c .cursor-after .ensures) in
@@ -60,7 +60,7 @@ check-visit-requires c κs =
 returns-2 : tie.Need-returns-2 Inv-loop μ-loop
 returns-2 c =
     let top = c .before .before .before .before .before .before .before .before .loop in
-    let a = c .before .before .before .before .before .before .before .before .before .before .before .before .before .before .before .before .args in
+    let a = c .before .before .before .before .before .before .before .before .before .before .before .before .before .before .before .before .before .args in
     let m = imageIn (a .s .now) (a .y) in
     let inside : top .c .at < size m = rw (length-records instructionFrom (a .s .now) (a .y .code .instructions)) (c .before .before .before .before .before .before .if2 .taken) in
     let told = ap checkOf (c .enum-told2 .given .1) in
@@ -68,7 +68,7 @@ returns-2 c =
 
 loop-less : tie.Need-loop-less Inv-loop μ-loop
 loop-less c =
-    let start = c .before .before .before .before .before .before .before .before .before .before .before .before .before .before .before .before in
+    let start = c .before .before .before .before .before .before .before .before .before .before .before .before .before .before .before .before .before in
     let a = start .args in
     let top = c .before .before .before .before .before .before .before .before .loop in
     let next = scan-next (a .s .now) (a .y) (start .pre) (top .c) (top .inv .1) (c .before .before .before .before .before .before .if2 .taken) (c .before .before .before .before .before .record-at .result) (c .before .before .before .before .before .record-at .ensures) (c .before .before .before .before .given-at .result) (c .before .before .before .before .given-at .ensures) _ (c .before .before .before .cursor-after .ensures) in
@@ -76,7 +76,7 @@ loop-less c =
 
 loop-again : tie.Need-loop-again Inv-loop μ-loop
 loop-again c =
-    let start = c .before .before .before .before .before .before .before .before .before .before .before .before .before .before .before .before in
+    let start = c .before .before .before .before .before .before .before .before .before .before .before .before .before .before .before .before .before in
     let a = start .args in
     let m = imageIn (a .s .now) (a .y) in
     let top = c .before .before .before .before .before .before .before .before .loop in
@@ -87,7 +87,7 @@ loop-again c =
 returns-3 : tie.Need-returns-3 Inv-loop μ-loop
 returns-3 c =
     let end = c .before .before .loop in
-    let a = c .before .before .before .before .before .before .before .before .before .before .args in
+    let a = c .before .before .before .before .before .before .before .before .before .before .before .args in
     let m = imageIn (a .s .now) (a .y) in
     let all : end .c .at ≡ size m = rw (length-records instructionFrom (a .s .now) (a .y .code .instructions)) (omega arith) in
     sym (rw all at (end .inv .2))

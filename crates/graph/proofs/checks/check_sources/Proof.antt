@@ -32,7 +32,7 @@ source-at-requires : tie.Need-source-at-requires Inv-loop μ-loop
 source-at-requires c κs = search needs
 
 find-requires : tie.Need-find-requires Inv-loop μ-loop
-find-requires c κs = c .before .before .before .before .before .before .before .pre
+find-requires c κs = c .before .before .before .before .before .before .before .before .pre
 
 enum-told : tie.Need-enum-told Inv-loop μ-loop
 enum-told c = search needs
@@ -44,7 +44,7 @@ returns : tie.Need-returns Inv-loop μ-loop
 unfolding sourceCheck sourceAt
 returns c =
     let top = c .before .before .before .before .before .before .before .loop in
-    let a = c .before .before .before .before .before .before .before .before .before .before .args in
+    let a = c .before .before .before .before .before .before .before .before .before .before .before .args in
     let m = imageIn (a .s .now) (a .y) in
     let within : top .i < length (m .sources) = rw (length-records sourceFrom (a .s .now) (a .y .code .sources)) (omega arith) in
     let none = rw (c .enum-told2 .given .1) at (c .before .before .find .ensures) in
@@ -61,7 +61,7 @@ loop-again : tie.Need-loop-again Inv-loop μ-loop
 unfolding sourceCheck sourceAt
 loop-again c =
     let top = c .before .before .before .before .before .before .before .loop in
-    let a = c .before .before .before .before .before .before .before .before .before .before .args in
+    let a = c .before .before .before .before .before .before .before .before .before .before .before .args in
     let starts = rw (c .enum-told .given .1) at (c .before .before .find .ensures) in
     let read = c .before .before .before .source-at .ensures in
     (search needs, checks-more (sourceCheck (imageIn (a .s .now) (a .y))) (top .i) (top .inv .1) ∙ rw (← read, starts .0))
@@ -69,7 +69,7 @@ loop-again c =
 returns-2 : tie.Need-returns-2 Inv-loop μ-loop
 returns-2 c =
     let end = c .before .loop in
-    let a = c .before .before .before .before .args in
+    let a = c .before .before .before .before .before .args in
     let all : end .i ≡ length (imageIn (a .s .now) (a .y) .sources) = rw (length-records sourceFrom (a .s .now) (a .y .code .sources)) (omega arith) in
     sym (rw all at (end .inv .1))
 

@@ -38,7 +38,7 @@ edge-at-requires : tie.Need-edge-at-requires Inv-loop μ-loop
 edge-at-requires c κs = search needs
 
 find-requires : tie.Need-find-requires Inv-loop μ-loop
-find-requires c κs = c .before .before .before .before .before .before .pre .0
+find-requires c κs = c .before .before .before .before .before .before .before .pre .0
 
 enum-told : tie.Need-enum-told Inv-loop μ-loop
 enum-told c = search needs
@@ -49,7 +49,7 @@ enum-told-2 c = search needs
 returns : tie.Need-returns Inv-loop μ-loop
 returns c =
     let top = c .before .before .before .before .before .before .before .loop in
-    let a = c .before .before .before .before .before .before .before .before .before .args in
+    let a = c .before .before .before .before .before .before .before .before .before .before .args in
     let none = rw (c .enum-told2 .given .1) at (c .before .before .find .ensures) in
     let read = c .before .before .before .edge-at .ensures in
     sym (checks-stop (target (a .s .now) (a .code) (a .source) (a .edge)) (top .k) (a .n) _ (search needs) (top .inv .1) (rw (← read, none)))
@@ -63,7 +63,7 @@ loop-less c = search needs
 loop-again : tie.Need-loop-again Inv-loop μ-loop
 loop-again c =
     let top = c .before .before .before .before .before .before .before .loop in
-    let a = c .before .before .before .before .before .before .before .before .before .args in
+    let a = c .before .before .before .before .before .before .before .before .before .before .args in
     let starts = rw (c .enum-told .given .1) at (c .before .before .find .ensures) in
     let read = c .before .before .before .edge-at .ensures in
     (search needs, checks-more (target (a .s .now) (a .code) (a .source) (a .edge)) (top .k) (top .inv .1) ∙ rw (← read, starts .0))
@@ -71,7 +71,7 @@ loop-again c =
 returns-2 : tie.Need-returns-2 Inv-loop μ-loop
 returns-2 c =
     let end = c .before .loop in
-    let all : end .k ≡ c .before .before .before .args .n = omega arith in
+    let all : end .k ≡ c .before .before .before .before .args .n = omega arith in
     sym (rw all at (end .inv .1))
 
 pub check-targets-spec : {M : Type 1} → statement M

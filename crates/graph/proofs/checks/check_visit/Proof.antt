@@ -15,7 +15,7 @@ enum-known-given c = search needs
 
 check-targets-requires : tie.Need-check-targets-requires
 check-targets-requires c κs =
-    let start = c .before .before .before .before .before in
+    let start = c .before .before .before .before .before .before in
     let a = start .args in
     let p = start .pre in
     let m = imageIn (a .s .now) (a .y) in
@@ -30,7 +30,7 @@ check-flow-requires c κs = search needs
 
 returns : tie.Need-returns
 returns c =
-    let start = c .before .before .before .before .before .before in
+    let start = c .before .before .before .before .before .before .before in
     let a = start .args in
     let p = start .pre in
     let m = imageIn (a .s .now) (a .y) in
@@ -39,7 +39,7 @@ returns c =
 
 returns-2 : tie.Need-returns-2
 returns-2 c =
-    let start = c .before .before .before .before .before in
+    let start = c .before .before .before .before .before .before in
     let a = start .args in
     let p = start .pre in
     let m = imageIn (a .s .now) (a .y) in

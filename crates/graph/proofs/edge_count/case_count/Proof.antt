@@ -18,11 +18,11 @@ use Rattle.graph.proofs.edge_count.case_count.Statement.{statement}
 use Rattle.graph.proofs.edge_count.case_count.Tie as tie
 
 abbrev Inv-loop : tie.InvT-loop
-Inv-loop s y first n edges₀ k₀ edges k =
+Inv-loop s y hints first n edges₀ k₀ edges k =
     (k ≤ n) × (edges ≡ count (λ i. resolved (imageIn s y) (caseTransfer (getD (imageIn s y .cases) (first + i) (caseFrom [] 0)) i)) k)
 
 abbrev μ-loop : tie.MeasureT-loop
-μ-loop s y first n edges₀ k₀ edges k = n - k
+μ-loop s y hints first n edges₀ k₀ edges k = n - k
 
 loop-holds : tie.Need-loop-holds Inv-loop μ-loop
 unfolding count
@@ -30,7 +30,7 @@ loop-holds c = (search needs, refl)
 
 add-edges : tie.Need-add-edges Inv-loop μ-loop
 add-edges c =
-    let start = c .before .before .before .before .before .before in
+    let start = c .before .before .before .before .before .before .before in
     let a = start .args in
     let m = imageIn (a .s .now) (a .y) in
     let top = c .before .before .before .before .loop in
@@ -39,7 +39,7 @@ add-edges c =
 
 loop-again : tie.Need-loop-again Inv-loop μ-loop
 loop-again c =
-    let a = c .before .before .before .before .before .before .args in
+    let a = c .before .before .before .before .before .before .before .args in
     let m = imageIn (a .s .now) (a .y) in
     let top = c .before .before .before .before .loop in
     let is = c .before .case-transfer .ensures ∙ ap (λ (x : Case). caseTransfer x (top .k)) (c .before .before .case-at .ensures) in
@@ -48,7 +48,7 @@ loop-again c =
 
 returns : tie.Need-returns Inv-loop μ-loop
 returns c =
-    let all : c .before .loop .k ≡ c .before .before .before .args .n = omega arith in
+    let all : c .before .loop .k ≡ c .before .before .before .before .args .n = omega arith in
     rw all at (c .before .loop .inv .1)
 
 pub case-count-spec : {M : Type 1} → statement M

@@ -8,7 +8,7 @@ use Rattle.graph.proofs.edge_count.end_count.Tie as tie
 
 returns : tie.Need-returns
 returns c =
-    let start = c .before .before .before in
+    let start = c .before .before .before .before in
     let a = start .args in
     let m = imageIn (a .s .now) (a .y) in
     rw (c .before .if1 .taken, flow-edges m (a .c .at) (none-given m (start .pre .0 .0 .accepted) (start .pre .0 .1) .1 (a .c .at))) (c .transfer-count .ensures)

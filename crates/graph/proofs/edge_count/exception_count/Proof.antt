@@ -23,22 +23,22 @@ abbrev μ-loop : tie.MeasureT-loop
 μ-loop s y hints code-end kept n edges₀ h₀ edges h = n - h
 
 kept-before-requires : tie.Need-kept-before-requires Inv-loop μ-loop
-kept-before-requires c κs = c .before .pre .0 .sourced .accepted .instructions-most
+kept-before-requires c κs = c .before .before .pre .0 .sourced .accepted .instructions-most
 
 cast-n : tie.Need-cast-n Inv-loop μ-loop
 cast-n c =
-    let start = c .before .before .before in
+    let start = c .before .before .before .before in
     omega (arith, start .pre .0 .sourced .accepted .handlers-most, length-records handlerFrom (start .args .s .now) (start .args .y .code .handlers))
 
 loop-holds : tie.Need-loop-holds Inv-loop μ-loop
 unfolding flat
 loop-holds c =
-    let start = c .before .before .before in
+    let start = c .before .before .before .before in
     (search needs, omega (arith, start .pre .0 .sourced .accepted .handlers-most, length-records handlerFrom (start .args .s .now) (start .args .y .code .handlers)), refl)
 
 kept-by-requires : tie.Need-kept-by-requires Inv-loop μ-loop
 kept-by-requires c κs =
-    let start = c .before .before .before .before .before .before in
+    let start = c .before .before .before .before .before .before .before in
     let m = imageIn (start .args .s .now) (start .args .y) in
     let size = length-records handlerFrom (start .args .s .now) (start .args .y .code .handlers) in (
       ((start .pre .0 .table, start .pre .2), checks-at (handlerCheck m) (length (m .handlers)) (c .before .before .loop .h) (start .pre .0 .handlers) (omega arith)),
@@ -47,7 +47,7 @@ kept-by-requires c κs =
 
 add-edges : tie.Need-add-edges Inv-loop μ-loop
 add-edges c =
-    let start = c .before .before .before .before .before .before .before in
+    let start = c .before .before .before .before .before .before .before .before in
     let m = imageIn (start .args .s .now) (start .args .y) in
     let top = c .before .before .before .loop in
     let most = start .pre .0 .sourced .accepted .instructions-most in
@@ -56,14 +56,14 @@ add-edges c =
 
 loop-again : tie.Need-loop-again Inv-loop μ-loop
 loop-again c =
-    let a = c .before .before .before .before .before .before .before .args in
+    let a = c .before .before .before .before .before .before .before .before .args in
     let m = imageIn (a .s .now) (a .y) in
     let top = c .before .before .before .loop in
     (search needs, search needs, omega (arith, top .inv .2, c .kept-by .ensures, flat-length (λ k. handlerEdges m k) (top .h)))
 
 returns : tie.Need-returns Inv-loop μ-loop
 returns c =
-    let start = c .before .before .before .before .before in
+    let start = c .before .before .before .before .before .before in
     let m = imageIn (start .args .s .now) (start .args .y) in
     let all : c .before .loop .h ≡ length (m .handlers) = omega (arith, length-records handlerFrom (start .args .s .now) (start .args .y .code .handlers)) in
     rw (handlers-edges m (start .pre .1), ← all) (c .before .loop .inv .2)

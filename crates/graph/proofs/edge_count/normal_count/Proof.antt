@@ -21,11 +21,11 @@ use Rattle.graph.proofs.edge_count.normal_count.Statement.{statement}
 use Rattle.graph.proofs.edge_count.normal_count.Tie as tie
 
 abbrev Inv-loop : tie.InvT-loop
-Inv-loop s y marks n c₀ edges₀ p₀ c edges p =
+Inv-loop s y hints marks n c₀ edges₀ p₀ c edges p =
     (p ≤ n) × (c ≡ cursorAt (imageIn s y) p) × (edges ≡ length (flat (λ q. cond (isTerminator (imageIn s y) q) (edgesAt (imageIn s y) q) []) p))
 
 abbrev μ-loop : tie.MeasureT-loop
-μ-loop s y marks n c₀ edges₀ p₀ c edges p = n - p
+μ-loop s y hints marks n c₀ edges₀ p₀ c edges p = n - p
 
 loop-holds : tie.Need-loop-holds Inv-loop μ-loop
 unfolding flat
@@ -33,7 +33,7 @@ loop-holds c = (search needs, c .cursor-start .ensures _, refl)
 
 visit-at-requires : tie.Need-visit-at-requires Inv-loop μ-loop
 visit-at-requires c κs =
-    let start = c .before .before .before .before .before in
+    let start = c .before .before .before .before .before .before in
     let m = imageIn (start .args .s .now) (start .args .y) in
     let top = c .before .loop in
     let at = ap (λ (x : Cursor). x .at) (top .inv .1) in
@@ -41,12 +41,12 @@ visit-at-requires c κs =
 
 is-terminator-requires : tie.Need-is-terminator-requires Inv-loop μ-loop
 is-terminator-requires c κs =
-    let start = c .before .before .before .before .before .before in
+    let start = c .before .before .before .before .before .before .before in
     omega (arith, length-records instructionFrom (start .args .s .now) (start .args .y .code .instructions), start .pre .0 .accepted .instructions-most)
 
 end-count-requires : tie.Need-end-count-requires Inv-loop μ-loop
 end-count-requires c κs =
-    let start = c .before .before .before .before .before .before .before in
+    let start = c .before .before .before .before .before .before .before .before in
     let m = imageIn (start .args .s .now) (start .args .y) in
     let top = c .before .before .before .loop in
     let at = ap (λ (x : Cursor). x .at) (top .inv .1) in
@@ -55,7 +55,7 @@ end-count-requires c κs =
 
 add-edges : tie.Need-add-edges Inv-loop μ-loop
 add-edges c =
-    let start = c .before .before .before .before .before .before .before .before in
+    let start = c .before .before .before .before .before .before .before .before .before in
     let a = start .args in
     let m = imageIn (a .s .now) (a .y) in
     let top = c .before .before .before .before .loop in
@@ -66,12 +66,12 @@ add-edges c =
 
 add-p : tie.Need-add-p Inv-loop μ-loop
 add-p c =
-    let start = c .before .before .before .before .before .before .before .before .before in
+    let start = c .before .before .before .before .before .before .before .before .before .before in
     omega (arith, length-records instructionFrom (start .args .s .now) (start .args .y .code .instructions), start .pre .0 .accepted .instructions-most)
 
 loop-again : tie.Need-loop-again Inv-loop μ-loop
 loop-again c =
-    let start = c .before .before .before .before .before .before .before .before .before in
+    let start = c .before .before .before .before .before .before .before .before .before .before in
     let a = start .args in
     let m = imageIn (a .s .now) (a .y) in
     let top = c .before .before .before .before .before .loop in
@@ -85,7 +85,7 @@ loop-again c =
 returns : tie.Need-returns Inv-loop μ-loop
 unfolding normalEdges
 returns c =
-    let a = c .before .before .before .before .before .args in
+    let a = c .before .before .before .before .before .before .args in
     let all : c .before .loop .p ≡ size (imageIn (a .s .now) (a .y)) = omega (arith, length-records instructionFrom (a .s .now) (a .y .code .instructions)) in
     rw (← all) (c .before .loop .inv .2)
 

@@ -7,12 +7,12 @@ use Rattle.graph.proofs.edge_count.resolves.Tie as tie
 
 returns : tie.Need-returns
 returns c =
-    let a = c .before .before .before .before .args in
+    let a = c .before .before .before .before .before .args in
     rw ((rw (c .enum-told .given .1) at (c .before .before .resolve .ensures (imageIn (a .s .now) (a .y)) refl)) .0)
 
 returns-2 : tie.Need-returns-2
 returns-2 c =
-    let a = c .before .before .before .before .args in
+    let a = c .before .before .before .before .before .args in
     rw (rw (c .enum-told2 .given .1) at (c .before .before .resolve .ensures (imageIn (a .s .now) (a .y)) refl))
 
 pub resolves-spec : {M : Type 1} → statement M

@@ -19,20 +19,20 @@ use Rattle.graph.proofs.edge_count.transfer_count.Tie as tie
 
 slots-of-requires : tie.Need-slots-of-requires
 slots-of-requires c κs =
-    let start = c .before .before in
+    let start = c .before .before .before in
     let a = start .args in
     flow-most (imageIn (a .s .now) (a .y)) (a .c .at) (a .i) (start .pre .3) _ (c .flow-under .ensures) (start .pre .0 .accepted)
 
 case-count-requires : tie.Need-case-count-requires
 case-count-requires c κs =
-    let start = c .before .before .before .before .before .before in
+    let start = c .before .before .before .before .before .before .before in
     let a = start .args in
     let m = imageIn (a .s .now) (a .y) in
     (start .pre .0 .rising, omega (arith, case-fits m (start .pre .0) (a .c) (start .pre .1) (start .pre .2), ap (λ (x : Instruction). x .cases) (start .pre .3)))
 
 add-result : tie.Need-add-result
 add-result c =
-    let start = c .before .before .before .before .before .before .before in
+    let start = c .before .before .before .before .before .before .before .before in
     let a = start .args in
     let m = imageIn (a .s .now) (a .y) in
     omega
@@ -40,7 +40,7 @@ add-result c =
 
 returns : tie.Need-returns
 returns c =
-    let start = c .before .before .before .before .before .before .before in
+    let start = c .before .before .before .before .before .before .before .before in
     let a = start .args in
     let m = imageIn (a .s .now) (a .y) in
     let flow = c .before .before .before .before .before .flow-under .ensures in
@@ -51,14 +51,14 @@ returns c =
 
 add-result-2 : tie.Need-add-result-2
 add-result-2 c =
-    let a = c .before .before .before .before .before .before .before .before .args in
+    let a = c .before .before .before .before .before .before .before .before .before .args in
     let m = imageIn (a .s .now) (a .y) in
     omega
     (arith, c .before .before .before .resolves .ensures, word-most (resolved m (transferIn (c .before .before .before .before .slot-transfer .result))), c .resolves2 .ensures, word-most (resolved m (transferIn (c .before .slot-transfer2 .result))))
 
 returns-2 : tie.Need-returns-2
 returns-2 c =
-    let start = c .before .before .before .before .before .before .before .before in
+    let start = c .before .before .before .before .before .before .before .before .before in
     let a = start .args in
     let m = imageIn (a .s .now) (a .y) in
     let flow = c .before .before .before .before .before .before .flow-under .ensures in

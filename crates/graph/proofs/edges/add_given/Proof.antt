@@ -16,18 +16,18 @@ use Rattle.graph.proofs.edges.add_given.Tie as tie
 
 returns : tie.Need-returns
 returns c =
-    let a = c .before .before .before .before .before .before .before .args in
+    let a = c .before .before .before .before .before .before .before .before .before .args in
     let t = tableOf (imageIn (a .s .now) (a .y)) in
-    absurd (false≢true (sym (rw (c .enum-told .given .1) at (c .before .before .find .ensures)) ∙ ap (λ (x : GivenEdge). isStart t (x .target)) (c .before .before .before .edge-at .ensures) ∙ c .before .before .before .before .before .before .before .pre .1 .1))
+    absurd (false≢true (sym (rw (c .enum-told .given .1) at (c .before .before .find .ensures)) ∙ ap (λ (x : GivenEdge). isStart t (x .target)) (c .before .before .before .edge-at .ensures) ∙ c .before .before .before .before .before .before .before .before .before .pre .1 .1))
 
 block-of-requires-2 : tie.Need-block-of-requires-2
 block-of-requires-2 c κs =
     let r = rw (c .before .before .to .given .1) at (c .before .before .before .before .find .ensures) in
-    omega (arith, r .2, length-entries (imageIn (c .before .before .before .before .before .before .before .before .before .args .s .now) (c .before .before .before .before .before .before .before .before .before .args .y) .instructions), c .before .before .before .before .before .before .before .before .before .pre .0 .sourced .accepted .instructions-most)
+    omega (arith, r .2, length-entries (imageIn (c .before .before .before .before .before .before .before .before .before .before .before .args .s .now) (c .before .before .before .before .before .before .before .before .before .before .before .args .y) .instructions), c .before .before .before .before .before .before .before .before .before .before .before .pre .0 .sourced .accepted .instructions-most)
 
 returns-2 : tie.Need-returns-2
 returns-2 c =
-    let start = c .before .before .before .before .before .before .before .before .before .before .before .before in
+    let start = c .before .before .before .before .before .before .before .before .before .before .before .before .before .before in
     let a = start .args in
     let m = imageIn (a .s .now) (a .y) in
     let r = rw (c .before .before .before .before .before .to .given .1) at (c .before .before .before .before .before .before .before .find .ensures) in

@@ -27,12 +27,12 @@ loop-holds c = (search needs, added-none _)
 
 add-add-given : tie.Need-add-add-given Inv-loop μ-loop
 add-add-given c =
-    let start = c .before .before .before .before in
+    let start = c .before .before .before .before .before .before in
     omega (arith, given-fits (imageIn (start .args .s .now) (start .args .y)) (start .pre .0 .sourced) (start .args .c) (start .pre .1 .0 .0) (start .pre .1 .0 .1) (start .pre .1 .1 .0))
 
 add-given-requires : tie.Need-add-given-requires Inv-loop μ-loop
 add-given-requires c κs =
-    let start = c .before .before .before .before in
+    let start = c .before .before .before .before .before .before in
     let a = start .args in
     let m = imageIn (a .s .now) (a .y) in
     let k = c .before .before .loop .k in
@@ -47,7 +47,7 @@ add-given-requires c κs =
 
 loop-again : tie.Need-loop-again Inv-loop μ-loop
 loop-again c =
-    let start = c .before .before .before .before .before in
+    let start = c .before .before .before .before .before .before .before in
     let a = start .args in
     let m = imageIn (a .s .now) (a .y) in
     let k = c .before .before .before .loop .k in
@@ -59,7 +59,7 @@ loop-again c =
 
 returns : tie.Need-returns Inv-loop μ-loop
 returns c =
-    let start = c .before .before .before in
+    let start = c .before .before .before .before .before in
     let a = start .args in
     let m = imageIn (a .s .now) (a .y) in
     let all : c .before .loop .k ≡ length (givenAt m (a .c .at)) = omega arith in

@@ -38,7 +38,7 @@ record-at-requires c κs = omega (arith, ap (λ (x : Cursor). x .at) (c .before 
 
 cursor-after-requires : tie.Need-cursor-after-requires Inv-loop μ-loop
 cursor-after-requires c κs =
-    let start = c .before .before .before .before .before .before .before .before .before in
+    let start = c .before .before .before .before .before .before .before .before .before .before .before in
     let a = start .args in
     let top = c .before .before .before .loop in
     let at = ap (λ (x : Cursor). x .at) (top .inv .1) in
@@ -47,12 +47,12 @@ cursor-after-requires c κs =
 
 is-terminator-requires : tie.Need-is-terminator-requires Inv-loop μ-loop
 is-terminator-requires c κs =
-    let start = c .before .before .before .before .before .before .before .before .before .before .before in
+    let start = c .before .before .before .before .before .before .before .before .before .before .before .before .before in
     omega (arith, length-records instructionFrom (start .args .s .now) (start .args .y .code .instructions), start .pre .0 .sourced .accepted .instructions-most)
 
 emit-if-requires : tie.Need-emit-if-requires Inv-loop μ-loop
 emit-if-requires c κs =
-    let start = c .before .before .before .before .before .before .before .before .before .before .before .before in
+    let start = c .before .before .before .before .before .before .before .before .before .before .before .before .before .before in
     let a = start .args in
     let m = imageIn (a .s .now) (a .y) in
     let top = c .before .before .before .before .before .before .loop in
@@ -70,12 +70,12 @@ emit-if-requires c κs =
 
 add-p : tie.Need-add-p Inv-loop μ-loop
 add-p c =
-    let start = c .before .before .before .before .before .before .before .before .before .before .before .before .before in
+    let start = c .before .before .before .before .before .before .before .before .before .before .before .before .before .before .before in
     omega (arith, length-records instructionFrom (start .args .s .now) (start .args .y .code .instructions), start .pre .0 .sourced .accepted .instructions-most)
 
 loop-again : tie.Need-loop-again Inv-loop μ-loop
 loop-again c =
-    let start = c .before .before .before .before .before .before .before .before .before .before .before .before .before in
+    let start = c .before .before .before .before .before .before .before .before .before .before .before .before .before .before .before in
     let a = start .args in
     let m = imageIn (a .s .now) (a .y) in
     let top = c .before .before .before .before .before .before .before .loop in
@@ -96,7 +96,7 @@ loop-again c =
 returns : tie.Need-returns Inv-loop μ-loop
 unfolding normalEdges unresolvedOf
 returns c =
-    let a = c .before .before .before .before .before .before .before .args in
+    let a = c .before .before .before .before .before .before .before .before .before .args in
     let all : c .before .loop .p ≡ size (imageIn (a .s .now) (a .y)) = omega (arith, length-records instructionFrom (a .s .now) (a .y .code .instructions)) in
     rw (← all) (c .before .loop .inv .2)
 

@@ -11,18 +11,18 @@ use Rattle.graph.proofs.edges.add_transfer.Statement.{statement}
 use Rattle.graph.proofs.edges.add_transfer.Tie as tie
 
 resolve-requires : tie.Need-resolve-requires
-resolve-requires c κs = c .before .before .before .pre .0 .sourced .rising
+resolve-requires c κs = c .before .before .before .before .pre .0 .sourced .rising
 
 block-of-requires-2 : tie.Need-block-of-requires-2
 block-of-requires-2 c κs =
-    let start = c .before .before .before .before .before .before .before .before .before in
+    let start = c .before .before .before .before .before .before .before .before .before .before in
     let m = imageIn (start .args .s .now) (start .args .y) in
     let r = rw (c .before .before .before .to .given .1) at (c .before .before .before .before .before .resolve .ensures m refl) in
-    omega (arith, r .2, start .pre .0 .sourced .accepted .instructions-most)
+    omega (arith, r .2, start .pre .0 .room)
 
 returns : tie.Need-returns
 returns c =
-    let start = c .before .before .before .before .before .before .before .before .before .before .before .before in
+    let start = c .before .before .before .before .before .before .before .before .before .before .before .before .before in
     let a = start .args in
     let m = imageIn (a .s .now) (a .y) in
     let x = transferIn (a .x) in
@@ -32,7 +32,7 @@ returns c =
 
 returns-2 : tie.Need-returns-2
 returns-2 c =
-    let start = c .before .before .before .before .before .before .before .before in
+    let start = c .before .before .before .before .before .before .before .before .before in
     let a = start .args in
     let m = imageIn (a .s .now) (a .y) in
     let x = transferIn (a .x) in
@@ -43,7 +43,6 @@ pub add-transfer-spec : {M : Type 1} → statement M
 add-transfer-spec =
     tie.close
     (tie.spec
-    (λ c κs. search needs)
     resolve-requires
     (λ c. search needs)
     (λ c κs. search needs)

@@ -25,13 +25,13 @@ abbrev μ-loop : tie.MeasureT-loop
 
 slots-of-requires : tie.Need-slots-of-requires Inv-loop μ-loop
 slots-of-requires c κs =
-    let start = c .before .before in
+    let start = c .before .before .before .before in
     let a = start .args in
     flow-most (imageIn (a .s .now) (a .y)) (a .c .at) (a .i) (start .pre .1 .2) _ (c .flow-under .ensures) (start .pre .0 .sourced .accepted)
 
 slot-count-requires : tie.Need-slot-count-requires Inv-loop μ-loop
 slot-count-requires c κs =
-    let start = c .before .before .before in
+    let start = c .before .before .before .before .before in
     let a = start .args in
     omega (arith, case-fits (imageIn (a .s .now) (a .y)) (start .pre .0 .sourced) (a .c) (start .pre .1 .0) (start .pre .1 .1), ap (λ (x : Instruction). x .cases) (start .pre .1 .2))
 
@@ -41,7 +41,7 @@ loop-holds c = (search needs, added-none _)
 
 transfer-of-requires : tie.Need-transfer-of-requires Inv-loop μ-loop
 transfer-of-requires c κs =
-    let start = c .before .before .before .before .before .before in
+    let start = c .before .before .before .before .before .before .before .before in
     let a = start .args in
     let m = imageIn (a .s .now) (a .y) in
     let cases = cases-length m (start .pre .0 .sourced) (a .c .at) (start .pre .1 .1) ∙ sym (ap (λ (x : Instruction). x .cases) (start .pre .1 .2)) in
@@ -49,11 +49,11 @@ transfer-of-requires c κs =
     ((start .pre .0 .sourced, start .pre .1 .0, start .pre .1 .1, start .pre .1 .2), (c .before .before .before .before .flow-under .ensures, c .before .before .before .slots-of .ensures, omega (arith, all, c .loop-test .taken)))
 
 add-transfer-requires : tie.Need-add-transfer-requires Inv-loop μ-loop
-add-transfer-requires c κs = let start = c .before .before .before .before .before .before .before .before in (start .pre .0, (start .pre .1 .1, ap (λ (x : Instruction). x .address) (start .pre .1 .2)))
+add-transfer-requires c κs = let start = c .before .before .before .before .before .before .before .before .before .before in (start .pre .0, (start .pre .1 .1, ap (λ (x : Instruction). x .address) (start .pre .1 .2)))
 
 loop-again : tie.Need-loop-again Inv-loop μ-loop
 loop-again c =
-    let a = c .before .before .before .before .before .before .before .before .before .args in
+    let a = c .before .before .before .before .before .before .before .before .before .before .before .args in
     let m = imageIn (a .s .now) (a .y) in
     let p = a .c .at in
     let top = c .before .before .before .before .loop in (
@@ -64,7 +64,7 @@ loop-again c =
 
 returns : tie.Need-returns Inv-loop μ-loop
 returns c =
-    let start = c .before .before .before .before .before .before in
+    let start = c .before .before .before .before .before .before .before .before in
     let a = start .args in
     let m = imageIn (a .s .now) (a .y) in
     let cases = cases-length m (start .pre .0 .sourced) (a .c .at) (start .pre .1 .1) ∙ sym (ap (λ (x : Instruction). x .cases) (start .pre .1 .2)) in

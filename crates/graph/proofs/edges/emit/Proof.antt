@@ -12,7 +12,7 @@ use Rattle.graph.proofs.edges.emit.Tie as tie
 
 add-given-edges-requires : tie.Need-add-given-edges-requires
 add-given-edges-requires c κs =
-    let start = c .before .before .before .before .before in
+    let start = c .before .before .before .before .before .before .before in
     let a = start .args in
     let v = start .pre .1 in
     let leads = sym (ap (λ (x : Visit). x .given) (v .is)) ∙ c .before .before .given .given .1 in
@@ -20,12 +20,12 @@ add-given-edges-requires c κs =
 
 add-transfers-requires : tie.Need-add-transfers-requires
 add-transfers-requires c κs =
-    let v = c .before .before .before .before .pre .1 in
-    (c .before .before .before .before .pre .0, (v .here, v .within, ap (λ (x : Visit). x .instruction) (v .is)))
+    let v = c .before .before .before .before .before .before .pre .1 in
+    (c .before .before .before .before .before .before .pre .0, (v .here, v .within, ap (λ (x : Visit). x .instruction) (v .is)))
 
 returns : tie.Need-returns
 returns c =
-    let start = c .before .before .before .before .before .before in
+    let start = c .before .before .before .before .before .before .before .before in
     let a = start .args in
     let m = imageIn (a .s .now) (a .y) in
     let leads = sym (ap (λ (x : Visit). x .given) (start .pre .1 .is)) ∙ c .before .before .before .given .given .1 in
@@ -33,7 +33,7 @@ returns c =
 
 returns-2 : tie.Need-returns-2
 returns-2 c =
-    let start = c .before .before .before .before .before in
+    let start = c .before .before .before .before .before .before .before in
     let a = start .args in
     let m = imageIn (a .s .now) (a .y) in
     let leads = leads-flow m (a .c .at) (sym (ap (λ (x : Visit). x .given) (start .pre .1 .is)) ∙ c .before .before .enum-told .given .1) in

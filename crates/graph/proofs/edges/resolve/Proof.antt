@@ -8,10 +8,10 @@ use Rattle.graph.proofs.edges.resolve.Statement.{statement}
 use Rattle.graph.proofs.edges.resolve.Tie as tie
 
 returns : tie.Need-returns
-returns c = λ m same. resolves m (transferIn (c .before .before .before .before .args .x)) (c .find-near .result) (sym (c .before .before .has-target .ensures) ∙ c .before .if1 .taken) (rw same (c .find-near .ensures))
+returns c = λ m same. resolves m (transferIn (c .before .before .before .before .before .args .x)) (c .find .result) (sym (c .before .before .has-target .ensures) ∙ c .before .if1 .taken) (rw same (c .find .ensures))
 
 returns-2 : tie.Need-returns-2
-returns-2 c = λ m same. resolved-not m (transferIn (c .before .before .before .args .x)) (sym (c .before .has-target .ensures) ∙ c .if1 .left)
+returns-2 c = λ m same. resolved-not m (transferIn (c .before .before .before .before .args .x)) (sym (c .before .has-target .ensures) ∙ c .if1 .left)
 
 pub resolve-spec : {M : Type 1} → statement M
 resolve-spec =

@@ -27,37 +27,37 @@ abbrev μ-loop : tie.MeasureT-loop
 
 returns : tie.Need-returns Inv-loop μ-loop
 returns c =
-    let a = c .before .before .before .args in
+    let a = c .before .before .before .before .before .args in
     rw (other-modes (imageIn (a .s .now) (a .y)) (c .if1 .taken)) (added-none _)
 
 cast-n : tie.Need-cast-n Inv-loop μ-loop
 cast-n c =
-    let start = c .before .before .before .before in
+    let start = c .before .before .before .before .before .before in
     omega (arith, start .pre .0 .few, length-records handlerFrom (start .args .s .now) (start .args .y .code .handlers))
 
 loop-holds : tie.Need-loop-holds Inv-loop μ-loop
 unfolding flat
 loop-holds c =
-    let start = c .before .before .before .before in
+    let start = c .before .before .before .before .before .before in
     (search needs, omega (arith, start .pre .0 .few, length-records handlerFrom (start .args .s .now) (start .args .y .code .handlers)), added-none _)
 
 add-handler-edges-requires : tie.Need-add-handler-edges-requires Inv-loop μ-loop
 add-handler-edges-requires c κs =
-    let start = c .before .before .before .before .before .before .before in
+    let start = c .before .before .before .before .before .before .before .before .before in
     let m = imageIn (start .args .s .now) (start .args .y) in
     let size = length-records handlerFrom (start .args .s .now) (start .args .y .code .handlers) in
     (start .pre, checks-at (handlerCheck m) (length (m .handlers)) (c .before .before .loop .h) (start .pre .0 .passed) (omega arith))
 
 loop-again : tie.Need-loop-again Inv-loop μ-loop
 loop-again c =
-    let a = c .before .before .before .before .before .before .before .before .args in
+    let a = c .before .before .before .before .before .before .before .before .before .before .args in
     let m = imageIn (a .s .now) (a .y) in
     let top = c .before .before .before .loop in
     (search needs, search needs, edges-more (λ k. handlerEdges m k) (top .h) (top .inv .2) (c .add-handler-edges .ensures))
 
 returns-2 : tie.Need-returns-2 Inv-loop μ-loop
 returns-2 c =
-    let a = c .before .before .before .before .before .before .args in
+    let a = c .before .before .before .before .before .before .before .before .args in
     let m = imageIn (a .s .now) (a .y) in
     let all : c .before .loop .h ≡ length (m .handlers) = omega (arith, length-records handlerFrom (a .s .now) (a .y .code .handlers)) in
     rw (handlers-edges m (c .before .before .before .if1 .left), ← all) (c .before .loop .inv .2)

@@ -26,13 +26,13 @@ abbrev μ-loop : tie.MeasureT-loop
 
 returns : tie.Need-returns Inv-loop μ-loop
 returns c =
-    let start = c .before .before .before .before .before in
+    let start = c .before .before .before .before .before .before .before in
     let a = start .args in
     absurd (range-never (imageIn (a .s .now) (a .y)) (a .h) (start .pre .1) _ (c .enum-told .given .0 .0) (c .before .before .before .handler .ensures) (rw (c .enum-told .given .1) at (c .before .before .range-check .ensures)))
 
 block-at-requires : tie.Need-block-at-requires Inv-loop μ-loop
 block-at-requires c κs =
-    let start = c .before .before .before .before .before .before in
+    let start = c .before .before .before .before .before .before .before .before in
     let a = start .args in
     (start .pre .0 .0 .numbered, rw (c .before .before .before .before .handler .ensures) (entry-clear (imageIn (a .s .now) (a .y)) (a .h) (start .pre .1)))
 
@@ -46,7 +46,7 @@ loop-holds c =
 
 add-if-kept-requires : tie.Need-add-if-kept-requires Inv-loop μ-loop
 add-if-kept-requires c κs =
-    let start = c .before .before .before .before .before .before .before .before .before .before .before in
+    let start = c .before .before .before .before .before .before .before .before .before .before .before .before .before in
     let a = start .args in
     let m = imageIn (a .s .now) (a .y) in
     let own = c .before .before .before .before .before .before .before .before .before .handler in
@@ -58,7 +58,7 @@ add-if-kept-requires c κs =
 
 loop-again : tie.Need-loop-again Inv-loop μ-loop
 loop-again c =
-    let a = c .before .before .before .before .before .before .before .before .before .before .before .before .args in
+    let a = c .before .before .before .before .before .before .before .before .before .before .before .before .before .before .args in
     let m = imageIn (a .s .now) (a .y) in
     let own = c .before .before .before .before .before .before .before .before .before .before .handler in
     let top = c .before .before .before .loop in (
@@ -70,7 +70,7 @@ loop-again c =
 
 returns-2 : tie.Need-returns-2 Inv-loop μ-loop
 returns-2 c =
-    let a = c .before .before .before .before .before .before .before .before .before .before .args in
+    let a = c .before .before .before .before .before .before .before .before .before .before .before .before .args in
     let m = imageIn (a .s .now) (a .y) in
     let own = c .before .before .before .before .before .before .before .before .handler in
     let range = rw (c .before .before .before .before .before .range .given .1) at (c .before .before .before .before .before .before .before .range-check .ensures) in

@@ -15,13 +15,13 @@ use Rattle.graph.proofs.exceptions.add_if_kept.Tie as tie
 
 record-at-requires : tie.Need-record-at-requires
 record-at-requires c κs =
-    let start = c .before in
+    let start = c .before .before in
     omega (arith, start .pre .0 .1, length-records instructionFrom (start .args .s .now) (start .args .y .code .instructions))
 
 returns : tie.Need-returns
 unfolding instructionAt
 returns c =
-    let start = c .before .before .before .before .before .before .before in
+    let start = c .before .before .before .before .before .before .before .before in
     let a = start .args in
     let m = imageIn (a .s .now) (a .y) in
     let i = c .before .before .before .before .before .record-at in

@@ -24,7 +24,7 @@ abbrev μ-loop : tie.MeasureT-loop
 μ-loop s y hints marks₀ n routed c₀ q₀ marks c q = n - q
 
 mark-entry-requires : tie.Need-mark-entry-requires Inv-loop μ-loop
-mark-entry-requires c κs = c .before .before .pre
+mark-entry-requires c κs = c .before .before .before .pre
 
 cast-n : tie.Need-cast-n Inv-loop μ-loop
 cast-n c = search needs
@@ -37,7 +37,7 @@ loop-holds c = (search needs, c .cursor-start .ensures (imageIn _ _), marks-none
 
 mark-visit-requires : tie.Need-mark-visit-requires Inv-loop μ-loop
 mark-visit-requires c κs =
-    let start = c .before .before .before .before .before .before .before .before .before in
+    let start = c .before .before .before .before .before .before .before .before .before .before in
     let a = start .args in
     let top = c .before .before .loop in
     let at = ap (λ (x : Cursor). x .at) (top .inv .1) in
@@ -59,7 +59,7 @@ loop-again c =
 returns : tie.Need-returns Inv-loop μ-loop
 returns c =
     let end = c .before .loop in
-    let a = c .before .before .before .before .before .before .before .before .args in
+    let a = c .before .before .before .before .before .before .before .before .before .args in
     let m = imageIn (a .s .now) (a .y) in
     let size-is = length-records instructionFrom (a .s .now) (a .y .code .instructions) in
     let all : end .q ≡ size m = omega (arith, size-is) in

@@ -15,12 +15,12 @@ mark-at-requires : tie.Need-mark-at-requires
 mark-at-requires c κs = search needs
 
 mark-target-if-requires : tie.Need-mark-target-if-requires
-mark-target-if-requires c κs = let start = c .before .before .before .before .before .before in (start .pre .sourced .rising, few _ _ (start .pre))
+mark-target-if-requires c κs = let start = c .before .before .before .before .before .before .before in (start .pre .sourced .rising, few _ _ (start .pre))
 
 returns : tie.Need-returns
 unfolding entryMark
 returns c =
-    let start = c .before .before .before .before .before .before .before in
+    let start = c .before .before .before .before .before .before .before .before in
     let a = start .args in
     let m = imageIn (a .s .now) (a .y) in
     mark-as (entryMark m) (λ p h. ap (λ (b : ℕ). eqb p 0 || (m .header .«has_entry» && eqb b (m .header .entry))) (entry-address m p))

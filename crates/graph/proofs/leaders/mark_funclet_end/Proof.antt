@@ -10,14 +10,14 @@ use Rattle.graph.proofs.leaders.mark_funclet_end.Statement.{statement}
 use Rattle.graph.proofs.leaders.mark_funclet_end.Tie as tie
 
 ends-funclet-requires : tie.Need-ends-funclet-requires
-ends-funclet-requires c κs = let start = c .before .before in (start .pre .0 .sourced .rising, start .pre .1)
+ends-funclet-requires c κs = let start = c .before .before .before in (start .pre .0 .sourced .rising, start .pre .1)
 
 mark-if-requires : tie.Need-mark-if-requires
 mark-if-requires c κs = search needs
 
 returns : tie.Need-returns
 returns c =
-    let start = c .before .before .before .before .before in
+    let start = c .before .before .before .before .before .before in
     let a = start .args in
     mark-as (λ p. funcletEnd (imageIn (a .s .now) (a .y)) (a .q) && eqb p (a .q))
     (λ p h. rw (sym (start .pre .2) ∙ c .before .before .before .if1 .taken) (ap (λ (b : Bool). b && eqb p (a .q)) (c .before .before .ends-funclet .ensures)))
@@ -25,7 +25,7 @@ returns c =
 
 returns-2 : tie.Need-returns-2
 returns-2 c =
-    let start = c .before .before in
+    let start = c .before .before .before in
     let a = start .args in
     mark-none (λ p. funcletEnd (imageIn (a .s .now) (a .y)) (a .q) && eqb p (a .q)) (λ p h. rw (sym (start .pre .2) ∙ c .if1 .left))
 

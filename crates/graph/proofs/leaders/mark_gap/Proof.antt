@@ -10,23 +10,23 @@ use Rattle.graph.proofs.leaders.mark_gap.Statement.{statement}
 use Rattle.graph.proofs.leaders.mark_gap.Tie as tie
 
 goes-on-requires : tie.Need-goes-on-requires
-goes-on-requires c κs = let start = c .before in (start .pre .1, start .pre .2)
+goes-on-requires c κs = let start = c .before .before in (start .pre .1, start .pre .2)
 
 returns : tie.Need-returns
-returns c = let a = c .before .before .before .args in mark-none (gapMark (imageIn (a .s .now) (a .y)) (a .q)) (λ p h. rw (sym (c .before .goes-on .ensures) ∙ c .if1 .taken))
+returns c = let a = c .before .before .before .before .args in mark-none (gapMark (imageIn (a .s .now) (a .y)) (a .q)) (λ p h. rw (sym (c .before .goes-on .ensures) ∙ c .if1 .taken))
 
 add-mark-at : tie.Need-add-mark-at
-add-mark-at c = let start = c .before .before .before .before .before in omega (arith, few _ _ (start .pre .0), start .pre .1)
+add-mark-at c = let start = c .before .before .before .before .before .before in omega (arith, few _ _ (start .pre .0), start .pre .1)
 
 mark-at-requires : tie.Need-mark-at-requires
 mark-at-requires c κs = search needs
 
 mark-target-requires : tie.Need-mark-target-requires
-mark-target-requires c κs = let start = c .before .before .before .before .before .before .before in (start .pre .0 .sourced .rising, few _ _ (start .pre .0))
+mark-target-requires c κs = let start = c .before .before .before .before .before .before .before .before in (start .pre .0 .sourced .rising, few _ _ (start .pre .0))
 
 returns-2 : tie.Need-returns-2
 returns-2 c =
-    let start = c .before .before .before .before .before .before .before .before in
+    let start = c .before .before .before .before .before .before .before .before .before in
     let a = start .args in
     let m = imageIn (a .s .now) (a .y) in
     mark-as (gapMark m (a .q)) (λ p h. rw (sym (c .before .before .before .before .before .before .goes-on .ensures) ∙ c .before .before .before .before .before .if1 .left, ← add-one (a .q), ← start .pre .2))

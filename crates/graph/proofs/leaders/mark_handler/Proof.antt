@@ -20,19 +20,19 @@ handler-at-requires c κs = search needs
 mark-range-requires : tie.Need-mark-range-requires
 unfolding handlerAt
 mark-range-requires c κs =
-    let start = c .before .before .before .before in
+    let start = c .before .before .before .before .before in
     let a = start .args in
     let m = imageIn (a .s .now) (a .y) in
     let passed = handler-range m (start .pre .0) (a .h) (rw (length-records handlerFrom (a .s .now) (a .y .code .handlers)) (start .pre .2)) in
     ((start .pre .0 .table, start .pre .1), (rw (← c .before .handler-at .ensures) at passed, few _ _ (start .pre .0)))
 
 mark-target-requires : tie.Need-mark-target-requires
-mark-target-requires c κs = let start = c .before .before .before .before .before .before in (start .pre .0 .sourced .rising, few _ _ (start .pre .0))
+mark-target-requires c κs = let start = c .before .before .before .before .before .before .before in (start .pre .0 .sourced .rising, few _ _ (start .pre .0))
 
 returns : tie.Need-returns
 unfolding handlerAt rangeMark
 returns c =
-    let a = c .before .before .before .before .before .before .before .args in
+    let a = c .before .before .before .before .before .before .before .before .args in
     let m = imageIn (a .s .now) (a .y) in
     mark-as (protectMark m (a .h))
     (λ p h. ap (λ (x : Handler). (leb (below (tableOf m) (x .start)) p && leb p (below (tableOf m) (x .end))) || eqb (addressAt m p) (x .entry)) (c .before .before .before .before .handler-at .ensures))

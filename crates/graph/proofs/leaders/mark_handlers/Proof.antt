@@ -28,7 +28,7 @@ loop-holds : tie.Need-loop-holds Inv-loop μ-loop
 loop-holds c = (search needs, marks-none (protectMark (imageIn _ _)))
 
 mark-handler-requires : tie.Need-mark-handler-requires Inv-loop μ-loop
-mark-handler-requires c κs = let start = c .before .before .before .before .before in (start .pre .0, start .pre .1, search needs)
+mark-handler-requires c κs = let start = c .before .before .before .before .before .before in (start .pre .0, start .pre .1, search needs)
 
 add-h : tie.Need-add-h Inv-loop μ-loop
 add-h c = omega (arith, c .before .before, c .before .before .before .before .struct-known)
@@ -43,7 +43,7 @@ returns : tie.Need-returns Inv-loop μ-loop
 unfolding handlerMark
 returns c =
     let end = c .before .loop in
-    let a = c .before .before .before .before .args in
+    let a = c .before .before .before .before .before .args in
     let all : end .h ≡ length (imageIn (a .s .now) (a .y) .handlers) = omega (arith, length-records handlerFrom (a .s .now) (a .y .code .handlers)) in
     rw all at (end .inv .1)
 

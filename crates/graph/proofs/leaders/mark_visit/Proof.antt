@@ -15,31 +15,31 @@ use Rattle.graph.proofs.leaders.mark_visit.Statement.{statement}
 use Rattle.graph.proofs.leaders.mark_visit.Tie as tie
 
 record-at-requires : tie.Need-record-at-requires
-record-at-requires c κs = c .before .before .before .pre .2
+record-at-requires c κs = c .before .before .before .before .pre .2
 
 mark-gap-requires : tie.Need-mark-gap-requires
-mark-gap-requires c κs = let start = c .before .before .before .before .before .before in (start .pre .0, start .pre .2, scan-instruction (start .args .s .now) (start .args .y) _ _ (c .before .before .record-at .ensures))
+mark-gap-requires c κs = let start = c .before .before .before .before .before .before .before in (start .pre .0, start .pre .2, scan-instruction (start .args .s .now) (start .args .y) _ _ (c .before .before .record-at .ensures))
 
 mark-lead-requires : tie.Need-mark-lead-requires
 mark-lead-requires c κs =
-    let start = c .before .before .before .before .before .before .before .before in
+    let start = c .before .before .before .before .before .before .before .before .before in
     let a = start .args in
     let read = c .before .before .before .before .record-at .ensures in
     (start .pre .0, start .pre .1, start .pre .2, scan-given (a .s .now) (a .y) (start .pre .0 .sourced) (a .c) (start .pre .1) (start .pre .2) _ read _ (c .before .before .before .given-at .ensures), scan-instruction (a .s .now) (a .y) _ _ read)
 
 mark-funclet-end-requires : tie.Need-mark-funclet-end-requires
-mark-funclet-end-requires c κs = let start = c .before .before .before .before .before .before .before .before .before .before .before .before .before in (start .pre .0, scan-instruction (start .args .s .now) (start .args .y) _ _ (c .before .before .before .before .before .before .before .before .before .record-at .ensures), start .pre .3)
+mark-funclet-end-requires c κs = let start = c .before .before .before .before .before .before .before .before .before .before .before .before .before .before in (start .pre .0, scan-instruction (start .args .s .now) (start .args .y) _ _ (c .before .before .before .before .before .before .before .before .before .record-at .ensures), start .pre .3)
 
 cursor-after-requires : tie.Need-cursor-after-requires
 cursor-after-requires c κs =
-    let start = c .before .before .before .before .before .before .before .before .before .before .before .before .before .before in
+    let start = c .before .before .before .before .before .before .before .before .before .before .before .before .before .before .before in
     let a = start .args in
     scan-fits (a .s .now) (a .y) (start .pre .0 .sourced) (a .c) (start .pre .1) (start .pre .2) (c .before .before .before .before .before .before .before .before .before .before .record-at .result) (c .before .before .before .before .before .before .before .before .before .before .record-at .ensures) (c .before .before .before .before .before .before .before .before .before .given-at .result) (c .before .before .before .before .before .before .before .before .before .given-at .ensures)
 
 returns : tie.Need-returns
 unfolding exceptionalMark
 returns c =
-    let start = c .before .before .before .before .before .before .before .before .before .before .before .before .before .before .before in
+    let start = c .before .before .before .before .before .before .before .before .before .before .before .before .before .before .before .before in
     let a = start .args in
     let m = imageIn (a .s .now) (a .y) in
     let q = a .c .at in

@@ -30,18 +30,18 @@ enum-told : tie.Need-enum-told Inv-loop μ-loop
 enum-told c = search needs
 
 returns : tie.Need-returns Inv-loop μ-loop
-returns c = absurd (not-clear (rw (c .enum-told .given .1) at (c .before .before .range-check .ensures)) (c .before .before .before .before .pre .1 .0))
+returns c = absurd (not-clear (rw (c .enum-told .given .1) at (c .before .before .range-check .ensures)) (c .before .before .before .before .before .pre .1 .0))
 
 add-behind : tie.Need-add-behind Inv-loop μ-loop
 add-behind c =
-    let start = c .before .before .before .before .before in
+    let start = c .before .before .before .before .before .before in
     let found = rw (c .before .first .given .1) at (c .before .before .before .range-check .ensures) in
     omega (arith, found .4, start .pre .1 .1, size-is (start .args .s .now) (start .args .y))
 
 loop-holds : tie.Need-loop-holds Inv-loop μ-loop
 loop-holds c =
     let found = rw (c .before .first .given .1) at (c .before .before .before .range-check .ensures) in
-    let start = c .before .before .before .before .before in
+    let start = c .before .before .before .before .before .before in
     (search needs, omega (arith, found .3), omega (arith, found .4, start .pre .1 .1, size-is (start .args .s .now) (start .args .y)), run-none _)
 
 mark-at-requires : tie.Need-mark-at-requires Inv-loop μ-loop
@@ -59,7 +59,7 @@ loop-again c = let top = c .before .before .before .loop in (search needs, searc
 returns-2 : tie.Need-returns-2 Inv-loop μ-loop
 returns-2 c =
     let end = c .before .loop in
-    let start = c .before .before .before .before .before .before .before in
+    let start = c .before .before .before .before .before .before .before .before in
     let found = rw (c .before .before .before .first .given .1) at (c .before .before .before .before .before .range-check .ensures) in
     let last = below (entriesIn (start .args .s .now) (start .args .y)) (start .args .end) in
     let all : end .p ≡ last + 1 = omega (arith, found .2) in

@@ -26,12 +26,12 @@ unfolding checks
 loop-holds c = (search needs, refl)
 
 check-handler-requires : tie.Need-check-handler-requires Inv-loop μ-loop
-check-handler-requires c κs = c .before .before .before .before .pre
+check-handler-requires c κs = c .before .before .before .before .before .pre
 
 returns : tie.Need-returns Inv-loop μ-loop
 returns c =
     let top = c .before .before .before .before .loop in
-    let a = c .before .before .before .before .before .before .before .args in
+    let a = c .before .before .before .before .before .before .before .before .args in
     let m = imageIn (a .s .now) (a .y) in
     let within : top .h < length (m .handlers) = rw (length-records handlerFrom (a .s .now) (a .y .code .handlers)) (omega arith) in
     let told = ap checkOf (c .enum-told2 .given .1) in
@@ -43,13 +43,13 @@ add-h c = omega (arith, c .before .before .before .before .before .struct-known 
 loop-again : tie.Need-loop-again Inv-loop μ-loop
 loop-again c =
     let top = c .before .before .before .before .loop in
-    let a = c .before .before .before .before .before .before .before .args in
+    let a = c .before .before .before .before .before .before .before .before .args in
     (search needs, checks-more (handlerCheck (imageIn (a .s .now) (a .y))) (top .h) (top .inv .1) ∙ sym (c .before .before .check-handler .ensures) ∙ ap checkOf (c .enum-told .given .1))
 
 returns-2 : tie.Need-returns-2 Inv-loop μ-loop
 returns-2 c =
     let end = c .before .loop in
-    let a = c .before .before .before .before .args in
+    let a = c .before .before .before .before .before .args in
     let all : end .h ≡ length (imageIn (a .s .now) (a .y) .handlers) = rw (length-records handlerFrom (a .s .now) (a .y .code .handlers)) (omega arith) in
     sym (rw all at (end .inv .1))
 

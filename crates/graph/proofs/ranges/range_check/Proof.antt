@@ -17,7 +17,7 @@ unfolding rangeCheck
 returns c = rw (le-ltb _ _ (c .if1 .taken))
 
 find-requires : tie.Need-find-requires
-find-requires c κs = rising _ (c .before .before .pre .0)
+find-requires c κs = rising _ (c .before .before .before .pre .0)
 
 returns-2 : tie.Need-returns-2
 unfolding rangeCheck
@@ -28,7 +28,7 @@ returns-2 c =
 returns-3 : tie.Need-returns-3
 unfolding rangeCheck
 returns-3 c =
-    let start = c .before .before .before .before .before .before .before .before in
+    let start = c .before .before .before .before .before .before .before .before .before in
     let t = entriesIn (start .args .s .now) (start .args .y) in
     let rises = c .before .before .before .before .before .before .if1 .left in
     let first = rw (c .before .before .before .first .given .1) at (c .before .before .before .before .before .find .ensures) in
@@ -38,12 +38,12 @@ returns-3 c =
     (rw (lt-ltb _ _ rises, first .0, eq-eqb _ _ last), sym (first .1), sym past, omega (arith, first .2, all), omega (arith, all))
 
 find-requires-2 : tie.Need-find-requires-2
-find-requires-2 c κs = rising _ (c .before .before .before .before .before .before .before .pre .0)
+find-requires-2 c κs = rising _ (c .before .before .before .before .before .before .before .before .pre .0)
 
 returns-4 : tie.Need-returns-4
 unfolding rangeCheck
 returns-4 c =
-    let start = c .before .before .before .before .before .before .before .before .before .before in
+    let start = c .before .before .before .before .before .before .before .before .before .before .before in
     let rises = c .before .before .before .before .before .before .before .before .if1 .left in
     let first = rw (c .before .before .before .before .before .first .given .1) at (c .before .before .before .before .before .before .before .find .ensures) in
     let none = rw (c .enum-told2 .given .1) at (c .before .before .find2 .ensures) in
@@ -52,7 +52,7 @@ returns-4 c =
 returns-5 : tie.Need-returns-5
 unfolding rangeCheck
 returns-5 c =
-    let start = c .before .before .before .before .before .before .before .before .before .before .before in
+    let start = c .before .before .before .before .before .before .before .before .before .before .before .before in
     let t = entriesIn (start .args .s .now) (start .args .y) in
     let rises = c .before .before .before .before .before .before .before .before .before .if1 .left in
     let first = rw (c .before .before .before .before .before .before .first .given .1) at (c .before .before .before .before .before .before .before .before .find .ensures) in

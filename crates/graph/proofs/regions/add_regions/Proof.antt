@@ -11,29 +11,29 @@ use Rattle.graph.proofs.regions.add_regions.Statement.{statement}
 use Rattle.graph.proofs.regions.add_regions.Tie as tie
 
 cast-n : tie.Need-cast-n
-cast-n c = let a = c .before .before .args in omega (arith, length-records handlerFrom (a .s .now) (a .y .code .handlers))
+cast-n c = let a = c .before .before .before .before .args in omega (arith, length-records handlerFrom (a .s .now) (a .y .code .handlers))
 
 returns : tie.Need-returns
 returns c =
-    let start = c .before .before .before in
+    let start = c .before .before .before .before .before in
     let a = start .args in
     let m = imageIn (a .s .now) (a .y) in
     let none : length (m .handlers) ≡ 0 = omega (arith, length-records handlerFrom (a .s .now) (a .y .code .handlers)) in
     none-stored m _ none (start .pre .1 .0) (start .pre .1 .1) (start .pre .1 .2)
 
 read-ranges-requires : tie.Need-read-ranges-requires
-read-ranges-requires c κs = (refl, refl, c .before .before .before .before .before .pre .0 .0 .few)
+read-ranges-requires c κs = (refl, refl, c .before .before .before .before .before .before .before .pre .0 .0 .few)
 
 drafts-of-requires : tie.Need-drafts-of-requires
 drafts-of-requires c κs =
-    let start = c .before .before .before .before .before .before .before .before .before in
+    let start = c .before .before .before .before .before .before .before .before .before .before .before in
     let a = start .args in
     let few = start .pre .0 .0 .few in
     (counted-none, omega (arith, length-records handlerFrom (a .s .now) (a .y .code .handlers)))
 
 store-regions-requires : tie.Need-store-regions-requires
 store-regions-requires c κs =
-    let start = c .before .before .before .before .before .before .before .before .before .before .before .before .before .before in
+    let start = c .before .before .before .before .before .before .before .before .before .before .before .before .before .before .before .before in
     let a = start .args in
     let m = imageIn (a .s .now) (a .y) in
     let extents = c .before .before .before .before .before .before .before .before .read-ranges .ensures in
@@ -43,7 +43,7 @@ store-regions-requires c κs =
 
 store-handlers-requires : tie.Need-store-handlers-requires
 store-handlers-requires c κs =
-    let start = c .before .before .before .before .before .before .before .before .before .before .before .before .before .before .before .before .before .before .before in
+    let start = c .before .before .before .before .before .before .before .before .before .before .before .before .before .before .before .before .before .before .before .before .before in
     let a = start .args in
     let m = imageIn (a .s .now) (a .y) in
     let stored = c .before .before .before .before .store-regions .ensures in

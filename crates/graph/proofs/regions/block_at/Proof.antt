@@ -10,17 +10,17 @@ use Rattle.graph.proofs.regions.block_at.Statement.{statement}
 use Rattle.graph.proofs.regions.block_at.Tie as tie
 
 returns : tie.Need-returns
-returns c = absurd (false≢true (sym (rw (c .enum-told .given .1) at (c .before .before .find .ensures)) ∙ c .before .before .before .before .pre .1))
+returns c = absurd (false≢true (sym (rw (c .enum-told .given .1) at (c .before .before .find .ensures)) ∙ c .before .before .before .before .before .before .pre .1))
 
 block-of-requires : tie.Need-block-of-requires
 block-of-requires c κs =
-    let start = c .before .before .before .before .before in
+    let start = c .before .before .before .before .before .before .before in
     let found = rw (c .before .p .given .1) at (c .before .before .before .find .ensures) in
     omega (arith, found .2, length-entries (imageIn (start .args .s .now) (start .args .y) .instructions))
 
 returns-2 : tie.Need-returns-2
 returns-2 c =
-    let start = c .before .before .before .before .before .before in
+    let start = c .before .before .before .before .before .before .before .before in
     let a = start .args in
     let found = rw (c .before .before .p .given .1) at (c .before .before .before .before .find .ensures) in
     block-found (imageIn (a .s .now) (a .y)) (a .blocks .now) (a .a) _ _ (start .pre .0) found (c .block-of .ensures)

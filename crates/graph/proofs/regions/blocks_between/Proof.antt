@@ -17,17 +17,17 @@ abbrev μ-loop : tie.MeasureT-loop
 μ-loop blocks first past set₀ p₀ set p = past - p
 
 loop-holds : tie.Need-loop-holds Inv-loop μ-loop
-loop-holds c = (search needs, search needs, set-none (λ q. getD (c .args .blocks .now) q 0) (c .args .first))
+loop-holds c = (search needs, search needs, set-none (λ q. getD (c .before .args .blocks .now) q 0) (c .before .args .first))
 
 loop-again : tie.Need-loop-again Inv-loop μ-loop
 loop-again c =
-    let a = c .before .before .before .before .before .args in
+    let a = c .before .before .before .before .before .before .args in
     let top = c .before .before .before .before .loop in
     (search needs, search needs, c .put-in .ensures ∙ ap₂ including (top .inv .2) (c .before .block-of .ensures) ∙ set-more (λ q. getD (a .blocks .now) q 0) (a .first) (top .p) (top .inv .0))
 
 returns : tie.Need-returns Inv-loop μ-loop
 returns c =
-    let all : c .before .loop .p ≡ c .before .before .args .past = omega arith in
+    let all : c .before .loop .p ≡ c .before .before .before .args .past = omega arith in
     rw all at (c .before .loop .inv .2)
 
 pub blocks-between-spec : {M : Type 1} → statement M

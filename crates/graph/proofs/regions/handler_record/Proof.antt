@@ -11,20 +11,20 @@ use Rattle.graph.proofs.regions.handler_record.Statement.{statement}
 use Rattle.graph.proofs.regions.handler_record.Tie as tie
 
 region-in-requires : tie.Need-region-in-requires
-region-in-requires c κs = let start = c .before .before in (start .pre .1 .1 .counted, start .pre .0 .2)
+region-in-requires c κs = let start = c .before .before .before .before in (start .pre .1 .1 .counted, start .pre .0 .2)
 
 same-ranges-requires : tie.Need-same-ranges-requires
-same-ranges-requires c κs = let lt = c .before .before .before .pre .0 .2 in (lt, omega arith)
+same-ranges-requires c κs = let lt = c .before .before .before .before .before .pre .0 .2 in (lt, omega arith)
 
 block-at-requires : tie.Need-block-at-requires
 block-at-requires c κs =
-    let start = c .before .before .before .before in
+    let start = c .before .before .before .before .before .before in
     (start .pre .0 .0, rw (c .before .before .handler .ensures) (entry-clear (imageIn (start .args .s .now) (start .args .y)) (start .args .h) (start .pre .0 .1)))
 
 returns : tie.Need-returns
 unfolding handlerRecord
 returns c =
-    let start = c .before .before .before .before .before in
+    let start = c .before .before .before .before .before .before .before in
     let a = start .args in
     let m = imageIn (a .s .now) (a .y) in
     let extents = start .pre .1 .0 in

@@ -10,20 +10,20 @@ use Rattle.graph.proofs.regions.protected_by.Tie as tie
 
 returns : tie.Need-returns
 returns c =
-    let start = c .before .before .before .before .before in
+    let start = c .before .before .before .before .before .before .before in
     let a = start .args in
     absurd (range-never (imageIn (a .s .now) (a .y)) (a .h) (start .pre .1) _ (c .enum-told .given .0 .0) (c .before .before .before .handler .ensures) (rw (c .enum-told .given .1) at (c .before .before .range-check .ensures)))
 
 blocks-between-requires : tie.Need-blocks-between-requires
 blocks-between-requires c κs =
-    let start = c .before .before .before .before .before .before in
+    let start = c .before .before .before .before .before .before .before .before in
     let range = rw (c .before .range .given .1) at (c .before .before .before .range-check .ensures) in
     let size = length-entries (imageIn (start .args .s .now) (start .args .y) .instructions) in
     (omega arith, omega arith)
 
 returns-2 : tie.Need-returns-2
 returns-2 c =
-    let start = c .before .before .before .before .before .before .before in
+    let start = c .before .before .before .before .before .before .before .before .before in
     let a = start .args in
     let range = rw (c .before .before .range .given .1) at (c .before .before .before .before .range-check .ensures) in
     c .blocks-between .ensures ∙ range-known (imageIn (a .s .now) (a .y)) (a .blocks .now) (a .h) _ _ _ (start .pre .0 .0 .numbered) (c .before .before .before .before .before .handler .ensures) range

@@ -21,40 +21,40 @@ use Rattle.graph.proofs.regions.region_of.Statement.{statement}
 use Rattle.graph.proofs.regions.region_of.Tie as tie
 
 mul-h : tie.Need-mul-h
-mul-h c = let within = c .before .pre .1 .0 .1 .counted .within in omega arith
+mul-h c = let within = c .before .before .before .pre .1 .0 .1 .counted .within in omega arith
 
 element-copy-out-h : tie.Need-element-copy-out-h
-element-copy-out-h c = let within = c .before .pre .1 .0 .1 .counted .within in omega arith
+element-copy-out-h c = let within = c .before .before .before .pre .1 .0 .1 .counted .within in omega arith
 
 mul-start : tie.Need-mul-start
-mul-start c = let start = c .before .before in let below = start .pre .1 .0 .1 .counted .below (start .args .r) in omega arith
+mul-start c = let start = c .before .before .before .before in let below = start .pre .1 .0 .1 .counted .below (start .args .r) in omega arith
 
 element-copy-out-start : tie.Need-element-copy-out-start
-element-copy-out-start c = let start = c .before .before in let below = start .pre .1 .0 .1 .counted .below (start .args .r) in omega arith
+element-copy-out-start c = let start = c .before .before .before .before in let below = start .pre .1 .0 .1 .counted .below (start .args .r) in omega arith
 
 mul-end : tie.Need-mul-end
-mul-end c = let start = c .before .before .before in let below = start .pre .1 .0 .1 .counted .below (start .args .r) in omega arith
+mul-end c = let start = c .before .before .before .before .before in let below = start .pre .1 .0 .1 .counted .below (start .args .r) in omega arith
 
 element-copy-out-end : tie.Need-element-copy-out-end
-element-copy-out-end c = let start = c .before .before .before in let below = start .pre .1 .0 .1 .counted .below (start .args .r) in omega arith
+element-copy-out-end c = let start = c .before .before .before .before .before in let below = start .pre .1 .0 .1 .counted .below (start .args .r) in omega arith
 
 parent-of-requires : tie.Need-parent-of-requires
-parent-of-requires c κs = let start = c .before .before .before .before in (start .pre .1 .0 .1 .counted, start .pre .1 .1)
+parent-of-requires c κs = let start = c .before .before .before .before .before .before in (start .pre .1 .0 .1 .counted, start .pre .1 .1)
 
 cast-n : tie.Need-cast-n
 cast-n c =
-    let a = c .before .before .before .before .before .before .args in
-    omega (arith, length-records handlerFrom (a .s .now) (a .y .code .handlers))
+    let start = c .before .before .before .before .before .before .before .before in
+    omega (arith, start .pre .0 .0 .few, length-records handlerFrom (start .args .s .now) (start .args .y .code .handlers))
 
 same-ranges-requires : tie.Need-same-ranges-requires
 same-ranges-requires c κs =
-    let start = c .before .before .before .before .before .before .before .before in
+    let start = c .before .before .before .before .before .before .before .before .before .before in
     let a = start .args in
     (start .pre .1 .0 .1 .counted .below (a .r), omega (arith, start .pre .0 .0 .few, length-records handlerFrom (a .s .now) (a .y .code .handlers)))
 
 protected-by-requires : tie.Need-protected-by-requires
 protected-by-requires c κs =
-    let start = c .before .before .before .before .before .before .before .before .before in
+    let start = c .before .before .before .before .before .before .before .before .before .before .before in
     let m = imageIn (start .args .s .now) (start .args .y) in
     let drafted = start .pre .1 .0 .1 in
     let r = start .args .r in
@@ -63,7 +63,7 @@ protected-by-requires c κs =
 returns : tie.Need-returns
 unfolding regionAt
 returns c =
-    let start = c .before .before .before .before .before .before .before .before .before .before in
+    let start = c .before .before .before .before .before .before .before .before .before .before .before .before in
     let a = start .args in
     let m = imageIn (a .s .now) (a .y) in
     let extents = start .pre .1 .0 .0 in

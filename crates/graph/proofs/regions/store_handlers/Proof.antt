@@ -26,17 +26,17 @@ abbrev μ-loop : tie.MeasureT-loop
 μ-loop g₀ s y hints blocks starts ends list count n h₀ g h = n - h
 
 cast-n : tie.Need-cast-n Inv-loop μ-loop
-cast-n c = let a = c .before .before .args in omega (arith, length-records handlerFrom (a .s .now) (a .y .code .handlers))
+cast-n c = let a = c .before .before .before .before .args in omega (arith, length-records handlerFrom (a .s .now) (a .y .code .handlers))
 
 loop-holds : tie.Need-loop-holds Inv-loop μ-loop
 unfolding table
 loop-holds c =
-    let start = c .before .before in
+    let start = c .before .before .before .before in
     (search needs, omega (arith, length-records handlerFrom (start .args .s .now) (start .args .y .code .handlers)), handlers-none _ (start .pre .1 .1 .0) (start .pre .1 .1 .1))
 
 handler-record-requires : tie.Need-handler-record-requires Inv-loop μ-loop
 handler-record-requires c κs =
-    let start = c .before .before .before .before .before in
+    let start = c .before .before .before .before .before .before .before in
     let m = imageIn (start .args .s .now) (start .args .y) in
     let size = length-records handlerFrom (start .args .s .now) (start .args .y .code .handlers) in
     let few = start .pre .0 .few in
@@ -44,7 +44,7 @@ handler-record-requires c κs =
 
 loop-again : tie.Need-loop-again Inv-loop μ-loop
 loop-again c =
-    let a = c .before .before .before .before .before .before .before .args in
+    let a = c .before .before .before .before .before .before .before .before .before .args in
     let top = c .before .before .before .before .loop in (
       search needs,
       search needs,
@@ -55,7 +55,7 @@ loop-again c =
 returns : tie.Need-returns Inv-loop μ-loop
 unfolding handlersOf
 returns c =
-    let a = c .before .before .before .before .args in
+    let a = c .before .before .before .before .before .before .args in
     let all : c .before .loop .h ≡ length (imageIn (a .s .now) (a .y) .handlers) = omega (arith, length-records handlerFrom (a .s .now) (a .y .code .handlers)) in
     rw all at (c .before .loop .inv .2)
 

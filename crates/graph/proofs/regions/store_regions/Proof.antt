@@ -24,14 +24,14 @@ abbrev μ-loop : tie.MeasureT-loop
 
 loop-holds : tie.Need-loop-holds Inv-loop μ-loop
 unfolding table
-loop-holds c = (search needs, regions-none _ (c .before .pre .1 .1 .0) (c .before .pre .1 .1 .1))
+loop-holds c = (search needs, regions-none _ (c .before .before .before .pre .1 .1 .0) (c .before .before .before .pre .1 .1 .1))
 
 region-of-requires : tie.Need-region-of-requires Inv-loop μ-loop
-region-of-requires c κs = let start = c .before .before .before .before in (start .pre .0, (start .pre .1 .0, search needs))
+region-of-requires c κs = let start = c .before .before .before .before .before .before in (start .pre .0, (start .pre .1 .0, search needs))
 
 loop-again : tie.Need-loop-again Inv-loop μ-loop
 loop-again c =
-    let start = c .before .before .before .before .before .before in
+    let start = c .before .before .before .before .before .before .before .before in
     let a = start .args in
     let top = c .before .before .before .before .loop in (
       search needs,
@@ -42,7 +42,7 @@ loop-again c =
 returns : tie.Need-returns Inv-loop μ-loop
 unfolding regionsOf
 returns c =
-    let start = c .before .before .before in
+    let start = c .before .before .before .before .before in
     let a = start .args in
     let all : c .before .loop .r ≡ length (drafts (imageIn (a .s .now) (a .y))) = omega (arith, drafted-size (start .pre .1 .0 .1)) in
     rw all at (c .before .loop .inv .1)

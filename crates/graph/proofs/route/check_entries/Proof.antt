@@ -22,16 +22,16 @@ abbrev μ-loop : tie.MeasureT-loop
 loop-holds : tie.Need-loop-holds Inv-loop μ-loop
 unfolding checks
 loop-holds c =
-    let a = c .before .args in
+    let a = c .before .before .args in
     let here : a .path ≡ a .path + 0 = omega arith in
-    (search needs, c .before .pre .3 ∙ ap (stepsBefore (routesIn (a .s .now) (a .y))) here, refl)
+    (search needs, c .before .before .pre .3 ∙ ap (stepsBefore (routesIn (a .s .now) (a .y))) here, refl)
 
 add-check-path : tie.Need-add-check-path Inv-loop μ-loop
-add-check-path c = omega (arith, c .before .before .before .pre .2, c .before .before .before .pre .0 .paths-most)
+add-check-path c = omega (arith, c .before .before .before .before .pre .2, c .before .before .before .before .pre .0 .paths-most)
 
 check-path-requires : tie.Need-check-path-requires Inv-loop μ-loop
 check-path-requires c κs =
-    let p = c .before .before .before .pre in
+    let p = c .before .before .before .before .pre in
     (p .0, p .1, omega (arith, p .2), c .before .loop .inv .1)
 
 returns : tie.Need-returns Inv-loop μ-loop
@@ -41,7 +41,7 @@ returns c =
 
 loop-again : tie.Need-loop-again Inv-loop μ-loop
 loop-again c =
-    let a = c .before .before .before .before .before .before .before .args in
+    let a = c .before .before .before .before .before .before .before .before .args in
     let top = c .before .before .before .before .before .loop in
     let here = rw (c .before .behind .given .1) at (c .before .before .before .check-path .ensures) in
     let on : a .path + top .k + 1 ≡ a .path + (top .k + 1) = omega arith in
@@ -50,7 +50,7 @@ loop-again c =
 returns-2 : tie.Need-returns-2 Inv-loop μ-loop
 returns-2 c =
     let end = c .before .loop in
-    let all : end .k ≡ c .before .before .before .args .n = omega arith in
+    let all : end .k ≡ c .before .before .before .before .args .n = omega arith in
     (rw all at (end .inv .2), rw all at (end .inv .1))
 
 pub check-entries-spec : {M : Type 1} → statement M

@@ -26,19 +26,19 @@ abbrev μ-loop : tie.MeasureT-loop
 μ-loop s t hints y p step path size j₀ j = size - j
 
 -- the path's steps stand among all
-among : (c : tie.After-path-at Inv-loop μ-loop) → c .before .before .args .step + c .path-at .result .steps ≤ 512
+among : (c : tie.After-path-at Inv-loop μ-loop) → c .before .before .before .args .step + c .path-at .result .steps ≤ 512
 among c =
-    let a = c .before .before .args in
-    let p = c .before .before .pre in
+    let a = c .before .before .before .args in
+    let p = c .before .before .before .pre in
     omega (arith, steps-in (routesIn (a .s .now) (a .y)) (p .0) (a .p) (p .2), p .0 .steps-most, p .3, ap (λ (x : Path). x .steps) (c .path-at .ensures))
 
 -- after the loop all of them are clear
-passed : (c : tie.After-loop Inv-loop μ-loop) → let a = c .before .before .before .before .args in let m = routesIn (a .s .now) (a .y) in
+passed : (c : tie.After-loop Inv-loop μ-loop) → let a = c .before .before .before .before .before .args in let m = routesIn (a .s .now) (a .y) in
     checks (λ (i : ℕ). stepCheck (entriesIn (a .s .now) (a .t)) (getD (m .steps) (stepsBefore m (a .p) + i) (stepFrom [] 0))) (getD (m .paths) (a .p) (pathFrom [] 0) .steps) ≡ clear
 passed c =
     let read = c .before .before .path-at .ensures in
     let all : c .before .loop .j ≡ c .before .before .path-at .result .steps = omega arith in
-    rw (all, c .before .before .before .before .pre .3, read) at (c .before .loop .inv .1)
+    rw (all, c .before .before .before .before .before .pre .3, read) at (c .before .loop .inv .1)
 
 loop-holds : tie.Need-loop-holds Inv-loop μ-loop
 unfolding checks
@@ -48,11 +48,11 @@ add-step-at : tie.Need-add-step-at Inv-loop μ-loop
 add-step-at c = omega (arith, among (c .before .before))
 
 check-entry-requires : tie.Need-check-entry-requires Inv-loop μ-loop
-check-entry-requires c κs = c .before .before .before .before .before .before .before .pre .1
+check-entry-requires c κs = c .before .before .before .before .before .before .before .before .pre .1
 
 returns : tie.Need-returns Inv-loop μ-loop
 returns c =
-    let start = c .before .before .before .before .before .before .before .before .before .before .before in
+    let start = c .before .before .before .before .before .before .before .before .before .before .before .before in
     let m = routesIn (start .args .s .now) (start .args .y) in
     let t = entriesIn (start .args .s .now) (start .args .t) in
     let top = c .before .before .before .before .before .before .before .before .loop in
@@ -67,7 +67,7 @@ add-j c = omega (arith, among (c .before .before .before .before .before))
 
 loop-again : tie.Need-loop-again Inv-loop μ-loop
 loop-again c =
-    let a = c .before .before .before .before .before .before .before .args in
+    let a = c .before .before .before .before .before .before .before .before .args in
     let t = entriesIn (a .s .now) (a .t) in
     let top = c .before .before .before .before .loop in
     let step = c .before .before .step-at in
@@ -79,11 +79,11 @@ loop-again c =
     (search needs, checks-more _ (top .j) (top .inv .1) ∙ (rw (step .ensures) at here))
 
 check-entry-requires-2 : tie.Need-check-entry-requires-2 Inv-loop μ-loop
-check-entry-requires-2 c κs = c .before .before .before .before .before .before .pre .1
+check-entry-requires-2 c κs = c .before .before .before .before .before .before .before .pre .1
 
 returns-2 : tie.Need-returns-2 Inv-loop μ-loop
 returns-2 c =
-    let start = c .before .before .before .before .before .before .before .before .before .before in
+    let start = c .before .before .before .before .before .before .before .before .before .before .before in
     let m = routesIn (start .args .s .now) (start .args .y) in
     let t = entriesIn (start .args .s .now) (start .args .t) in
     let path = c .before .before .before .before .before .before .before .before .path-at in
@@ -97,7 +97,7 @@ add-t18 c = omega (arith, among (c .before .before .before .before))
 
 returns-3 : tie.Need-returns-3 Inv-loop μ-loop
 returns-3 c =
-    let start = c .before .before .before .before .before .before in
+    let start = c .before .before .before .before .before .before .before in
     let m = routesIn (start .args .s .now) (start .args .y) in
     let t = entriesIn (start .args .s .now) (start .args .t) in
     let path = c .before .before .before .before .path-at in

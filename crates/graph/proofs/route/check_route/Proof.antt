@@ -16,22 +16,22 @@ use Rattle.graph.proofs.route.check_route.Statement.{statement}
 use Rattle.graph.proofs.route.check_route.Tie as tie
 
 range-check-requires : tie.Need-range-check-requires
-range-check-requires c κs = c .before .before .pre .0
+range-check-requires c κs = c .before .before .before .pre .0
 
 returns : tie.Need-returns
 returns c =
-    let start = c .before .before .before .before .before .before in
+    let start = c .before .before .before .before .before .before .before in
     let m = routesIn (start .args .s .now) (start .args .y) in
     let t = entriesIn (start .args .s .now) (start .args .t) in
     let range = rw (c .before .e .given .1, c .before .before .before .before .route-at .ensures) at (c .before .before .before .range-check .ensures) in
     rw (route-check m (start .pre .1 .0) (start .args .r) (start .pre .1 .1) t, range)
 
 resumes-late-requires : tie.Need-resumes-late-requires
-resumes-late-requires c κs = c .before .before .before .before .before .pre .1
+resumes-late-requires c κs = c .before .before .before .before .before .before .pre .1
 
 returns-2 : tie.Need-returns-2
 returns-2 c =
-    let start = c .before .before .before .before .before .before .before in
+    let start = c .before .before .before .before .before .before .before .before in
     let m = routesIn (start .args .s .now) (start .args .y) in
     let t = entriesIn (start .args .s .now) (start .args .t) in
     let range = rw (c .before .before .enum-told .given .1, c .before .before .before .before .before .route-at .ensures) at (c .before .before .before .before .range-check .ensures) in
@@ -40,14 +40,14 @@ returns-2 c =
 
 check-entries-requires : tie.Need-check-entries-requires
 check-entries-requires c κs =
-    let start = c .before .before .before .before .before .before .before in
+    let start = c .before .before .before .before .before .before .before .before in
     let p = start .pre .1 in
     let within = paths-in (routesIn (start .args .s .now) (start .args .y)) (p .0) (start .args .r) (p .1) in
     (p .0, rising _ (start .pre .0 .0), omega (arith, within, p .2, ap (λ (x : Route). x .paths) (c .before .before .before .before .before .route-at .ensures)), p .3)
 
 returns-3 : tie.Need-returns-3
 returns-3 c =
-    let start = c .before .before .before .before .before .before .before .before in
+    let start = c .before .before .before .before .before .before .before .before .before in
     let a = start .args in
     let p = start .pre .1 in
     let m = routesIn (a .s .now) (a .y) in

@@ -30,29 +30,29 @@ unfolding checks pathsBefore stepsBefore total
 loop-holds c = (search needs, refl, refl, refl)
 
 -- route r stands among all
-among : (c : tie.In-loop Inv-loop μ-loop) → let a = c .before .before .before .before .before .before .before .args in
+among : (c : tie.In-loop Inv-loop μ-loop) → let a = c .before .before .before .before .before .before .before .before .args in
     c .before .loop .r < length (recordsIn routeFrom (a .s .now) (a .y .routes .routes))
 among c =
-    let a = c .before .before .before .before .before .before .before .args in
+    let a = c .before .before .before .before .before .before .before .before .args in
     rw (length-records routeFrom (a .s .now) (a .y .routes .routes)) (omega arith)
 
 check-route-requires : tie.Need-check-route-requires Inv-loop μ-loop
 check-route-requires c κs =
-    let p = c .before .before .before .before .before .before .before .pre in
+    let p = c .before .before .before .before .before .before .before .before .pre in
     let top = c .before .loop in
     (p .1, (p .0 .routed, among c, top .inv .1, top .inv .2))
 
 returns : tie.Need-returns Inv-loop μ-loop
 unfolding routes
 returns c =
-    let a = c .before .before .before .before .before .before .before .before .before .before .before .args in
+    let a = c .before .before .before .before .before .before .before .before .before .before .before .before .args in
     let top = c .before .before .before .before .before .loop in
     let within : top .r < length (routesOf (routesIn (a .s .now) (a .y .routes))) = rw (length-routes (routesIn (a .s .now) (a .y .routes))) (among (c .before .before .before .before)) in
     sym (checks-stop _ (top .r) _ _ within (top .inv .3) (rw (c .before .e .given .1) at (c .before .before .before .check-route .ensures)))
 
 add-path : tie.Need-add-path Inv-loop μ-loop
 add-path c =
-    let start = c .before .before .before .before .before .before .before .before .before .before .before .before .before in
+    let start = c .before .before .before .before .before .before .before .before .before .before .before .before .before .before in
     let m = routesIn (start .args .s .now) (start .args .y .routes) in
     let top = c .before .before .before .before .before .before .before .loop in
     let ok = start .pre .0 .routed in
@@ -63,7 +63,7 @@ add-r c = omega (arith, c .before .before .before .before .before .before .befor
 
 loop-again : tie.Need-loop-again Inv-loop μ-loop
 loop-again c =
-    let start = c .before .before .before .before .before .before .before .before .before .before .before .before .before in
+    let start = c .before .before .before .before .before .before .before .before .before .before .before .before .before .before in
     let m = routesIn (start .args .s .now) (start .args .y .routes) in
     let top = c .before .before .before .before .before .before .before .loop in
     let here = rw (c .before .before .before .next .given .1) at (c .before .before .before .before .before .check-route .ensures) in
@@ -73,7 +73,7 @@ loop-again c =
 returns-2 : tie.Need-returns-2 Inv-loop μ-loop
 unfolding routes
 returns-2 c =
-    let a = c .before .before .before .before .before .before .before .args in
+    let a = c .before .before .before .before .before .before .before .before .args in
     let end = c .before .loop in
     let m = routesIn (a .s .now) (a .y .routes) in
     let all : end .r ≡ length (routesOf m) = rw (length-routes m, length-records routeFrom (a .s .now) (a .y .routes .routes)) (omega arith) in

@@ -14,11 +14,11 @@ case-at-requires : tie.Need-case-at-requires
 case-at-requires c κs = search needs
 
 mark-target-requires : tie.Need-mark-target-requires
-mark-target-requires c κs = let start = c .before .before .before .before .before in (start .pre .sourced .rising, few _ _ (start .pre))
+mark-target-requires c κs = let start = c .before .before .before .before .before .before in (start .pre .sourced .rising, few _ _ (start .pre))
 
 returns : tie.Need-returns
 returns c =
-    let a = c .before .before .before .before .before .before .args in
+    let a = c .before .before .before .before .before .before .before .args in
     let m = imageIn (a .s .now) (a .y) in
     mark-as (caseTarget m (a .k)) (λ p h. ap (λ (x : Case). eqb (x .target) (addressAt m p)) (c .before .before .case-at .ensures)) (mark-lead m _ (c .mark-target .ensures))
 

@@ -21,13 +21,13 @@ loop-holds : tie.Need-loop-holds Inv-loop μ-loop
 loop-holds c = (search needs, marks-none (λ j p. caseTarget (imageIn _ _) (_ + j) p))
 
 add-mark-case : tie.Need-add-mark-case Inv-loop μ-loop
-add-mark-case c = omega (arith, c .before .before .before .before .pre .1)
+add-mark-case c = omega (arith, c .before .before .before .before .before .pre .1)
 
 mark-case-requires : tie.Need-mark-case-requires Inv-loop μ-loop
 mark-case-requires c κs = search needs
 
 add-k : tie.Need-add-k Inv-loop μ-loop
-add-k c = omega (arith, c .before .before .before .before .before .pre .1)
+add-k c = omega (arith, c .before .before .before .before .before .before .pre .1)
 
 loop-less : tie.Need-loop-less Inv-loop μ-loop
 loop-less c = search needs
@@ -35,14 +35,14 @@ loop-less c = search needs
 loop-again : tie.Need-loop-again Inv-loop μ-loop
 loop-again c =
     let top = c .before .before .before .loop in
-    let a = c .before .before .before .before .before .args in
+    let a = c .before .before .before .before .before .before .args in
     (search needs, marks-more (λ j p. caseTarget (imageIn (a .s .now) (a .y)) (a .first + j) p) (top .k) (top .inv .1) (c .mark-case .ensures))
 
 returns : tie.Need-returns Inv-loop μ-loop
 unfolding caseMark
 returns c =
     let end = c .before .loop in
-    let all : end .k ≡ c .before .before .before .args .n = omega arith in
+    let all : end .k ≡ c .before .before .before .before .args .n = omega arith in
     rw all at (end .inv .1)
 
 pub mark-cases-spec : {M : Type 1} → statement M

@@ -21,13 +21,13 @@ loop-holds : tie.Need-loop-holds Inv-loop μ-loop
 loop-holds c = (search needs, marks-none (λ j p. edgeTarget (imageIn _ _) (_ + j) p))
 
 add-mark-edge : tie.Need-add-mark-edge Inv-loop μ-loop
-add-mark-edge c = omega (arith, c .before .before .before .before .pre .1)
+add-mark-edge c = omega (arith, c .before .before .before .before .before .pre .1)
 
 mark-edge-requires : tie.Need-mark-edge-requires Inv-loop μ-loop
 mark-edge-requires c κs = search needs
 
 add-k : tie.Need-add-k Inv-loop μ-loop
-add-k c = omega (arith, c .before .before .before .before .before .pre .1)
+add-k c = omega (arith, c .before .before .before .before .before .before .pre .1)
 
 loop-less : tie.Need-loop-less Inv-loop μ-loop
 loop-less c = search needs
@@ -35,14 +35,14 @@ loop-less c = search needs
 loop-again : tie.Need-loop-again Inv-loop μ-loop
 loop-again c =
     let top = c .before .before .before .loop in
-    let a = c .before .before .before .before .before .args in
+    let a = c .before .before .before .before .before .before .args in
     (search needs, marks-more (λ j p. edgeTarget (imageIn (a .s .now) (a .y)) (a .first + j) p) (top .k) (top .inv .1) (c .mark-edge .ensures))
 
 returns : tie.Need-returns Inv-loop μ-loop
 unfolding edgeMark
 returns c =
     let end = c .before .loop in
-    let all : end .k ≡ c .before .before .before .args .n = omega arith in
+    let all : end .k ≡ c .before .before .before .before .args .n = omega arith in
     rw all at (end .inv .1)
 
 pub mark-edges-spec : {M : Type 1} → statement M

@@ -12,7 +12,7 @@ flow-under-requires : tie.Need-flow-under-requires
 flow-under-requires c κs = search needs
 
 slots-of-requires : tie.Need-slots-of-requires
-slots-of-requires c κs = let start = c .before .before .before in rw (c .flow-under .ensures) (under-most _ _ (start .pre .1))
+slots-of-requires c κs = let start = c .before .before .before .before in rw (c .flow-under .ensures) (under-most _ _ (start .pre .1))
 
 mark-slot-requires : tie.Need-mark-slot-requires
 mark-slot-requires c κs = search needs
@@ -22,12 +22,12 @@ cases-of-requires c κs = search needs
 
 mark-cases-requires : tie.Need-mark-cases-requires
 mark-cases-requires c κs =
-    let start = c .before .before .before .before .before .before .before .before in
+    let start = c .before .before .before .before .before .before .before .before .before in
     (start .pre .0, omega (arith, start .pre .2, c .cases-of .ensures, switch-most (c .before .before .before .before .before .flow-under .result) (start .args .i)))
 
 returns : tie.Need-returns
 returns c =
-    let a = c .before .before .before .before .before .before .before .before .before .args in
+    let a = c .before .before .before .before .before .before .before .before .before .before .args in
     let m = imageIn (a .s .now) (a .y) in
     mark-as (namesMark m (a .first) (a .i))
     (λ p h. names-are m (a .first) (a .i) _ _ _ (c .before .before .before .before .before .before .flow-under .ensures) (c .before .before .before .before .before .slots-of .ensures) (c .before .cases-of .ensures) p)

@@ -16,11 +16,11 @@ step-at-requires : tie.Need-step-at-requires
 step-at-requires c κs = search needs
 
 mark-target-if-requires : tie.Need-mark-target-if-requires
-mark-target-if-requires c κs = let start = c .before .before .before .before in (start .pre .sourced .rising, few _ _ (start .pre))
+mark-target-if-requires c κs = let start = c .before .before .before .before .before in (start .pre .sourced .rising, few _ _ (start .pre))
 
 returns : tie.Need-returns
 returns c =
-    let a = c .before .before .before .before .before .args in
+    let a = c .before .before .before .before .before .before .args in
     let m = imageIn (a .s .now) (a .y) in
     mark-as (stepMark m (a .k)) (λ p h. ap₂ (λ (x : Step) (b : ℕ). eqb (x .code) 0 && eqb b (x .value)) (c .before .before .before .step-at .ensures) (entry-address m p)) (c .mark-target-if .ensures)
 

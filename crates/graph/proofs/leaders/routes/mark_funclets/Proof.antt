@@ -42,7 +42,7 @@ returns : tie.Need-returns Inv-loop μ-loop
 unfolding funcletMark
 returns c =
     let end = c .before .loop in
-    let a = c .before .before .before .before .args in
+    let a = c .before .before .before .before .before .args in
     let all : end .k ≡ length (imageIn (a .s .now) (a .y) .routes .steps) = omega (arith, length-records stepFrom (a .s .now) (a .y .routes .steps)) in
     rw all at (end .inv .1)
 

@@ -16,11 +16,11 @@ path-at-requires : tie.Need-path-at-requires
 path-at-requires c κs = search needs
 
 mark-target-if-requires : tie.Need-mark-target-if-requires
-mark-target-if-requires c κs = let start = c .before .before .before .before in (start .pre .sourced .rising, few _ _ (start .pre))
+mark-target-if-requires c κs = let start = c .before .before .before .before .before in (start .pre .sourced .rising, few _ _ (start .pre))
 
 returns : tie.Need-returns
 returns c =
-    let a = c .before .before .before .before .before .args in
+    let a = c .before .before .before .before .before .before .args in
     let m = imageIn (a .s .now) (a .y) in
     mark-as (pathMark m (a .k)) (λ p h. ap₂ (λ (x : Path) (b : ℕ). eqb (x .end) 0 && eqb b (x .handler)) (c .before .before .before .path-at .ensures) (entry-address m p)) (c .mark-target-if .ensures)
 

@@ -42,7 +42,7 @@ returns : tie.Need-returns Inv-loop μ-loop
 unfolding pathEndMark
 returns c =
     let end = c .before .loop in
-    let a = c .before .before .before .before .args in
+    let a = c .before .before .before .before .before .args in
     let all : end .k ≡ length (imageIn (a .s .now) (a .y) .routes .paths) = omega (arith, length-records pathFrom (a .s .now) (a .y .routes .paths)) in
     rw all at (end .inv .1)
 

@@ -16,7 +16,7 @@ route-at-requires c κs = search needs
 
 mark-range-requires : tie.Need-mark-range-requires
 mark-range-requires c κs =
-    let start = c .before .before .before in
+    let start = c .before .before .before .before in
     let a = start .args in
     let m = imageIn (a .s .now) (a .y) in
     let within : a .r < length (m .routes .routes) = rw (length-records routeFrom (a .s .now) (a .y .routes .routes)) (start .pre .2) in
@@ -26,7 +26,7 @@ mark-range-requires c κs =
 returns : tie.Need-returns
 unfolding rangeMark
 returns c =
-    let start = c .before .before .before .before in
+    let start = c .before .before .before .before .before in
     let a = start .args in
     let m = imageIn (a .s .now) (a .y) in
     let within : a .r < length (m .routes .routes) = rw (length-records routeFrom (a .s .now) (a .y .routes .routes)) (start .pre .2) in
