@@ -1,8 +1,6 @@
 // Address look-up: the position of the instruction that starts at an address.
-use image::access::instruction_at;
-use image::little::byte_at;
+use image::access::instruction_from;
 use image::little::octet;
-use image::little::quad;
 use image::little::u64_at;
 use image::record::Instruction;
 use image::section::Section;
@@ -10,8 +8,8 @@ use image::section::place;
 ghost use mathlib.Core.List.{[]};
 ghost use mathlib.Core.Path.{_≡_};
 ghost use mathlib.Core.Bool.{true};
-ghost use Prim.Native.Nat.{_+_, _<_, _≤_};
-ghost use lib.ListN.{length, getD};
+ghost use Prim.Native.Nat.{_<_};
+ghost use lib.ListN.{getD};
 ghost use Rattle.image.specs.Image.{recordsIn};
 ghost use Rattle.image.specs.Record.{instructionFrom};
 ghost use Rattle.graph.specs.Table.{entryAt};
@@ -108,11 +106,7 @@ pub fn address_at(s: &[u8], y: Section, i: usize) -> u64
     requires { ⌜ i < y .count ⌝ }
     ensures { λ r. ⌜ r ≡ entryAt (entriesIn (now (s .entry)) y) i .address ⌝ }
 {
-    let at = place(y, i);
-    if s.len() < at + 8 {
-        return instruction_at(s, y, i).address;
-    }
-    octet(s, at)
+    u64_at(s, place(y, i))
 }
 
 pub fn end_at(s: &[u8], y: Section, i: usize) -> u64
@@ -122,31 +116,10 @@ pub fn end_at(s: &[u8], y: Section, i: usize) -> u64
     u64_at(s, place(y, i) + 8)
 }
 
-// The instruction at position i: each field is one load, where all its bytes are there.
+// The instruction at position i.
 pub fn record_at(s: &[u8], y: Section, i: usize) -> Instruction
     requires { ⌜ i < y .count ⌝ }
     ensures { λ r. ⌜ r ≡ getD (recordsIn instructionFrom (now (s .entry)) y) i (instructionFrom [] 0) ⌝ }
 {
-    let at = place(y, i);
-    if s.len() < at + 31 {
-        return instruction_at(s, y, i);
-    }
-    record_there(s, at)
-}
-
-fn record_there(s: &[u8], at: usize) -> Instruction
-    requires { ⌜ at + 31 ≤ length (now s) ⌝ }
-    ensures { λ r. ⌜ r ≡ instructionFrom (now (s .entry)) at ⌝ }
-{
-    let has_end = byte_at(s, at + 16) == 1;
-    let keeps = byte_at(s, at + 17) == 1;
-    Instruction {
-        address: octet(s, at),
-        end: octet(s, at + 8),
-        has_end,
-        keeps,
-        flow: byte_at(s, at + 18),
-        target: octet(s, at + 19),
-        cases: quad(s, at + 27) as usize,
-    }
+    instruction_from(s, place(y, i))
 }

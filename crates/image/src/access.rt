@@ -137,7 +137,8 @@ pub fn step_at(s: &[u8], y: Section, i: usize) -> Step
     }
 }
 
-fn instruction_from(s: &[u8], at: usize) -> Instruction
+// The instruction that stands at a place.
+pub fn instruction_from(s: &[u8], at: usize) -> Instruction
     requires { ⌜ at ≤ 18446744069414584320 ⌝ }
     ensures { λ r. ⌜ r ≡ instructionFrom (now (s .entry)) at ⌝ }
 {

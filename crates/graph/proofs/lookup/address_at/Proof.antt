@@ -12,25 +12,12 @@ use Rattle.graph.proofs.lookup.address_at.Tie as tie
 
 returns : tie.Need-returns
 returns c =
-    let a = c .before .before .before .before .args in
-    sym (address-is (recordsIn instructionFrom (a .s .now) (a .y)) (a .i) _ (c .instruction-at .ensures))
-
-returns-2 : tie.Need-returns-2
-returns-2 c =
-    let start = c .before .before .before .before in
+    let start = c .before .before .before in
     let a = start .args in
     let is = recordsIn instructionFrom (a .s .now) (a .y) in
-    c .octet .ensures
-    ∙ ap (le8 (a .s .now)) (c .before .before .place .ensures .0)
+    c .u64-at .ensures
+    ∙ ap (le8 (a .s .now)) (c .before .place .ensures .0)
     ∙ sym (address-is is (a .i) _ (sym (records-in instructionFrom (a .s .now) (a .y) (a .i) (start .pre))))
 
 pub address-at-spec : {M : Type 1} → statement M
-address-at-spec =
-    tie.close
-    (tie.spec
-    (λ c κs. search needs)
-    (λ c. search needs)
-    (λ c κs. search needs)
-    returns
-    (λ c κs. search needs)
-    returns-2)
+address-at-spec = tie.close (tie.spec (λ c κs. search needs) (λ c κs. search needs) returns)
