@@ -10,26 +10,17 @@ use crate::error::Checked;
 use crate::lookup::Found;
 use crate::lookup::find_near;
 use crate::lookup::record_at;
-use crate::transfer::Slot;
-use crate::transfer::falls_through;
-use crate::transfer::flow_under;
-use crate::transfer::has_target;
-use crate::transfer::slot_transfer;
-use crate::transfer::slots_of;
-use image::record::Instruction;
 use image::section::Layout;
 ghost use mathlib.Core.Path.{_≡_};
 ghost use Prim.Native.Nat.{_<_};
-ghost use Rattle.image.specs.Refusal.{clear, refusal, unless};
+ghost use Rattle.image.specs.Refusal.{clear};
 ghost use Rattle.image.specs.Image.{imageIn};
 ghost use Rattle.graph.specs.Error.{checkOf};
 ghost use Rattle.graph.specs.Fold.{checks};
-ghost use Rattle.graph.specs.Lookup.{Rising};
-ghost use Rattle.graph.specs.Transfer.{tableOf, size, slotTransfer};
-ghost use Rattle.graph.specs.Slots.{slotIn};
+ghost use Rattle.graph.specs.Transfer.{size};
 ghost use Rattle.graph.specs.Cursor.{Sourced, visitAt};
 ghost use Rattle.graph.specs.Marks.{Leading};
-ghost use Rattle.graph.specs.Build.{givenCheck, continues, continuationCheck};
+ghost use Rattle.graph.specs.Build.{givenCheck, continuationCheck};
 
 const GIVEN_EDGES: u64 = 2;
 
@@ -63,7 +54,7 @@ pub fn check_continuations(s: &[u8], y: Layout, marks: &[bool; 512]) -> Checked
     Checked::Clear
 }
 
-// The instruction at p: where it ends its block by its flow, its two slots.
+// The instruction at p: where it ends its block by its flow, which is Next or a call then (9), its end is a start.
 fn check_continuation(s: &[u8], y: Layout, marks: &[bool; 512], p: usize, visit: Visit) -> Checked
     requires { ⌜ Sourced (imageIn (now s) y) × (checks (givenCheck (imageIn (now s) y)) (size (imageIn (now s) y)) ≡ clear) × Leading (imageIn (now s) y) (now marks) ⌝ }
     requires { ⌜ (y .header .mode ≡ 2) × (p < size (imageIn (now s) y)) × (visit ≡ visitAt (imageIn (now s) y) p) ⌝ }
@@ -78,26 +69,8 @@ fn check_continuation(s: &[u8], y: Layout, marks: &[bool; 512], p: usize, visit:
         return Checked::Clear;
     };
     let i = visit.instruction;
-    let slots = slots_of(flow_under(y.header.calls, i.flow));
+    let target = i.end;
     let near = p + 1;
-    let found = check_slot(s, y, near, i, slots.0);
-    let Checked::Clear = found else {
-        return found;
-    };
-    check_slot(s, y, near, i, slots.1)
-}
-
-// The transfer that a slot makes of an instruction: where it falls through, it leads to a start, likely at position `near`.
-fn check_slot(s: &[u8], y: Layout, near: usize, i: Instruction, slot: Slot) -> Checked
-    requires { ⌜ Rising (tableOf (imageIn (now s) y)) ⌝ }
-    ensures { λ r. ⌜ checkOf r ≡ unless (continues (imageIn (now (s .entry)) y) (slotTransfer i (slotIn slot))) (refusal 16 (i .address) (slotTransfer i (slotIn slot) .target)) ⌝ }
-{
-    let x = slot_transfer(i, slot);
-    let falls = has_target(x) & falls_through(x.role);
-    if !falls {
-        return Checked::Clear;
-    }
-    let target = x.target;
     let Found::At(_) = find_near(s, y.code.instructions, near, target) else {
         return Checked::Refused(AddressBuildError::MissingContinuation {
             source: i.address,

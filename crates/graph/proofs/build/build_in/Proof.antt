@@ -1,5 +1,5 @@
 -- The checks in their order, and then the stores. Assumes nothing.
-use mathlib.Core.Path.{_≡_, refl, sym, ap, _∙_}
+use mathlib.Core.Path.{refl, sym}
 use Rattle.image.specs.Image.{imageIn}
 use Rattle.graph.proofs.BuildLaws.{parts, passed, build-refused, build-late, build-built}
 use borrow.Author.Needs.{needs}

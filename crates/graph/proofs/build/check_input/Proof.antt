@@ -1,6 +1,5 @@
 -- 3 to 15, each where those before it found nothing. Assumes nothing.
-use Rattle.image.specs.Image.{imageIn}
-use mathlib.Core.Path.{_≡_, sym}
+use mathlib.Core.Path.{sym}
 use Rattle.graph.specs.Build.{inputCheck}
 use Rattle.graph.proofs.RangeLaws.{rising}
 use Rattle.graph.proofs.GivenLaws.{sourced}

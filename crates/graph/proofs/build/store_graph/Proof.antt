@@ -1,12 +1,7 @@
 -- The table and the blocks, the edges, the regions, the entry. Assumes nothing.
-use mathlib.Core.Path.{_≡_, refl}
-use Prim.Native.Nat.{ℕ, _<_}
-use lib.ListN.{getD}
 use Rattle.image.specs.Record.{instructionFrom}
 use Rattle.image.specs.Image.{imageIn}
 use Rattle.image.proofs.Tables.{length-records}
-use Rattle.graph.specs.Transfer.{size}
-use Rattle.graph.specs.Blocks.{blockOf}
 use Rattle.graph.proofs.BuildLaws.{parts, numbered, handled, ready, graph-laid}
 use native.Mathlib.Omega.{arith}
 use borrow.Author.Needs.{needs}

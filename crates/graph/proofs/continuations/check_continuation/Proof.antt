@@ -1,13 +1,10 @@
--- By the three tests: does it end its block, are edges given for it, and does its first slot pass. Assumes nothing.
-use mathlib.Core.Path.{sym, ap, _∙_}
+-- By the three tests: does it end its block, are edges given for it, and is its end a start. Assumes nothing.
+use mathlib.Core.Path.{sym, _∙_}
 use Prim.Native.Nat.{_-_}
 use Rattle.image.specs.Record.{instructionFrom}
 use Rattle.image.specs.Image.{imageIn}
 use Rattle.image.proofs.Tables.{length-records}
-use Rattle.graph.specs.Error.{checkOf}
-use Rattle.graph.specs.declared.cursor.Visit.{Visit}
-use Rattle.graph.proofs.EdgeLaws.{flow-most}
-use Rattle.graph.proofs.ContinuationLaws.{ends-is, inside-clear, given-clear, first-refused, first-clear}
+use Rattle.graph.proofs.ContinuationLaws.{ends-is, inside-clear, given-clear, end-checked}
 use native.Mathlib.Omega.{arith}
 use borrow.Author.Tests.{not-true, not-false}
 use borrow.Author.Needs.{needs}
@@ -34,40 +31,31 @@ returns-2 c =
     let ends = sym (ends-is (a .s .now) (a .y) (a .marks .now) (start .pre .0 .2) (a .p) (start .pre .1 .1)) ∙ sym (c .before .before .before .is-terminator .ensures) ∙ not-false _ (c .before .before .if1 .left) in
     sym (given-clear (imageIn (a .s .now) (a .y)) (start .pre .1 .0) (a .p) ends (a .visit) (start .pre .1 .2) _ (c .enum-told2 .given .1))
 
-slots-of-requires : tie.Need-slots-of-requires
-slots-of-requires c κs =
-    let start = c .before .before .before .before .before .before .before .before in
-    let a = start .args in
-    flow-most (imageIn (a .s .now) (a .y)) (a .p) (a .visit .instruction) (ap (λ (x : Visit). x .instruction) (start .pre .1 .2)) _ (c .flow-under .ensures) (start .pre .0 .0 .accepted)
-
 add-near : tie.Need-add-near
 add-near c =
-    let start = c .before .before .before .before .before .before .before .before .before in
+    let start = c .before .before .before .before .before .before .before in
     omega (arith, start .pre .1 .1, start .pre .0 .0 .accepted .instructions-most)
 
-check-slot-requires : tie.Need-check-slot-requires
-check-slot-requires c κs = c .before .before .before .before .before .before .before .before .before .pre .0 .0 .rising
-
-check-slot-requires-2 : tie.Need-check-slot-requires-2
-check-slot-requires-2 c κs = c .before .before .before .before .before .before .before .before .before .before .before .before .pre .0 .0 .rising
+find-near-requires : tie.Need-find-near-requires
+find-near-requires c κs = c .before .before .before .before .before .before .before .pre .0 .0 .rising
 
 returns-3 : tie.Need-returns-3
 returns-3 c =
-    let start = c .before .before .before .before .before .before .before .before .before .before .before .before in
+    let start = c .before .before .before .before .before .before .before .before .before .before in
     let a = start .args in
-    let ends = sym (ends-is (a .s .now) (a .y) (a .marks .now) (start .pre .0 .2) (a .p) (start .pre .1 .1)) ∙ sym (c .before .before .before .before .before .before .before .before .before .is-terminator .ensures) ∙ not-false _ (c .before .before .before .before .before .before .before .before .if1 .left) in
-    let told = ap checkOf (c .enum-told4 .given .1) in
-    told
-    ∙ sym (first-refused (imageIn (a .s .now) (a .y)) (start .pre .1 .0) (a .p) ends (a .visit) (start .pre .1 .2) (c .before .before .before .before .before .before .enum-told .given .1) (start .pre .0 .1) (start .pre .1 .1) _ (c .before .before .before .before .flow-under .ensures) _ (c .before .before .before .slots-of .ensures) _ (sym (c .before .before .check-slot .ensures) ∙ told))
+    let ends = sym (ends-is (a .s .now) (a .y) (a .marks .now) (start .pre .0 .2) (a .p) (start .pre .1 .1)) ∙ sym (c .before .before .before .before .before .before .before .is-terminator .ensures) ∙ not-false _ (c .before .before .before .before .before .before .if1 .left) in
+    let checked = end-checked (imageIn (a .s .now) (a .y)) (start .pre .1 .0) (a .p) ends (a .visit) (start .pre .1 .2) (c .before .before .before .before .enum-told .given .1) (start .pre .0 .1) (start .pre .1 .1) in
+    let none = rw (c .enum-told4 .given .1) at (c .before .before .find-near .ensures) in
+    sym (rw none at checked)
 
 returns-4 : tie.Need-returns-4
 returns-4 c =
-    let start = c .before .before .before .before .before .before .before .before .before .before .before .before .before in
+    let start = c .before .before .before .before .before .before .before .before .before .before in
     let a = start .args in
-    let ends = sym (ends-is (a .s .now) (a .y) (a .marks .now) (start .pre .0 .2) (a .p) (start .pre .1 .1)) ∙ sym (c .before .before .before .before .before .before .before .before .before .before .is-terminator .ensures) ∙ not-false _ (c .before .before .before .before .before .before .before .before .before .if1 .left) in
-    let passed = sym (c .before .before .before .check-slot .ensures) ∙ ap checkOf (c .before .enum-told3 .given .1) in
-    c .check-slot2 .ensures
-    ∙ sym (first-clear (imageIn (a .s .now) (a .y)) (start .pre .1 .0) (a .p) ends (a .visit) (start .pre .1 .2) (c .before .before .before .before .before .before .before .enum-told .given .1) (start .pre .0 .1) (start .pre .1 .1) _ (c .before .before .before .before .before .flow-under .ensures) _ (c .before .before .before .before .slots-of .ensures) passed)
+    let ends = sym (ends-is (a .s .now) (a .y) (a .marks .now) (start .pre .0 .2) (a .p) (start .pre .1 .1)) ∙ sym (c .before .before .before .before .before .before .before .is-terminator .ensures) ∙ not-false _ (c .before .before .before .before .before .before .if1 .left) in
+    let checked = end-checked (imageIn (a .s .now) (a .y)) (start .pre .1 .0) (a .p) ends (a .visit) (start .pre .1 .2) (c .before .before .before .before .enum-told .given .1) (start .pre .0 .1) (start .pre .1 .1) in
+    let found = rw (c .enum-told3 .given .1) at (c .before .before .find-near .ensures) in
+    sym (rw (found .0) at checked)
 
 pub check-continuation-spec : {M : Type 1} → statement M
 check-continuation-spec =
@@ -79,12 +67,9 @@ check-continuation-spec =
     (λ c. search needs)
     (λ c. search needs)
     returns-2
-    (λ c κs. search needs)
-    slots-of-requires
     add-near
-    check-slot-requires
+    find-near-requires
     (λ c. search needs)
     (λ c. search needs)
     returns-3
-    check-slot-requires-2
     returns-4)

@@ -1,5 +1,4 @@
 -- A number of sixteen bits. Assumes nothing.
-use mathlib.Core.Path.{refl}
 use native.Mathlib.Omega.{arith}
 use borrow.Author.Needs.{needs}
 use Rattle.graph.proofs.edges.block_of.Statement.{statement}

@@ -7,7 +7,6 @@ use borrow.Author.Tests.{eqb-true}
 use Rattle.image.specs.Little.{le8}
 use Rattle.image.specs.Record.{instructionFrom}
 use Rattle.image.specs.Image.{recordsIn}
-use Rattle.image.specs.declared.record.Instruction.{Instruction}
 use Rattle.image.proofs.Tables.{records-in}
 use Rattle.graph.specs.Table.{entryAt}
 use Rattle.graph.specs.Lookup.{entriesIn}
