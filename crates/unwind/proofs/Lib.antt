@@ -56,3 +56,4 @@ pub mod StoreLaws
 pub mod AnswerLaws
 pub mod FrameLaws
 pub mod MemberLaws
+pub mod AlikeLaws
