@@ -13,7 +13,7 @@ ghost use Rattle.unwind.specs.Alike.{Moves, Steady, Turning, GoesOn};
 // With fewer nodes it costs less to gather than to look.
 const WORTH: usize = 16;
 
-// Whether to look for such blocks: of enough nodes, whose ends move. One that resumes names the block that it leaves.
+// Whether to look for such blocks: there are nodes enough, and no end resumes, so that no way out names its own block.
 pub fn is_worth(listed: usize, landings: &[u16], ends: usize) -> bool
     ensures { λ r. ⌜ (r ≡ true → Moves (now (landings .entry)) ends) ⌝ }
 {
