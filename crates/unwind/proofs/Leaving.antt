@@ -35,7 +35,7 @@ use Rattle.addition.proofs.Instance.{first-or-later, blocks-lt, place-first, pl
 use Rattle.unwind.proofs.TrieOrder.{number-lt, lt-number}
 use Rattle.unwind.proofs.Rising.{Rising, rising-keep, rising-join, sorted-same, total-exits}
 
-map-flat : {A B : Type 0} (f : A → B) (g : ℕ → List A) (n : ℕ) → map f (flat g n) ≡ flat (λ i. map f (g i)) n
+pub map-flat : {A B : Type 0} (f : A → B) (g : ℕ → List A) (n : ℕ) → map f (flat g n) ≡ flat (λ i. map f (g i)) n
 unfolding flat
 map-flat f g zero = refl
 map-flat {B = B} f g (suc n) = map-append f (flat g n) (g n) ∙ ap (λ (t : List B). t ++ map f (g n)) (map-flat f g n)

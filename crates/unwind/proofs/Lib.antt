@@ -58,3 +58,4 @@ pub mod StoreLaws
 pub mod AnswerLaws
 pub mod FrameLaws
 pub mod MemberLaws
+pub mod AlikeLaws

@@ -27,3 +27,4 @@ pub mod Instances
 pub mod Answers
 pub mod Frames
 pub mod Members
+pub mod Alike

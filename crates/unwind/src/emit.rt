@@ -1,4 +1,5 @@
 // The hops of an addition: the ways out of one block after the other, gathered in scratch, counted, and stored.
+mod alike;
 pub mod all;
 pub mod append;
 mod block;

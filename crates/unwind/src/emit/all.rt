@@ -22,7 +22,7 @@ ghost use Rattle.unwind.specs.Gather.{NodeFits, AllFit};
 ghost use Rattle.addition.specs.Ways.{ways, hopsOf};
 ghost use Rattle.unwind.specs.Routed.{TriesIn};
 ghost use Rattle.unwind.specs.Lent.{Leads, Sides, PartsIn, Roomy};
-ghost use Rattle.unwind.specs.Copies.{BasesFew, Bounded, nodeHops};
+ghost use Rattle.unwind.specs.Copies.{Bounded, nodeHops};
 ghost use Rattle.unwind.specs.HopWords.{hopsIn, HopsHeld, HopsFit, HopsBelow, HopsLaid};
 ghost use Rattle.unwind.specs.AllNodes.{behindNodes, NodeRises, NodesRise};
 ghost use Rattle.unwind.specs.Members.{NodeSets, NodesSets};
@@ -46,7 +46,7 @@ pub fn add_hops(
     stored: Counts,
     exits: &mut [u16],
 )
-    requires { ⌜ AcceptedRoutes (routesIn (now s) y) × TriesIn (routesIn (now s) y) (now nodes) (now edges) (now ends) (now roots) stored × Leads (heldIn (now g) .graph) (routesIn (now s) y) (now ends) (now heads) (now landings) stored × Sides (heldIn (now g) .graph) (routesIn (now s) y) (now guards) (now bases) (now returns) stored × PartsIn (heldIn (now g) .graph) (routesIn (now s) y) (now parts) stored × BasesFew (now bases) (stored .nodes) × Bounded (heldIn (now g) .graph) (routesOf (routesIn (now s) y)) × Roomy (now edges) (now ends) (now exits) × HopsFit (hopsOf (ways (heldIn (now g) .graph) (routesOf (routesIn (now s) y)))) × (16 * stored .nodes ≤ length (now parts)) × (16 * stored .nodes ≤ length (now returns)) × (16 * length (routesIn (now s) y .routes) ≤ length (now guards)) ⌝ }
+    requires { ⌜ AcceptedRoutes (routesIn (now s) y) × TriesIn (routesIn (now s) y) (now nodes) (now edges) (now ends) (now roots) stored × Leads (heldIn (now g) .graph) (routesIn (now s) y) (now ends) (now heads) (now landings) stored × Sides (heldIn (now g) .graph) (routesIn (now s) y) (now guards) (now bases) (now returns) stored × PartsIn (heldIn (now g) .graph) (routesIn (now s) y) (now parts) stored × Bounded (heldIn (now g) .graph) (routesOf (routesIn (now s) y)) × Roomy (now edges) (now ends) (now exits) × HopsFit (hopsOf (ways (heldIn (now g) .graph) (routesOf (routesIn (now s) y)))) × (16 * stored .nodes ≤ length (now parts)) × (16 * stored .nodes ≤ length (now returns)) × (16 * length (routesIn (now s) y .routes) ≤ length (now guards)) ⌝ }
     ensures { λ _. ⌜ HopsLaid (routesIn (now (s .entry)) y) (now (h .entry)) (now (h .exit)) (hopsOf (ways (heldIn (now (g .entry)) .graph) (routesOf (routesIn (now (s .entry)) y)))) ⌝ }
 {
     let blocks = block_count(g);

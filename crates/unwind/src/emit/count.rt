@@ -1,4 +1,7 @@
 // The sizes of what is added, before any of it is stored.
+use crate::emit::alike::goes_on;
+use crate::emit::alike::is_worth;
+use crate::emit::alike::mark_turns;
 use crate::emit::block::gather_block;
 use crate::emit::busy::busy_blocks;
 use crate::emit::busy::original_nodes;
@@ -51,13 +54,8 @@ pub fn count_blocks(
     requires { ⌜ AcceptedRoutes (routesIn (now s) y) × TriesIn (routesIn (now s) y) (now nodes) (now edges) (now ends) (now roots) stored × (blocks ≤ 1024) × Roomy (now edges) (now ends) (now exits) × BlockSets (now guards) (now returns) blocks (length (routesIn (now s) y .routes)) (stored .nodes) ⌝ }
     ensures { λ r. ⌜ SumSize (flat (blockHops (routesIn (now (s .entry)) y) (now (nodes .entry)) (now (edges .entry)) (now (ends .entry)) (now (heads .entry)) (now (landings .entry)) (now (roots .entry)) (now (guards .entry)) (now (bases .entry)) (now (returns .entry)) stored) blocks) (now (exits .entry)) (now (exits .exit)) r ⌝ }
 {
-    let mut left = busy_blocks(
-        guards,
-        y.routes.count as usize,
-        bases,
-        returns,
-        stored.nodes,
-    );
+    let routes = y.routes.count as usize;
+    let mut left = busy_blocks(guards, routes, bases, returns, stored.nodes);
     let mut originals = [0u16; 544];
     let listed = original_nodes(bases, stored.nodes, &mut originals);
     let mut sizes = Sizes {
@@ -65,29 +63,47 @@ pub fn count_blocks(
         lists: 0,
         blocks: 0,
     };
+    let worth = is_worth(listed, landings, stored.ends);
+    let mut turns = [0u64; 16];
+    if worth {
+        mark_turns(
+            guards,
+            routes,
+            returns,
+            &originals,
+            listed,
+            blocks,
+            &mut turns,
+        );
+    }
+    let mut last = 1024;
+    let mut n = 0;
     loop {
         let Lowest::At(b) = lowest_in(&left) else {
             return sizes;
         };
         take_from(&mut left, b);
-        let n = gather_block(
-            s,
-            y,
-            nodes,
-            edges,
-            ends,
-            heads,
-            landings,
-            roots,
-            guards,
-            bases,
-            returns,
-            &originals,
-            listed,
-            stored,
-            b,
-            exits,
-        );
+        if !goes_on(worth, &turns, last, b) {
+            n = gather_block(
+                s,
+                y,
+                nodes,
+                edges,
+                ends,
+                heads,
+                landings,
+                roots,
+                guards,
+                bases,
+                returns,
+                &originals,
+                listed,
+                stored,
+                b,
+                exits,
+            );
+        }
+        last = b;
         let more = sizes_of(exits, n);
         sizes = sizes_both(sizes, more);
     }

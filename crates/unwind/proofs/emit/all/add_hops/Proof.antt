@@ -17,11 +17,11 @@ add-blocks-requires c κs =
     let m = routesIn (a .s .now) (a .y) in (
       start .pre .0,
       start .pre .1,
-      omega (arith, c .before .before .before .before .block-count .ensures, start .pre .6 .few),
-      start .pre .7,
+      omega (arith, c .before .before .before .before .block-count .ensures, start .pre .5 .few),
+      start .pre .6,
       c .before .before .empty-hops .ensures .holds,
-      fit-stood (heldIn (a .g .now) .graph) m (a .nodes .now) (a .edges .now) (a .ends .now) (a .roots .now) (a .heads .now) (a .landings .now) (a .guards .now) (a .bases .now) (a .parts .now) (a .returns .now) (a .stored) (start .pre .1) (start .pre .2) (start .pre .3) (start .pre .4) (start .pre .6) (c .before .before .before .before .block-count .result) (c .before .before .before .before .block-count .ensures) (start .pre .8),
-      rw (c .before .before .before .before .block-count .ensures) (block-sets (heldIn (a .g .now) .graph) (routesIn (a .s .now) (a .y)) (a .guards .now) (a .bases .now) (a .returns .now) (a .stored) (start .pre .3) (start .pre .11) (start .pre .10)),
+      fit-stood (heldIn (a .g .now) .graph) m (a .nodes .now) (a .edges .now) (a .ends .now) (a .roots .now) (a .heads .now) (a .landings .now) (a .guards .now) (a .bases .now) (a .parts .now) (a .returns .now) (a .stored) (start .pre .1) (start .pre .2) (start .pre .3) (start .pre .4) (start .pre .5) (c .before .before .before .before .block-count .result) (c .before .before .before .before .block-count .ensures) (start .pre .7),
+      rw (c .before .before .before .before .block-count .ensures) (block-sets (heldIn (a .g .now) .graph) (routesIn (a .s .now) (a .y)) (a .guards .now) (a .bases .now) (a .returns .now) (a .stored) (start .pre .3) (start .pre .10) (start .pre .9)),
     )
 
 add-nodes-requires : tie.Need-add-nodes-requires
@@ -30,16 +30,16 @@ add-nodes-requires c κs =
     let a = start .args in
     let m = routesIn (a .s .now) (a .y) in
     let t = start .pre .1 in
-    let room = start .pre .7 in
+    let room = start .pre .6 in
     let stood = c .before .before .before .before .add-blocks .ensures in (
       record { fits = λ i h. node-fits m (a .nodes .now) (a .edges .now) (a .ends .now) (a .roots .now) (a .stored) t i h },
       omega (arith, t .nodes-most),
-      all-rise (heldIn (a .g .now) .graph) m (a .nodes .now) (a .edges .now) (a .ends .now) (a .roots .now) (a .heads .now) (a .landings .now) (a .guards .now) (a .bases .now) (a .parts .now) (a .returns .now) (a .stored) (start .pre .1) (start .pre .2) (start .pre .3) (start .pre .4) (start .pre .6) (c .before .before .before .before .before .before .before .before .before .block-count .result) (c .before .before .before .before .before .before .before .before .before .block-count .ensures),
-      omega (arith, c .before .before .before .before .before .before .before .before .before .block-count .ensures, start .pre .6 .few),
+      all-rise (heldIn (a .g .now) .graph) m (a .nodes .now) (a .edges .now) (a .ends .now) (a .roots .now) (a .heads .now) (a .landings .now) (a .guards .now) (a .bases .now) (a .parts .now) (a .returns .now) (a .stored) (start .pre .1) (start .pre .2) (start .pre .3) (start .pre .4) (start .pre .5) (c .before .before .before .before .before .before .before .before .before .block-count .result) (c .before .before .before .before .before .before .before .before .before .block-count .ensures),
+      omega (arith, c .before .before .before .before .before .before .before .before .before .block-count .ensures, start .pre .5 .few),
       record { edges-few = room .edges-few; ends-few = room .ends-few; room = omega (arith, room .room, stood .1) },
       held-below (stood .0),
-      fit-others (heldIn (a .g .now) .graph) m (a .nodes .now) (a .edges .now) (a .ends .now) (a .roots .now) (a .heads .now) (a .landings .now) (a .guards .now) (a .bases .now) (a .parts .now) (a .returns .now) (a .stored) (start .pre .1) (start .pre .2) (start .pre .3) (start .pre .4) (start .pre .6) (c .before .before .before .before .before .before .before .before .before .block-count .result) (c .before .before .before .before .before .before .before .before .before .block-count .ensures) (stood .0 .holds) (start .pre .8),
-      rw (c .before .before .before .before .before .before .before .before .before .block-count .ensures) (nodes-sets (heldIn (a .g .now) .graph) (routesIn (a .s .now) (a .y)) (a .guards .now) (a .bases .now) (a .parts .now) (a .returns .now) (a .stored) (start .pre .3) (start .pre .9) (start .pre .10)),
+      fit-others (heldIn (a .g .now) .graph) m (a .nodes .now) (a .edges .now) (a .ends .now) (a .roots .now) (a .heads .now) (a .landings .now) (a .guards .now) (a .bases .now) (a .parts .now) (a .returns .now) (a .stored) (start .pre .1) (start .pre .2) (start .pre .3) (start .pre .4) (start .pre .5) (c .before .before .before .before .before .before .before .before .before .block-count .result) (c .before .before .before .before .before .before .before .before .before .block-count .ensures) (stood .0 .holds) (start .pre .7),
+      rw (c .before .before .before .before .before .before .before .before .before .block-count .ensures) (nodes-sets (heldIn (a .g .now) .graph) (routesIn (a .s .now) (a .y)) (a .guards .now) (a .bases .now) (a .parts .now) (a .returns .now) (a .stored) (start .pre .3) (start .pre .8) (start .pre .9)),
     )
 
 returns : tie.Need-returns
@@ -47,7 +47,7 @@ returns c =
     let start = c .before .before .before .before .before .before .before .before .before .before .before .before .before .before .before .before .before .before .before .before .before .before .before .before .before in
     let a = start .args in
     let m = routesIn (a .s .now) (a .y) in
-    all-laid (heldIn (a .g .now) .graph) m (a .nodes .now) (a .edges .now) (a .ends .now) (a .roots .now) (a .heads .now) (a .landings .now) (a .guards .now) (a .bases .now) (a .parts .now) (a .returns .now) (a .stored) (start .pre .1) (start .pre .2) (start .pre .3) (start .pre .4) (start .pre .6) (c .before .before .before .before .before .before .before .before .before .before .before .before .block-count .result) (c .before .before .before .before .before .before .before .before .before .before .before .before .block-count .ensures) _ (c .before .before .before .before .before .before .before .before .before .before .empty-hops .ensures) (c .before .before .before .before .before .before .before .add-blocks .ensures .0) (c .before .before .add-nodes .ensures)
+    all-laid (heldIn (a .g .now) .graph) m (a .nodes .now) (a .edges .now) (a .ends .now) (a .roots .now) (a .heads .now) (a .landings .now) (a .guards .now) (a .bases .now) (a .parts .now) (a .returns .now) (a .stored) (start .pre .1) (start .pre .2) (start .pre .3) (start .pre .4) (start .pre .5) (c .before .before .before .before .before .before .before .before .before .before .before .before .block-count .result) (c .before .before .before .before .before .before .before .before .before .before .before .before .block-count .ensures) _ (c .before .before .before .before .before .before .before .before .before .before .empty-hops .ensures) (c .before .before .before .before .before .before .before .add-blocks .ensures .0) (c .before .before .add-nodes .ensures)
 
 pub add-hops-spec : {M : Type 1} → statement M
 add-hops-spec = tie.close (tie.spec (λ c κs. search needs) (λ c κs. search needs) add-blocks-requires add-nodes-requires (λ c. search needs) returns)

@@ -1,27 +1,35 @@
--- `add_blocks` meets its contract. The invariant: the hops of the blocks taken out are stored. Assumes nothing.
-use mathlib.Core.Path.{_≡_, refl, _∙_}
+-- `add_blocks` meets its contract. The invariant: the hops of the blocks taken out are stored, and the ways out of the last of
+-- them stand in scratch. Assumes nothing.
+use mathlib.Core.Path.{_≡_, refl, sym, _∙_}
+use mathlib.Core.Bool.{false≢true}
+use mathlib.Core.Logic.{⊎-elim}
 use mathlib.Core.List.{[]}
-use Prim.Native.Nat.{_+_}
+use Prim.Native.Nat.{_≤_, _<_}
 use native.Mathlib.Omega.{arith}
 use borrow.Author.Needs.{needs}
+use borrow.Author.Tests.{not-false}
 use lib.ListN.{length}
 use Rattle.image.specs.Record.{routeFrom}
 use Rattle.image.specs.Image.{routesIn}
 use Rattle.image.proofs.Tables.{length-records}
 use Rattle.graph.specs.BlockSet.{sizeOf}
 use Rattle.graph.proofs.BlockLaws.{size-excluding}
-use Rattle.unwind.specs.Lent.{blockHops}
+use Rattle.unwind.specs.Lent.{blockRecords, BlockHeld, blockHops}
+use Rattle.unwind.proofs.AlikeLaws.{held-on}
 use Rattle.unwind.proofs.HeldLaws.{held-none, held-room, held-more, block-own}
-use Rattle.unwind.proofs.MemberLaws.{SetHolding, holding-start, holding-here, holding-fit, holding-next, holding-end, busy-quiet, busy-below}
+use Rattle.unwind.proofs.MemberLaws.{walked-below, SetHolding, holding-start, holding-here, holding-fit, holding-next, holding-end, busy-quiet, busy-below}
 use Rattle.unwind.proofs.emit.standing.add_blocks.Statement.{statement}
 use Rattle.unwind.proofs.emit.standing.add_blocks.Tie as tie
 
 abbrev Inv-loop : tie.InvT-loop
-Inv-loop h₀ s y nodes edges ends heads landings roots guards bases returns stored blocks exits₀ left₀ originals listed h exits left =
-    (length exits ≡ length exits₀) × SetHolding (routesIn s y) (blockHops (routesIn s y) nodes edges ends heads landings roots guards bases returns stored) (λ n. n) [] left₀ blocks left h₀ h
+Inv-loop h₀ s y nodes edges ends heads landings roots guards bases returns stored blocks exits₀ routes left₀ originals listed worth turns last₀ n₀ h exits left last n =
+    (length exits ≡ length exits₀)
+    × SetHolding (routesIn s y) (blockHops (routesIn s y) nodes edges ends heads landings roots guards bases returns stored) (λ k. k) [] left₀ blocks left h₀ h
+    × (last ≤ 1024)
+    × (last < 1024 → BlockHeld (routesIn s y) last (blockRecords (routesIn s y) last nodes edges ends heads landings roots guards bases returns stored) edges ends exits exits n)
 
 abbrev μ-loop : tie.MeasureT-loop
-μ-loop h₀ s y nodes edges ends heads landings roots guards bases returns stored blocks exits₀ left₀ originals listed h exits left = sizeOf left
+μ-loop h₀ s y nodes edges ends heads landings roots guards bases returns stored blocks exits₀ routes left₀ originals listed worth turns last₀ n₀ h exits left last n = sizeOf left
 
 busy-blocks-requires : tie.Need-busy-blocks-requires Inv-loop μ-loop
 busy-blocks-requires c κs =
@@ -34,38 +42,72 @@ original-nodes-requires c κs =
     let most = c .before .before .before .before .before .before .before .before .before .before .before .before .before .before .pre .1 .nodes-most in
     (most, most)
 
+mark-turns-requires : tie.Need-mark-turns-requires Inv-loop μ-loop
+mark-turns-requires c κs =
+    let start = c .before .before .before .before .before .before .before .before .before .before .before .before .before .before .before .before .before .before .before .before in
+    (omega (arith, length-records routeFrom (start .args .s .now) (start .args .y .routes), start .pre .0 .routes-most), start .pre .2)
+
+-- what stands in scratch is gathered of this block, or of the last and the same
+gathered : (c : tie.Joined2 Inv-loop μ-loop) → let a = c .before .before .before .before .before .before .before .before .before .before .before .before .before .before .before .before .before .before .before .before .before .before .before .before .before .before .before .before .before .args in let m = routesIn (a .s .now) (a .y) in BlockHeld m (c .before .before .before .before .before .before .b .given .0 .0) (blockRecords m (c .before .before .before .before .before .before .b .given .0 .0) (a .nodes .now) (a .edges .now) (a .ends .now) (a .heads .now) (a .landings .now) (a .roots .now) (a .guards .now) (a .bases .now) (a .returns .now) (a .stored)) (a .edges .now) (a .ends .now) (c .before .before .before .before .before .before .before .before .before .before .loop .exits) (c .if2 .exits) (c .if2 .n)
+gathered c =
+    ⊎-elim
+    (λ w. rw (w .6, w .7) (w .3 .ensures))
+    (λ w.
+    let start = c .before .before .before .before .before .before .before .before .before .before .before .before .before .before .before .before .before .before .before .before .before .before .before .before .before .before .before .before .before in
+    let a = start .args in
+    let m = routesIn (a .s .now) (a .y) in
+    let top = c .before .before .before .before .before .before .before .before .before .before .loop in
+    let low = rw (c .before .before .before .before .before .before .b .given .1) at (c .before .before .before .before .before .before .before .before .lowest-in .ensures) in
+    let on = c .before .goes-on .ensures (not-false _ (w .0 .left)) in
+    let next = on .next in
+    let was = top .inv .3 (omega (arith, low .0)) in
+    rw (w .1, w .2)
+    record {
+      long = refl;
+      holds = held-on m (a .nodes .now) (a .edges .now) (a .ends .now) (a .heads .now) (a .landings .now) (a .roots .now) (a .guards .now) (a .bases .now) (a .returns .now) _ (a .stored) _ (start .pre .1) (c .before .before .before .before .before .before .before .before .before .before .before .before .before .before .original-nodes .ensures) (c .before .before .before .before .before .before .before .before .before .before .before .before .is-worth .ensures (on .sought)) (top .last) _ (a .y .routes .count) (a .blocks) (c .before .before .before .before .before .before .before .before .before .before .before .if1 .turns) (length-records routeFrom (a .s .now) (a .y .routes)) (⊎-elim (λ v. rw (v .4) (v .3 .ensures)) (λ v. absurd (false≢true (sym (v .0 .left) ∙ on .sought))) (c .before .before .before .before .before .before .before .before .before .before .before .if1 .came)) on (walked-below (top .inv .1 .walked) _ low) (was .holds);
+      most = was .most;
+    })
+    (c .if2 .came)
+
 same-length : tie.Need-same-length Inv-loop μ-loop
 same-length c = c .before .before .before .before .loop .inv .0
 
+goes-on-requires : tie.Need-goes-on-requires Inv-loop μ-loop
+goes-on-requires c κs = c .before .before .before .before .before .before .before .before .loop .inv .2
+
 gather-block-requires : tie.Need-gather-block-requires Inv-loop μ-loop
 gather-block-requires c κs =
-    let start = c .before .before .before .before .before .before .before .before .before .before .before .before .before .before .before .before .before .before .before .before .before .before .before .before .before .before in
-    let top = c .before .before .before .before .before .before .before .before .before .loop in
-    let low = rw (c .before .before .before .before .before .b .given .1) at (c .before .before .before .before .before .before .before .lowest-in .ensures) in
-    (start .pre .0, start .pre .1, omega (arith, low .0), omega (arith, start .pre .3 .room, top .inv .0), c .before .before .before .before .before .before .before .before .before .before .before .original-nodes .ensures)
+    let start = c .before .before .before .before .before .before .before .before .before .before .before .before .before .before .before .before .before .before .before .before .before .before .before .before .before .before .before .before .before .before .before in
+    let top = c .before .before .before .before .before .before .before .before .before .before .before .before .loop in
+    let low = rw (c .before .before .before .before .before .before .before .before .b .given .1) at (c .before .before .before .before .before .before .before .before .before .before .lowest-in .ensures) in
+    (start .pre .0, start .pre .1, omega (arith, low .0), omega (arith, start .pre .3 .room, top .inv .0), c .before .before .before .before .before .before .before .before .before .before .before .before .before .before .before .before .original-nodes .ensures)
 
 loop-less : tie.Need-loop-less Inv-loop μ-loop
 loop-less c =
-    let top = c .before .before .before .before .before .before .before .before .before .before .before .before .before .before .before .loop in
-    let low = rw (c .before .before .before .before .before .before .before .before .before .before .before .b .given .1) at (c .before .before .before .before .before .before .before .before .before .before .before .before .before .lowest-in .ensures) in
-    rw (c .before .before .before .before .before .before .before .before .take-from .ensures) (omega (arith, size-excluding (top .left) (top .inv .1 .walked .long) _ (low .0) (low .1)))
+    let top = c .before .before .before .before .before .before .before .before .before .before .before .before .before .loop in
+    let low = rw (c .before .before .before .before .before .before .before .before .before .b .given .1) at (c .before .before .before .before .before .before .before .before .before .before .before .lowest-in .ensures) in
+    rw (c .before .before .before .before .before .before .take-from .ensures) (omega (arith, size-excluding (top .left) (top .inv .1 .walked .long) _ (low .0) (low .1)))
 
 loop-holds : tie.Need-loop-holds Inv-loop μ-loop
 loop-holds c =
-    let start = c .before .before .before .before .before .before .before .before .before .before .before .before .before .before .before .before in
+    let start = c .before .before .before .before .before .before .before .before .before .before .before .before .before .before .before .before .before .before in
     let a = start .args in
     let m = routesIn (a .s .now) (a .y) in
-    let busy = c .before .before .before .busy-blocks in
-    (refl, holding-start m (blockHops m (a .nodes .now) (a .edges .now) (a .ends .now) (a .heads .now) (a .landings .now) (a .roots .now) (a .guards .now) (a .bases .now) (a .returns .now) (a .stored)) (λ n. n) [] (busy .result) (a .blocks) (a .h .now) (busy .ensures .long) (busy-below m (a .nodes .now) (a .edges .now) (a .ends .now) (a .heads .now) (a .landings .now) (a .roots .now) (a .guards .now) (a .bases .now) (a .returns .now) (a .stored) (a .y .routes .count) (length-records routeFrom (a .s .now) (a .y .routes)) (busy .result) (busy .ensures) (a .blocks) (start .pre .6)) (held-none m (a .h .now) (start .pre .4)))
+    let busy = c .before .before .before .before .before .busy-blocks in (
+      refl,
+      holding-start m (blockHops m (a .nodes .now) (a .edges .now) (a .ends .now) (a .heads .now) (a .landings .now) (a .roots .now) (a .guards .now) (a .bases .now) (a .returns .now) (a .stored)) (λ k. k) [] (busy .result) (a .blocks) (a .h .now) (busy .ensures .long) (busy-below m (a .nodes .now) (a .edges .now) (a .ends .now) (a .heads .now) (a .landings .now) (a .roots .now) (a .guards .now) (a .bases .now) (a .returns .now) (a .stored) (a .y .routes .count) (length-records routeFrom (a .s .now) (a .y .routes)) (busy .result) (busy .ensures) (a .blocks) (start .pre .6)) (held-none m (a .h .now) (start .pre .4)),
+      omega arith,
+      λ h. absurd (omega arith),
+    )
 
 returns : tie.Need-returns Inv-loop μ-loop
 returns c =
-    let start = c .before .before .before .before .before .before .before .before .before .before .before .before .before .before .before .before .before .before .before .before .before in
+    let start = c .before .before .before .before .before .before .before .before .before .before .before .before .before .before .before .before .before .before .before .before .before .before .before in
     let a = start .args in
     let m = routesIn (a .s .now) (a .y) in
-    let busy = c .before .before .before .before .before .before .before .before .busy-blocks in
+    let busy = c .before .before .before .before .before .before .before .before .before .before .busy-blocks in
     let top = c .before .before .before .before .loop in
-    (holding-end m (blockHops m (a .nodes .now) (a .edges .now) (a .ends .now) (a .heads .now) (a .landings .now) (a .roots .now) (a .guards .now) (a .bases .now) (a .returns .now) (a .stored)) (λ n. n) [] (busy .result) (a .blocks) (busy-quiet m (a .nodes .now) (a .edges .now) (a .ends .now) (a .heads .now) (a .landings .now) (a .roots .now) (a .guards .now) (a .bases .now) (a .returns .now) (a .stored) (a .y .routes .count) (length-records routeFrom (a .s .now) (a .y .routes)) (busy .result) (busy .ensures)) (λ k n h. h) (top .inv .1) (rw (c .enum-told .given .1) at (c .before .before .lowest-in .ensures)), top .inv .0)
+    (holding-end m (blockHops m (a .nodes .now) (a .edges .now) (a .ends .now) (a .heads .now) (a .landings .now) (a .roots .now) (a .guards .now) (a .bases .now) (a .returns .now) (a .stored)) (λ k. k) [] (busy .result) (a .blocks) (busy-quiet m (a .nodes .now) (a .edges .now) (a .ends .now) (a .heads .now) (a .landings .now) (a .roots .now) (a .guards .now) (a .bases .now) (a .returns .now) (a .stored) (a .y .routes .count) (length-records routeFrom (a .s .now) (a .y .routes)) (busy .result) (busy .ensures)) (λ k n h. h) (top .inv .1) (rw (c .enum-told .given .1) at (c .before .before .lowest-in .ensures)), top .inv .0)
 
 add-exits-requires : tie.Need-add-exits-requires Inv-loop μ-loop
 add-exits-requires c κs =
@@ -73,12 +115,13 @@ add-exits-requires c κs =
     let a = start .args in
     let m = routesIn (a .s .now) (a .y) in
     let busy = c .before .before .before .before .before .before .before .before .before .before .before .before .before .before .before .before .before .before .busy-blocks in
-    let top = c .before .before .before .before .before .before .before .before .before .before .before .before .before .before .loop in
-    let low = rw (c .before .before .before .before .before .before .before .before .before .before .b .given .1) at (c .before .before .before .before .before .before .before .before .before .before .before .before .lowest-in .ensures) in
-    let all = c .before .before .before .before .gather-block in
-    let own = block-own m _ (a .nodes .now) (a .edges .now) (a .ends .now) (a .heads .now) (a .landings .now) (a .roots .now) (a .guards .now) (a .bases .now) (a .returns .now) (a .stored) _ (all .result) (all .ensures .holds) in
-    let here = holding-here m (blockHops m (a .nodes .now) (a .edges .now) (a .ends .now) (a .heads .now) (a .landings .now) (a .roots .now) (a .guards .now) (a .bases .now) (a .returns .now) (a .stored)) (λ n. n) [] (busy .result) (a .blocks) (busy-quiet m (a .nodes .now) (a .edges .now) (a .ends .now) (a .heads .now) (a .landings .now) (a .roots .now) (a .guards .now) (a .bases .now) (a .returns .now) (a .stored) (a .y .routes .count) (length-records routeFrom (a .s .now) (a .y .routes)) (busy .result) (busy .ensures)) (λ k n h. h) (top .inv .1) _ low in
-    held-room m _ here _ (all .result) (holding-fit m (blockHops m (a .nodes .now) (a .edges .now) (a .ends .now) (a .heads .now) (a .landings .now) (a .roots .now) (a .guards .now) (a .bases .now) (a .returns .now) (a .stored)) (λ n. n) [] (busy .result) (a .blocks) (busy-quiet m (a .nodes .now) (a .edges .now) (a .ends .now) (a .heads .now) (a .landings .now) (a .roots .now) (a .guards .now) (a .bases .now) (a .returns .now) (a .stored) (a .y .routes .count) (length-records routeFrom (a .s .now) (a .y .routes)) (busy .result) (busy .ensures)) (λ k n h. h) (top .inv .1) _ low _ own (start .pre .5))
+    let top = c .before .before .before .before .before .before .before .before .before .before .before .before .loop in
+    let low = rw (c .before .before .before .before .before .before .before .before .b .given .1) at (c .before .before .before .before .before .before .before .before .before .before .lowest-in .ensures) in
+    let joined = c .before .before in
+    let held = gathered joined in
+    let own = block-own m _ (a .nodes .now) (a .edges .now) (a .ends .now) (a .heads .now) (a .landings .now) (a .roots .now) (a .guards .now) (a .bases .now) (a .returns .now) (a .stored) _ (joined .if2 .n) (held .holds) in
+    let here = holding-here m (blockHops m (a .nodes .now) (a .edges .now) (a .ends .now) (a .heads .now) (a .landings .now) (a .roots .now) (a .guards .now) (a .bases .now) (a .returns .now) (a .stored)) (λ k. k) [] (busy .result) (a .blocks) (busy-quiet m (a .nodes .now) (a .edges .now) (a .ends .now) (a .heads .now) (a .landings .now) (a .roots .now) (a .guards .now) (a .bases .now) (a .returns .now) (a .stored) (a .y .routes .count) (length-records routeFrom (a .s .now) (a .y .routes)) (busy .result) (busy .ensures)) (λ k n h. h) (top .inv .1) _ low in
+    held-room m _ here _ (joined .if2 .n) (holding-fit m (blockHops m (a .nodes .now) (a .edges .now) (a .ends .now) (a .heads .now) (a .landings .now) (a .roots .now) (a .guards .now) (a .bases .now) (a .returns .now) (a .stored)) (λ k. k) [] (busy .result) (a .blocks) (busy-quiet m (a .nodes .now) (a .edges .now) (a .ends .now) (a .heads .now) (a .landings .now) (a .roots .now) (a .guards .now) (a .bases .now) (a .returns .now) (a .stored) (a .y .routes .count) (length-records routeFrom (a .s .now) (a .y .routes)) (busy .result) (busy .ensures)) (λ k n h. h) (top .inv .1) _ low _ own (start .pre .5))
 
 loop-again : tie.Need-loop-again Inv-loop μ-loop
 loop-again c =
@@ -86,14 +129,17 @@ loop-again c =
     let a = start .args in
     let m = routesIn (a .s .now) (a .y) in
     let busy = c .before .before .before .before .before .before .before .before .before .before .before .before .before .before .before .before .before .before .before .busy-blocks in
-    let top = c .before .before .before .before .before .before .before .before .before .before .before .before .before .before .before .loop in
-    let low = rw (c .before .before .before .before .before .before .before .before .before .before .before .b .given .1) at (c .before .before .before .before .before .before .before .before .before .before .before .before .before .lowest-in .ensures) in
-    let all = c .before .before .before .before .before .gather-block in
-    let own = block-own m _ (a .nodes .now) (a .edges .now) (a .ends .now) (a .heads .now) (a .landings .now) (a .roots .now) (a .guards .now) (a .bases .now) (a .returns .now) (a .stored) _ (all .result) (all .ensures .holds) in
-    let here = holding-here m (blockHops m (a .nodes .now) (a .edges .now) (a .ends .now) (a .heads .now) (a .landings .now) (a .roots .now) (a .guards .now) (a .bases .now) (a .returns .now) (a .stored)) (λ n. n) [] (busy .result) (a .blocks) (busy-quiet m (a .nodes .now) (a .edges .now) (a .ends .now) (a .heads .now) (a .landings .now) (a .roots .now) (a .guards .now) (a .bases .now) (a .returns .now) (a .stored) (a .y .routes .count) (length-records routeFrom (a .s .now) (a .y .routes)) (busy .result) (busy .ensures)) (λ k n h. h) (top .inv .1) _ low in
-    rw (c .before .before .before .before .before .before .before .before .take-from .ensures) (
-      all .ensures .long ∙ top .inv .0,
-      holding-next m (blockHops m (a .nodes .now) (a .edges .now) (a .ends .now) (a .heads .now) (a .landings .now) (a .roots .now) (a .guards .now) (a .bases .now) (a .returns .now) (a .stored)) (λ n. n) [] (busy .result) (a .blocks) (busy-quiet m (a .nodes .now) (a .edges .now) (a .ends .now) (a .heads .now) (a .landings .now) (a .roots .now) (a .guards .now) (a .bases .now) (a .returns .now) (a .stored) (a .y .routes .count) (length-records routeFrom (a .s .now) (a .y .routes)) (busy .result) (busy .ensures)) (λ k n h. h) (top .inv .1) _ low _ own _ (omega arith) (held-more m _ here _ (all .result) (c .add-exits .ensures)),
+    let top = c .before .before .before .before .before .before .before .before .before .before .before .before .before .loop in
+    let low = rw (c .before .before .before .before .before .before .before .before .before .b .given .1) at (c .before .before .before .before .before .before .before .before .before .before .before .lowest-in .ensures) in
+    let joined = c .before .before .before in
+    let held = gathered joined in
+    let own = block-own m _ (a .nodes .now) (a .edges .now) (a .ends .now) (a .heads .now) (a .landings .now) (a .roots .now) (a .guards .now) (a .bases .now) (a .returns .now) (a .stored) _ (joined .if2 .n) (held .holds) in
+    let here = holding-here m (blockHops m (a .nodes .now) (a .edges .now) (a .ends .now) (a .heads .now) (a .landings .now) (a .roots .now) (a .guards .now) (a .bases .now) (a .returns .now) (a .stored)) (λ k. k) [] (busy .result) (a .blocks) (busy-quiet m (a .nodes .now) (a .edges .now) (a .ends .now) (a .heads .now) (a .landings .now) (a .roots .now) (a .guards .now) (a .bases .now) (a .returns .now) (a .stored) (a .y .routes .count) (length-records routeFrom (a .s .now) (a .y .routes)) (busy .result) (busy .ensures)) (λ k n h. h) (top .inv .1) _ low in
+    rw (c .before .before .before .before .before .before .take-from .ensures) (
+      held .long ∙ top .inv .0,
+      holding-next m (blockHops m (a .nodes .now) (a .edges .now) (a .ends .now) (a .heads .now) (a .landings .now) (a .roots .now) (a .guards .now) (a .bases .now) (a .returns .now) (a .stored)) (λ k. k) [] (busy .result) (a .blocks) (busy-quiet m (a .nodes .now) (a .edges .now) (a .ends .now) (a .heads .now) (a .landings .now) (a .roots .now) (a .guards .now) (a .bases .now) (a .returns .now) (a .stored) (a .y .routes .count) (length-records routeFrom (a .s .now) (a .y .routes)) (busy .result) (busy .ensures)) (λ k n h. h) (top .inv .1) _ low _ own _ (omega arith) (held-more m _ here _ (joined .if2 .n) (c .add-exits .ensures)),
+      omega (arith, low .0),
+      λ h. record { long = refl; holds = held .holds; most = held .most },
     )
 
 pub add-blocks-spec : {M : Type 1} → statement M
@@ -106,6 +152,9 @@ add-blocks-spec =
     busy-blocks-requires
     (λ c. search needs)
     original-nodes-requires
+    (λ c κs. search needs)
+    (λ c. search needs)
+    mark-turns-requires
     loop-holds
     (λ c κs. search needs)
     (λ c. search needs)
@@ -113,6 +162,7 @@ add-blocks-spec =
     same-length
     returns
     (λ c κs. search needs)
+    goes-on-requires
     (λ c. search needs)
     gather-block-requires
     add-exits-requires

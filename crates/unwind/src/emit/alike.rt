@@ -1,0 +1,104 @@
+// Blocks in a row with the same ways out: what was gathered of one stands for the next.
+use crate::sides::STAY;
+use crate::tries::store::number_at;
+use graph::blockset::has_in;
+use graph::blockset::sixteen;
+ghost use mathlib.Core.Path.{_≡_};
+ghost use mathlib.Core.Bool.{true};
+ghost use Prim.Native.Nat.{_/_, _≤_, _<_};
+ghost use lib.Bits.{bitXor};
+ghost use lib.ListN.{getD};
+ghost use Rattle.unwind.specs.Alike.{Moves, Steady, Turning, GoesOn};
+
+// With fewer nodes it costs less to gather than to look.
+const WORTH: usize = 16;
+
+// Whether to look for such blocks: there are nodes enough, and no end resumes, so that no way out names its own block.
+pub fn is_worth(listed: usize, landings: &[u16], ends: usize) -> bool
+    ensures { λ r. ⌜ (r ≡ true → Moves (now (landings .entry)) ends) ⌝ }
+{
+    if listed < WORTH {
+        return false;
+    }
+    for k in 0..ends {
+        if number_at(landings, k) == STAY {
+            return false;
+        }
+    }
+    true
+}
+
+// Whether block b has the ways out of block `last`.
+pub fn goes_on(worth: bool, turns: &[u64; 16], last: usize, b: usize) -> bool
+    requires { ⌜ last ≤ 1024 ⌝ }
+    ensures { λ r. ⌜ (r ≡ true → GoesOn worth (now (turns .entry)) last b) ⌝ }
+{
+    if !worth {
+        return false;
+    }
+    if b != last + 1 {
+        return false;
+    }
+    if b % 64 == 0 {
+        return false;
+    }
+    !has_in(turns, last)
+}
+
+// Marks those of the first `blocks` blocks that the next may differ from.
+pub fn mark_turns(
+    guards: &[u64],
+    routes: usize,
+    returns: &[u64],
+    originals: &[u16],
+    listed: usize,
+    blocks: usize,
+    turns: &mut [u64; 16],
+)
+    requires { ⌜ (routes ≤ 65536) × (blocks ≤ 1024) ⌝ }
+    ensures { λ _. ⌜ Turning (now (guards .entry)) routes (now (returns .entry)) (now (originals .entry)) listed blocks (now (turns .exit)) ⌝ }
+{
+    sixteen(turns);
+    let words = (blocks + 63) / 64;
+    for k in 0..words {
+        let guarded = guards_turn(guards, routes, k);
+        let returned = returns_turn(returns, originals, listed, k);
+        turns[k] = guarded | returned;
+    }
+}
+
+// The places of word k at which one of the n routes guards one of two blocks in a row alone.
+fn guards_turn(guards: &[u64], n: usize, k: usize) -> u64
+    requires { ⌜ (n ≤ 65536) × (k < 16) ⌝ }
+    ensures { λ t. ⌜ Steady (now (guards .entry)) (λ r. r) n k t ⌝ }
+{
+    let mut t = 0;
+    for r in 0..n {
+        t = t | turns_at(guards, 16 * r + k);
+    }
+    t
+}
+
+// Those at which one of the n nodes listed returns from one alone.
+fn returns_turn(returns: &[u64], originals: &[u16], n: usize, k: usize) -> u64
+    requires { ⌜ k < 16 ⌝ }
+    ensures { λ t. ⌜ Steady (now (returns .entry)) (λ j. getD (now (originals .entry)) j 0) n k t ⌝ }
+{
+    let mut t = 0;
+    for j in 0..n {
+        let i = number_at(originals, j);
+        t = t | turns_at(returns, 16 * i + k);
+    }
+    t
+}
+
+// The places of word j whose bit differs from the next.
+fn turns_at(sets: &[u64], j: usize) -> u64
+    ensures { λ t. ⌜ t ≡ bitXor (getD (now (sets .entry)) j 0) (getD (now (sets .entry)) j 0 / 2) ⌝ }
+{
+    if j < sets.len() {
+        let w = sets[j];
+        return w ^ (w >> 1);
+    }
+    0
+}
