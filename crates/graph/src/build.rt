@@ -13,6 +13,7 @@ use crate::edge_count::check_edge_count;
 use crate::edges::add_normal_edges;
 use crate::error::AddressBuildError;
 use crate::error::Checked;
+use crate::error::form_error;
 use crate::exceptions::add_exception_edges;
 use crate::leaders::leaders;
 use crate::ranges::check_handlers;
@@ -23,17 +24,15 @@ use crate::route::check_routes;
 use crate::store::Words;
 use crate::store::empty;
 use crate::store::set_entry;
-use image::form::ImageError;
 use image::read::ReadImage;
 use image::read::read_image;
 use image::section::Layout;
 ghost use mathlib.Core.Path.{_≡_};
 ghost use Prim.Native.Nat.{_≤_};
-ghost use Rattle.image.specs.Verdict.{refusalOf as formRefusal};
 ghost use Rattle.image.specs.Refusal.{clear};
 ghost use Rattle.image.specs.Image.{imageIn};
 ghost use Rattle.image.specs.Accepted.{Accepted};
-ghost use Rattle.graph.specs.Error.{refusalOf, checkOf};
+ghost use Rattle.graph.specs.Error.{checkOf};
 ghost use Rattle.graph.specs.Table.{codeEnd};
 ghost use Rattle.graph.specs.Transfer.{tableOf, size};
 ghost use Rattle.graph.specs.Blocks.{entryOf};
@@ -57,15 +56,6 @@ pub fn build(s: &[u8], g: &mut Words) -> Built
     match read_image(s) {
         ReadImage::Refused(e) => Built::Refused(form_error(e)),
         ReadImage::Read(y) => build_read(s, y, g),
-    }
-}
-
-fn form_error(e: ImageError) -> AddressBuildError
-    ensures { λ r. ⌜ refusalOf r ≡ formRefusal e ⌝ }
-{
-    match e {
-        ImageError::BadForm { offset } => AddressBuildError::BadForm { offset },
-        ImageError::OverLimit { offset } => AddressBuildError::OverLimit { offset },
     }
 }
 

@@ -13,6 +13,7 @@ use crate::error::Checked;
 use crate::lookup::Found;
 use crate::ranges::Ranged;
 use crate::ranges::range_check;
+use crate::store::edges::EDGE_MOST;
 use crate::transfer::Transfer;
 use crate::transfer::case_transfer;
 use crate::transfer::flow_under;
@@ -45,8 +46,6 @@ ghost use Rattle.graph.specs.Ranges.{Ended};
 ghost use Rattle.graph.specs.Emit.{slotEdges, handlerEdges};
 ghost use Rattle.graph.specs.EdgeCount.{Kept};
 
-const MOST: usize = 4096;
-
 // Whether a build gives no more edges than a graph holds. Only mode 0 can give more.
 pub fn check_edge_count(
     s: &[u8],
@@ -65,14 +64,14 @@ pub fn check_edge_count(
     let cases = y.code.cases.count as usize;
     let handlers = y.code.handlers.count as usize;
     let normal_most = 2 * instructions + cases;
-    if normal_most + handlers * instructions <= MOST {
+    if normal_most + handlers * instructions <= EDGE_MOST {
         return Checked::Clear;
     }
     let exceptional = exception_count(s, y, hints, code_end);
-    if normal_most + exceptional <= MOST {
+    if normal_most + exceptional <= EDGE_MOST {
         return Checked::Clear;
     }
-    if normal_count(s, y, hints, marks) + exceptional <= MOST {
+    if normal_count(s, y, hints, marks) + exceptional <= EDGE_MOST {
         return Checked::Clear;
     }
     Checked::Refused(AddressBuildError::TooManyEdges)

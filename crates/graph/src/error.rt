@@ -1,4 +1,9 @@
 // Why a build or an addition is refused: the Rust's `AddressBuildError` and what document 01 adds, by its numbers.
+use image::form::ImageError;
+ghost use mathlib.Core.Path.{_≡_};
+ghost use Rattle.image.specs.Verdict.{refusalOf as formRefusal};
+ghost use Rattle.graph.specs.Error.{refusalOf};
+
 pub enum AddressBuildError {
     BadForm { offset: usize },
     OverLimit { offset: usize },
@@ -27,4 +32,14 @@ pub enum AddressBuildError {
 pub enum Checked {
     Clear,
     Refused(AddressBuildError),
+}
+
+// 1 or 2 of a reader.
+pub fn form_error(e: ImageError) -> AddressBuildError
+    ensures { λ r. ⌜ refusalOf r ≡ formRefusal e ⌝ }
+{
+    match e {
+        ImageError::BadForm { offset } => AddressBuildError::BadForm { offset },
+        ImageError::OverLimit { offset } => AddressBuildError::OverLimit { offset },
+    }
 }

@@ -9,20 +9,18 @@ use crate::checks::check_routes;
 use crate::hops::Hops;
 use graph::error::AddressBuildError;
 use graph::error::Checked;
+use graph::error::form_error;
 use graph::rule::built_count;
 use graph::rule::is_graph;
 use graph::store::Words;
-use image::form::ImageError;
 use image::read::ReadRoutes;
 use image::read::read_routes;
 use image::section::RouteLayout;
 ghost use mathlib.Core.Path.{_≡_};
 ghost use mathlib.Core.Bool.{true};
-ghost use Rattle.image.specs.Verdict.{refusalOf as formRefusal};
 ghost use Rattle.image.specs.Image.{routesIn};
 ghost use Rattle.image.specs.Accepted.{AcceptedRoutes};
 ghost use Rattle.graph.specs.Words.{heldIn};
-ghost use Rattle.graph.specs.Error.{refusalOf};
 ghost use Rattle.graph.specs.WellFormed.{wellFormed};
 ghost use Rattle.addition.specs.Add.{addRoutes};
 ghost use Rattle.unwind.specs.Answers.{addAnswer, AddLeaves, Spells, Adds};
@@ -42,15 +40,6 @@ pub fn add_unwind_routes(g: &mut Words, s: &[u8], h: &mut Hops) -> AddedRoutes
     match read_routes(s) {
         ReadRoutes::Refused(e) => AddedRoutes::Refused(form_error(e)),
         ReadRoutes::Read(y) => add_read(g, s, y, h),
-    }
-}
-
-fn form_error(e: ImageError) -> AddressBuildError
-    ensures { λ r. ⌜ refusalOf r ≡ formRefusal e ⌝ }
-{
-    match e {
-        ImageError::BadForm { offset } => AddressBuildError::BadForm { offset },
-        ImageError::OverLimit { offset } => AddressBuildError::OverLimit { offset },
     }
 }
 

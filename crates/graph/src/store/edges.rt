@@ -15,20 +15,20 @@ const COUNT: usize = 2;
 
 const BASE: usize = 4640;
 
-const MOST: usize = 4096;
+pub const EDGE_MOST: usize = 4096;
 
 // How many edges there are.
 pub fn edge_count(g: &Words) -> usize
     ensures { λ r. ⌜ r ≡ length (heldIn (now (g .entry)) .graph .edges) ⌝ }
 {
-    rows_in(g, COUNT, MOST)
+    rows_in(g, COUNT, EDGE_MOST)
 }
 
 // Number i of them, and zeros past the last.
 pub fn edge_at(g: &Words, i: usize) -> Edge
     ensures { λ r. ⌜ r ≡ edge (heldIn (now (g .entry)) .graph) i ⌝ }
 {
-    if i < rows_in(g, COUNT, MOST) {
+    if i < rows_in(g, COUNT, EDGE_MOST) {
         return read(row(g, BASE + 8 * i, 8));
     }
     Edge {
@@ -47,8 +47,8 @@ pub fn edge_at(g: &Words, i: usize) -> Edge
 pub fn add_edge(g: &mut Words, r: Edge)
     ensures { λ _. ⌜ Stored (now (g .entry)) (now (g .exit)) (withEdge (heldIn (now (g .entry))) r) ⌝ }
 {
-    let n = rows_in(g, COUNT, MOST);
-    if n < MOST {
+    let n = rows_in(g, COUNT, EDGE_MOST);
+    if n < EDGE_MOST {
         let row = [
             r.source,
             r.target,

@@ -16,6 +16,7 @@ use graph::error::AddressBuildError;
 use graph::error::Checked;
 use graph::store::Words;
 use graph::store::blocks::block_count;
+use graph::store::edges::EDGE_MOST;
 use graph::store::edges::edge_count;
 use image::section::RouteLayout;
 ghost use mathlib.Core.Path.{_≡_};
@@ -33,8 +34,6 @@ ghost use Rattle.unwind.specs.HopWords.{HopsLaid};
 ghost use Rattle.addition.specs.Add.{addition, sizeCheck};
 ghost use Rattle.unwind.specs.Answers.{Sized};
 ghost use Rattle.unwind.specs.Frames.{AtHand};
-
-const EDGE_MOST: usize = 4096;
 
 // All is decided before the first store.
 pub fn add_placed(

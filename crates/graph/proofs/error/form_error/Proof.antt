@@ -1,7 +1,7 @@
 -- The same refusal by its own name. Assumes nothing.
 use borrow.Author.Needs.{needs}
-use Rattle.graph.proofs.build.form_error.Statement.{statement}
-use Rattle.graph.proofs.build.form_error.Tie as tie
+use Rattle.graph.proofs.error.form_error.Statement.{statement}
+use Rattle.graph.proofs.error.form_error.Tie as tie
 
 returns : tie.Need-returns
 returns c = rw (c .before .e .given .1)
