@@ -25,15 +25,13 @@ use Rattle.image.specs.Image.{RouteImage}
 use Rattle.image.specs.Deal.{total, UnwindStep, funclet, call, UnwindPath, UnwindRoute, stepOf, routesOf}
 use Rattle.image.specs.Accepted.{AcceptedRoutes}
 use Rattle.image.specs.declared.record.Step.{Step}
-use Rattle.graph.specs.Graph.{Graph, block}
+use Rattle.graph.specs.Graph.{Graph}
 use Rattle.graph.specs.Fold.{some as any, among}
 use Rattle.graph.specs.BlockSet.{member, none}
-use Rattle.graph.specs.Table.{entryAt, isStart, below}
 use Rattle.graph.specs.Route.{routeAt, pathAt, pathsBefore, stepsBefore, pathIn}
 use Rattle.graph.specs.WellFormed.{isBuilt, Built}
 use Rattle.graph.proofs.FoldLaws.{decided, some-same, some-at, some-where}
 use Rattle.graph.proofs.BlockLaws.{member-none, member-including, length-including}
-use Rattle.graph.proofs.TableLaws.{start-at, below-at}
 use Rattle.graph.proofs.RouteLaws.{length-routes, paths-of, path-of, paths-in, steps-of, step-of, steps-in}
 use Rattle.addition.specs.Blocks.{Leading, leads, inside, absent, firstOf, leading, blockIn, blockOf}
 use Rattle.addition.specs.Part.{funclets}
@@ -45,7 +43,7 @@ use Rattle.addition.specs.Walk.{_∈_, Funclet, Built as BuiltBlock, Begins}
 use Rattle.addition.proofs.Lists.{and-both, and-true, both-ways, mem-getD, mem-at, at-lt, at-getD, mem-among, among-mem}
 use Rattle.addition.proofs.Closure.{mem-funclets, funclets-mem}
 use Rattle.addition.proofs.Accepted.{lead-begins}
-use Rattle.unwind.proofs.Standing.{table-rises, built-is, is-built, first-lt, leads-here}
+use Rattle.unwind.proofs.Standing.{is-built, first-lt, leads-first}
 
 -- ---- steps
 
@@ -151,7 +149,6 @@ part-named g rs w f e r is bars found = rw (leads-block g f e is) (rw (leads-beg
 
 module _ (g : Graph) (s : Stands g) (n : ℕ) (built : Built g n) (there : 0 < length (g .table)) (b : ℕ) (h : b < length (g .blocks)) where
   pub leads-to : (a : ℕ) → leadsTo (leading g a) b ≡ (isBuilt g b && eqb a (firstOf g b .address))
-  unfolding firstOf
   leads-to a = both-ways _ _ (forth (leading g a) refl) back
     where
       forth : (l : Leading) → leading g a ≡ l → leadsTo l b ≡ true → (isBuilt g b && eqb a (firstOf g b .address)) ≡ true
@@ -166,10 +163,7 @@ module _ (g : Graph) (s : Stands g) (n : ℕ) (built : Built g n) (there : 0 < l
       back e =
           let x = and-both (isBuilt g b) (eqb a (firstOf g b .address)) e in
           let lt = is-built g s n built b (record { exists = h; original = x .0 }) in
-          let here = eqb-true a _ (x .1) in
-          let inside = first-lt g s n built b there lt in
-          let at : below (g .table) a ≡ block g b .first = rw (sym here) at (below-at (g .table) (table-rises g s) (block g b .first) inside) in
-          rw (leads-here g s n built a (block g b .first) (start-at (g .table) a (block g b .first) inside (sym here)) at b lt refl) (eq-eqb b b refl)
+          rw (leads-first g s n built a b lt (first-lt g s n built b there lt) (sym (eqb-true a _ (x .1)))) (eq-eqb b b refl)
 
 module _ (g : Graph) (few : length (g .blocks) ≤ 1024) (w : List ℕ) (long : length w ≡ 16) (a : ℕ) where
   pub length-entering : length (entering (leading g a) w) ≡ 16

@@ -10,6 +10,7 @@
 --     none-begins                  no built block begins at a position but the one found
 --     built-some, begins-one       how many are built, and that one begins at an address
 --     leads-here, leads-none, leads-absent     the block that an address starts
+--     leads-first                  a built block whose first instruction starts at an address is the one
 -- Assumes nothing.
 use mathlib.Core.Path.{_≡_, refl, sym, ap, _∙_}
 use mathlib.Core.Bool.{Bool, true, false, cond, _&&_, _||_, false≢true, true≢false}
@@ -268,6 +269,12 @@ module _ (g : Graph) (s : Stands g) where
       pub leads-none : ((b : ℕ) → b < n → block g b .first ≡ p → ⊥) → leading g a ≡ inside
       unfolding leading leadingBy starts
       leads-none out = rw (head-none starts (builtBlocks g) (λ c m. same-start c (is-built c (built-mem g c m)) ∙ ne-eqb _ p (out c (is-built c (built-mem g c m)))), start)
+
+    pub leads-first : (a b : ℕ) → b < n → block g b .first < length (g .table) → firstOf g b .address ≡ a → leading g a ≡ leads b
+    unfolding firstOf
+    leads-first a b h fits is =
+        let p = block g b .first in
+        leads-here a p (start-at (g .table) a p fits is) (rw is at (below-at (g .table) table-rises p fits)) b h refl
 
   pub leads-absent : (a : ℕ) → isStart (g .table) a ≡ false → leading g a ≡ absent
   unfolding leading leadingBy

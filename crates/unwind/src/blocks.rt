@@ -1,4 +1,5 @@
 // Look-up in a graph's own table and among its built blocks, which stand in the table's order.
+use crate::tries::store::number_at;
 use graph::blockset::put_in;
 use graph::lookup::Found;
 use graph::record::TableEntry;
@@ -7,6 +8,10 @@ use graph::store::blocks::block_at;
 use graph::store::table::table_at;
 use graph::store::table::table_count;
 ghost use mathlib.Core.Path.{_≡_};
+ghost use mathlib.Core.Bool.{_&&_};
+ghost use lib.Dec.{eqb, ltb};
+ghost use lib.ListN.{length};
+ghost use Rattle.graph.specs.Graph.{block};
 ghost use Rattle.graph.specs.Words.{heldIn};
 ghost use Rattle.graph.specs.Table.{below};
 ghost use Rattle.graph.specs.Lookup.{Finds};
@@ -72,8 +77,52 @@ pub fn block_from(g: &Words, built: usize, p: usize) -> usize
     lo
 }
 
-// The built block that a starts, or why there is none.
-pub fn leading_block(g: &Words, built: usize, a: u64) -> Lead
+// The hints of the built blocks: where the block that an address starts is likely to stand. Whatever the hints are, an
+// answer is the same: each is tried before it is believed.
+pub fn hint_blocks(g: &Words, built: usize, hints: &mut [u16]) {
+    let n = hints.len();
+    for b in 0..built {
+        let slot = hint_slot(n, first_of(g, b).address);
+        if slot < n {
+            hints[slot] = (b % 65536) as u16;
+        }
+    }
+}
+
+// The slot of an address among n hints.
+fn hint_slot(n: usize, a: u64) -> usize {
+    let mixed = a % 0x100000000 * 0x9E3779B9;
+    if n < 128 {
+        return (mixed / 0x10000000 % 16) as usize;
+    }
+    if n < 1024 {
+        return (mixed / 0x2000000 % 128) as usize;
+    }
+    (mixed / 0x400000 % 1024) as usize
+}
+
+// The built block that a starts, or why there is none: by its hint, or else by halving.
+pub fn leading_block(g: &Words, built: usize, hints: &[u16], a: u64) -> Lead
+    requires { ⌜ Stands (heldIn (now g) .graph) × Built (heldIn (now g) .graph) built ⌝ }
+    ensures { λ r. ⌜ leadingOf r ≡ leading (heldIn (now (g .entry)) .graph) a ⌝ }
+{
+    let b = number_at(hints, hint_slot(hints.len(), a));
+    if starts_at(g, built, b, a) {
+        return Lead::Leads(b);
+    }
+    search(g, built, a)
+}
+
+// Whether b is a built block whose first instruction starts at a.
+fn starts_at(g: &Words, built: usize, b: usize, a: u64) -> bool
+    ensures { λ r. ⌜ r ≡ (ltb b built && ltb (block (heldIn (now (g .entry)) .graph) b .first) (length (heldIn (now (g .entry)) .graph .table)) && eqb (firstOf (heldIn (now (g .entry)) .graph) b .address) a) ⌝ }
+{
+    let p = block_at(g, b).first as usize;
+    (b < built) & (p < table_count(g)) & (table_at(g, p).address == a)
+}
+
+// By halving.
+fn search(g: &Words, built: usize, a: u64) -> Lead
     requires { ⌜ Stands (heldIn (now g) .graph) × Built (heldIn (now g) .graph) built ⌝ }
     ensures { λ r. ⌜ leadingOf r ≡ leading (heldIn (now (g .entry)) .graph) a ⌝ }
 {

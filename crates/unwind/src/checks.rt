@@ -85,11 +85,11 @@ fn check_route(
 }
 
 // 14 and 17 of an address that a node names: it starts a built block.
-pub fn check_lead(g: &Words, built: usize, a: u64) -> Checked
+pub fn check_lead(g: &Words, built: usize, hints: &[u16], a: u64) -> Checked
     requires { ⌜ Stands (heldIn (now g) .graph) × Built (heldIn (now g) .graph) built ⌝ }
     ensures { λ r. ⌜ checkOf r ≡ leadCheck (heldIn (now (g .entry)) .graph) a ⌝ }
 {
-    match leading_block(g, built, a) {
+    match leading_block(g, built, hints, a) {
         Lead::Leads(_) => Checked::Clear,
         Lead::Inside => Checked::Refused(AddressBuildError::RouteAddressNotBlockStart {
             address: a,

@@ -26,6 +26,7 @@ ghost use Rattle.addition.specs.Add.{funcletCheck, endCheck, nodeCheck};
 pub fn check_nodes(
     g: &Words,
     built: usize,
+    hints: &[u16],
     s: &[u8],
     y: RouteLayout,
     nodes: &[u16],
@@ -36,7 +37,7 @@ pub fn check_nodes(
     ensures { λ r. ⌜ ((edges : List ℕ) → checkOf r ≡ checks (λ i. nodeCheck (heldIn (now (g .entry)) .graph) (nodeAt (nodesIn (routesIn (now (s .entry)) y) (now (nodes .entry)) edges (now (ends .entry)) n) i)) n) ⌝ }
 {
     for i in 0..n {
-        let found = check_node(g, built, s, y, nodes, ends, i);
+        let found = check_node(g, built, hints, s, y, nodes, ends, i);
         let Checked::Clear = found else {
             return found;
         };
@@ -48,6 +49,7 @@ pub fn check_nodes(
 fn check_node(
     g: &Words,
     built: usize,
+    hints: &[u16],
     s: &[u8],
     y: RouteLayout,
     nodes: &[u16],
@@ -58,28 +60,36 @@ fn check_node(
     ensures { λ r. ⌜ ((edges : List ℕ) → checkOf r ≡ nodeCheck (heldIn (now (g .entry)) .graph) (nodeIn (routesIn (now (s .entry)) y) edges (now (ends .entry)) (recordIn (now (nodes .entry)) i))) ⌝ }
 {
     let x = node_at(nodes, i);
-    let found = check_funclet(g, built, s, y, x.funclet);
+    let found = check_funclet(g, built, hints, s, y, x.funclet);
     let Checked::Clear = found else {
         return found;
     };
-    check_ends(g, built, s, y, ends, x.first_end, x.ends)
+    check_ends(g, built, hints, s, y, ends, x.first_end, x.ends)
 }
 
 // The funclet that step f - 1 names; the root of a route, with 0, has none.
-fn check_funclet(g: &Words, built: usize, s: &[u8], y: RouteLayout, f: usize) -> Checked
+fn check_funclet(
+    g: &Words,
+    built: usize,
+    hints: &[u16],
+    s: &[u8],
+    y: RouteLayout,
+    f: usize,
+) -> Checked
     requires { ⌜ Stands (heldIn (now g) .graph) × Built (heldIn (now g) .graph) built ⌝ }
     ensures { λ r. ⌜ checkOf r ≡ funcletCheck (heldIn (now (g .entry)) .graph) (funcletIn (routesIn (now (s .entry)) y) f) ⌝ }
 {
     if f == 0 {
         return Checked::Clear;
     }
-    check_lead(g, built, step_at(s, y.steps, f - 1).value)
+    check_lead(g, built, hints, step_at(s, y.steps, f - 1).value)
 }
 
 // The n ends from `first` on.
 fn check_ends(
     g: &Words,
     built: usize,
+    hints: &[u16],
     s: &[u8],
     y: RouteLayout,
     ends: &[u16],
@@ -90,7 +100,7 @@ fn check_ends(
     ensures { λ r. ⌜ checkOf r ≡ checks (λ k. endCheck (heldIn (now (g .entry)) .graph) (endOf (pathRecord (routesIn (now (s .entry)) y) (branchIn (now (ends .entry)) (first + k) .what)))) n ⌝ }
 {
     for k in 0..n {
-        let found = check_end(g, built, s, y, branch_at(ends, first + k).what);
+        let found = check_end(g, built, hints, s, y, branch_at(ends, first + k).what);
         let Checked::Clear = found else {
             return found;
         };
@@ -99,13 +109,13 @@ fn check_ends(
 }
 
 // The end of path p.
-fn check_end(g: &Words, built: usize, s: &[u8], y: RouteLayout, p: usize) -> Checked
+fn check_end(g: &Words, built: usize, hints: &[u16], s: &[u8], y: RouteLayout, p: usize) -> Checked
     requires { ⌜ Stands (heldIn (now g) .graph) × Built (heldIn (now g) .graph) built ⌝ }
     ensures { λ r. ⌜ checkOf r ≡ endCheck (heldIn (now (g .entry)) .graph) (endOf (pathRecord (routesIn (now (s .entry)) y) p)) ⌝ }
 {
     let path = path_at(s, y.paths, p);
     if path.end == HANDLER {
-        return check_lead(g, built, path.handler);
+        return check_lead(g, built, hints, path.handler);
     }
     Checked::Clear
 }

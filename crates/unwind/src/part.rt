@@ -49,7 +49,13 @@ fn is_ordinary(kind: u64) -> bool
 }
 
 // The built blocks that start a funclet of the routes.
-pub fn funclet_entries(g: &Words, built: usize, s: &[u8], y: RouteLayout) -> [u64; 16]
+pub fn funclet_entries(
+    g: &Words,
+    built: usize,
+    hints: &[u16],
+    s: &[u8],
+    y: RouteLayout,
+) -> [u64; 16]
     requires { ⌜ Stands (heldIn (now g) .graph) × Built (heldIn (now g) .graph) built × (0 < length (routesIn (now s) y .steps) → 0 < length (heldIn (now g) .graph .table)) × AcceptedRoutes (routesIn (now s) y) ⌝ }
     ensures { λ r. ⌜ Barriers (heldIn (now (g .entry)) .graph) (routesOf (routesIn (now (s .entry)) y)) r ⌝ }
 {
@@ -58,18 +64,18 @@ pub fn funclet_entries(g: &Words, built: usize, s: &[u8], y: RouteLayout) -> [u6
     for j in 0..n {
         let x = step_at(s, y.steps, j);
         if x.code == FUNCLET {
-            put_entry(g, built, x.value, &mut set);
+            put_entry(g, built, hints, x.value, &mut set);
         }
     }
     set
 }
 
 // The built block that starts at a, put into the set.
-fn put_entry(g: &Words, built: usize, a: u64, set: &mut [u64; 16])
+fn put_entry(g: &Words, built: usize, hints: &[u16], a: u64, set: &mut [u64; 16])
     requires { ⌜ Stands (heldIn (now g) .graph) × Built (heldIn (now g) .graph) built ⌝ }
     ensures { λ _. ⌜ now (set .exit) ≡ entering (leading (heldIn (now (g .entry)) .graph) a) (now (set .entry)) ⌝ }
 {
-    match leading_block(g, built, a) {
+    match leading_block(g, built, hints, a) {
         Lead::Leads(b) => put_in(set, b),
         Lead::Inside => {}
         Lead::Absent => {}

@@ -41,6 +41,7 @@ const MOST: usize = 1024;
 pub fn place_nodes(
     g: &Words,
     built: usize,
+    hints: &[u16],
     s: &[u8],
     y: RouteLayout,
     nodes: &[u16],
@@ -63,6 +64,7 @@ pub fn place_nodes(
         base += place_node(
             g,
             built,
+            hints,
             s,
             y,
             nodes,
@@ -89,6 +91,7 @@ pub fn place_nodes(
 fn place_node(
     g: &Words,
     built: usize,
+    hints: &[u16],
     s: &[u8],
     y: RouteLayout,
     nodes: &[u16],
@@ -108,7 +111,7 @@ fn place_node(
     ensures { λ r. ⌜ Placing (heldIn (now (g .entry)) .graph) (routesIn (now (s .entry)) y) (now (nodes .entry)) i base r (now (bases .entry)) (now (entries .entry)) (now (parts .entry)) (now (returns .entry)) (now (bases .exit)) (now (entries .exit)) (now (parts .exit)) (now (returns .exit)) × Firsts (heldIn (now (g .entry)) .graph) (routesIn (now (s .entry)) y) (now (nodes .entry)) (now (firsts .exit)) (i + 1) ⌝ }
 {
     let f = node_at(nodes, i).funclet;
-    let entry = entry_of(g, built, s, y, f);
+    let entry = entry_of(g, built, hints, s, y, f);
     let slot = slot_of(f, entry);
     let first = number_at(firsts, slot);
     if first != 0 {
@@ -153,14 +156,14 @@ fn slot_of(f: usize, entry: usize) -> usize
 }
 
 // The entry of the funclet that step f - 1 names; 0 at the root of a route.
-fn entry_of(g: &Words, built: usize, s: &[u8], y: RouteLayout, f: usize) -> usize
+fn entry_of(g: &Words, built: usize, hints: &[u16], s: &[u8], y: RouteLayout, f: usize) -> usize
     requires { ⌜ Stands (heldIn (now g) .graph) × Built (heldIn (now g) .graph) built ⌝ }
     ensures { λ r. ⌜ r ≡ entryBlock (heldIn (now (g .entry)) .graph) (funcletIn (routesIn (now (s .entry)) y) f) ⌝ }
 {
     if f == 0 {
         return 0;
     }
-    match leading_block(g, built, step_at(s, y.steps, f - 1).value) {
+    match leading_block(g, built, hints, step_at(s, y.steps, f - 1).value) {
         Lead::Leads(b) => b,
         Lead::Inside => 0,
         Lead::Absent => 0,

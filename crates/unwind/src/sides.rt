@@ -43,6 +43,7 @@ pub fn guard_routes(g: &Words, built: usize, s: &[u8], y: RouteLayout, guards: &
 pub fn land_ends(
     g: &Words,
     built: usize,
+    hints: &[u16],
     s: &[u8],
     y: RouteLayout,
     ends: &[u16],
@@ -53,13 +54,13 @@ pub fn land_ends(
     ensures { λ _. ⌜ Lands (heldIn (now (g .entry)) .graph) (routesIn (now (s .entry)) y) (now (ends .entry)) (now (landings .exit)) n ⌝ }
 {
     for k in 0..n {
-        let b = land(g, built, s, y, branch_at(ends, k).what);
+        let b = land(g, built, hints, s, y, branch_at(ends, k).what);
         landings[k] = b as u16;
     }
 }
 
 // Where the end of path p lands: at the block of its handler, or LEAVE where it propagates, or STAY where it resumes.
-fn land(g: &Words, built: usize, s: &[u8], y: RouteLayout, p: usize) -> usize
+fn land(g: &Words, built: usize, hints: &[u16], s: &[u8], y: RouteLayout, p: usize) -> usize
     requires { ⌜ Stands (heldIn (now g) .graph) × Built (heldIn (now g) .graph) built ⌝ }
     ensures { λ r. ⌜ (r ≡ landing (heldIn (now (g .entry)) .graph) (endOf (pathRecord (routesIn (now (s .entry)) y) p))) × (r < 65536) ⌝ }
 {
@@ -70,7 +71,7 @@ fn land(g: &Words, built: usize, s: &[u8], y: RouteLayout, p: usize) -> usize
     if path.end != HANDLER {
         return STAY;
     }
-    match leading_block(g, built, path.handler) {
+    match leading_block(g, built, hints, path.handler) {
         Lead::Leads(b) => b,
         Lead::Inside => 0,
         Lead::Absent => 0,

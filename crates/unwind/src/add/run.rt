@@ -1,6 +1,7 @@
 // An addition in scratch that is lent: the tries, the instances, the sizes, and then the stores.
 use crate::add::AddedRoutes;
 use crate::add::store::add_placed;
+use crate::blocks::hint_blocks;
 use crate::hops::Hops;
 use crate::node_checks::check_nodes;
 use crate::part::funclet_entries;
@@ -57,6 +58,7 @@ pub fn add_in(
     add_tries(
         g,
         built,
+        stack,
         s,
         y,
         h,
@@ -81,6 +83,7 @@ pub fn add_in(
 fn add_tries(
     g: &mut Words,
     built: usize,
+    hints: &mut [u16],
     s: &[u8],
     y: RouteLayout,
     h: &mut Hops,
@@ -103,13 +106,15 @@ fn add_tries(
     ensures { λ r. ⌜ Adds (routesIn (now (s .entry)) y) (now (g .entry)) (now (g .exit)) (now (h .entry)) (now (h .exit)) r ⌝ }
 {
     let n = stored.nodes;
-    if let Checked::Refused(e) = check_nodes(g, built, s, y, nodes, ends, n) {
+    hint_blocks(g, built, hints);
+    if let Checked::Refused(e) = check_nodes(g, built, hints, s, y, nodes, ends, n) {
         return AddedRoutes::Refused(e);
     }
     link(g, head, next);
     if let Checked::Refused(e) = place(
         g,
         built,
+        hints,
         s,
         y,
         nodes,
@@ -127,6 +132,7 @@ fn add_tries(
     add_instances(
         g,
         built,
+        hints,
         s,
         y,
         h,
@@ -151,6 +157,7 @@ fn add_tries(
 fn place(
     g: &Words,
     built: usize,
+    hints: &[u16],
     s: &[u8],
     y: RouteLayout,
     nodes: &[u16],
@@ -166,11 +173,12 @@ fn place(
     requires { ⌜ RoutesChecked (heldIn (now g)) built (routesIn (now s) y) × Roomy (heldIn (now g) .graph) (now head) (now next) × Linked (heldIn (now g) .graph) (now head) (now next) 0 × ((i : ℕ) → i < n → funcletCheck (heldIn (now g) .graph) (funcletAt (routesIn (now s) y) (now nodes) i) ≡ clear) × Slots n (now bases) (now heads) (now parts) (now returns) × Firsts (heldIn (now g) .graph) (routesIn (now s) y) (now nodes) (now firsts) 0 × (n ≤ 544) ⌝ }
     ensures { λ r. ⌜ PlacedAll (heldIn (now (g .entry)) .graph) (routesIn (now (s .entry)) y) (now (nodes .entry)) n (now (bases .exit)) (now (heads .exit)) (now (parts .exit)) (now (returns .exit)) (checkOf r) ⌝ }
 {
-    let barriers = funclet_entries(g, built, s, y);
+    let barriers = funclet_entries(g, built, hints, s, y);
     let sources = ordinary_sources(g);
     place_nodes(
         g,
         built,
+        hints,
         s,
         y,
         nodes,
@@ -191,6 +199,7 @@ fn place(
 fn add_instances(
     g: &mut Words,
     built: usize,
+    hints: &[u16],
     s: &[u8],
     y: RouteLayout,
     h: &mut Hops,
@@ -213,7 +222,7 @@ fn add_instances(
     ensures { λ r. ⌜ Sized (routesIn (now (s .entry)) y) (now (g .entry)) (now (g .exit)) (now (h .entry)) (now (h .exit)) r ⌝ }
 {
     guard_routes(g, built, s, y, guards);
-    land_ends(g, built, s, y, ends, stored.ends, landings);
+    land_ends(g, built, hints, s, y, ends, stored.ends, landings);
     add_placed(
         g,
         s,

@@ -13,21 +13,21 @@ use Rattle.unwind.proofs.node_checks.check_ends.Statement.{statement}
 use Rattle.unwind.proofs.node_checks.check_ends.Tie as tie
 
 abbrev Inv-loop : tie.InvT-loop
-Inv-loop g built s y ends first n k₀ k = (k ≤ n) × (checks (endsCheck (heldIn g .graph) (routesIn s y) ends first) k ≡ clear)
+Inv-loop g built hints s y ends first n k₀ k = (k ≤ n) × (checks (endsCheck (heldIn g .graph) (routesIn s y) ends first) k ≡ clear)
 
 abbrev μ-loop : tie.MeasureT-loop
-μ-loop g built s y ends first n k₀ k = n - k
+μ-loop g built hints s y ends first n k₀ k = n - k
 
 loop-holds : tie.Need-loop-holds Inv-loop μ-loop
 unfolding checks
 loop-holds c = (omega arith, refl)
 
 add-branch-at : tie.Need-add-branch-at Inv-loop μ-loop
-add-branch-at c = let pre = c .before .before .before .before .pre in omega (arith, pre .2, pre .3)
+add-branch-at c = let pre = c .before .before .before .before .before .pre in omega (arith, pre .2, pre .3)
 
 returns : tie.Need-returns Inv-loop μ-loop
 returns c =
-    let a = c .before .before .before .before .before .before .before .before .args in
+    let a = c .before .before .before .before .before .before .before .before .before .args in
     let top = c .before .before .before .before .before .loop in
     let told = ap checkOf (c .enum-told2 .given .1) in
     let here = rw (c .before .before .before .branch-at .ensures .is) at (c .before .before .check-end .ensures) in
@@ -35,7 +35,7 @@ returns c =
 
 loop-again : tie.Need-loop-again Inv-loop μ-loop
 loop-again c =
-    let a = c .before .before .before .before .before .before .before .before .args in
+    let a = c .before .before .before .before .before .before .before .before .before .args in
     let top = c .before .before .before .before .before .loop in
     let here = rw (c .before .before .before .branch-at .ensures .is) at (c .before .before .check-end .ensures) in
     (omega arith, checks-more (endsCheck (heldIn (a .g .now) .graph) (routesIn (a .s .now) (a .y)) (a .ends .now) (a .first)) (top .k) (top .inv .1) ∙ sym here ∙ ap checkOf (c .enum-told .given .1))
@@ -43,7 +43,7 @@ loop-again c =
 returns-2 : tie.Need-returns-2 Inv-loop μ-loop
 returns-2 c =
     let end = c .before .loop in
-    let all : end .k ≡ c .before .before .before .before .args .n = omega arith in
+    let all : end .k ≡ c .before .before .before .before .before .args .n = omega arith in
     sym (rw all at (end .inv .1))
 
 pub check-ends-spec : {M : Type 1} → statement M

@@ -10,7 +10,7 @@ use Rattle.unwind.proofs.node_checks.check_funclet.Tie as tie
 
 returns : tie.Need-returns
 returns c =
-    let a = c .before .before .args in
+    let a = c .before .before .before .args in
     sym (funclet-root (heldIn (a .g .now) .graph) (routesIn (a .s .now) (a .y)) (a .f) (c .if1 .taken))
 
 sub-step-at : tie.Need-sub-step-at
@@ -18,7 +18,7 @@ sub-step-at c = let ne = c .if1 .left in omega arith
 
 returns-2 : tie.Need-returns-2
 returns-2 c =
-    let a = c .before .before .before .before .args in
+    let a = c .before .before .before .before .before .args in
     rw (c .before .step-at .ensures) at (c .check-lead .ensures)
     ∙ sym (funclet-named (heldIn (a .g .now) .graph) (routesIn (a .s .now) (a .y)) (a .f) (c .before .before .if1 .left))
 

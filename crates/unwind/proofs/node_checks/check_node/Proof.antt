@@ -11,7 +11,7 @@ use Rattle.unwind.proofs.node_checks.check_node.Tie as tie
 
 returns : tie.Need-returns
 returns c =
-    let a = c .before .before .before .before .before .before .before .args in
+    let a = c .before .before .before .before .before .before .before .before .args in
     let m = routesIn (a .s .now) (a .y) in
     let told = ap checkOf (c .enum-told2 .given .1) in
     let funclet = rw (c .before .before .before .node-at .ensures .is) at (sym (c .before .before .check-funclet .ensures) ∙ told) in
@@ -19,13 +19,13 @@ returns c =
 
 check-ends-requires : tie.Need-check-ends-requires
 check-ends-requires c κs =
-    let pre = c .before .before .before .before .before .before .before .pre in
+    let pre = c .before .before .before .before .before .before .before .before .pre in
     let small = c .before .before .before .node-at .ensures .small in
     (pre .0, pre .1, small .first-end, small .ends)
 
 returns-2 : tie.Need-returns-2
 returns-2 c =
-    let a = c .before .before .before .before .before .before .before .before .args in
+    let a = c .before .before .before .before .before .before .before .before .before .args in
     let m = routesIn (a .s .now) (a .y) in
     let read = c .before .before .before .before .node-at .ensures .is in
     let funclet = rw read at (sym (c .before .before .before .check-funclet .ensures) ∙ ap checkOf (c .before .enum-told .given .1)) in

@@ -17,10 +17,10 @@ use Rattle.unwind.proofs.node_checks.check_nodes.Statement.{statement}
 use Rattle.unwind.proofs.node_checks.check_nodes.Tie as tie
 
 abbrev Inv-loop : tie.InvT-loop
-Inv-loop g built s y nodes ends n i₀ i = (i ≤ n) × ((edges : List ℕ) → checks (λ i. nodeCheck (heldIn g .graph) (nodeAt (nodesIn (routesIn s y) nodes edges ends n) i)) i ≡ clear)
+Inv-loop g built hints s y nodes ends n i₀ i = (i ≤ n) × ((edges : List ℕ) → checks (λ i. nodeCheck (heldIn g .graph) (nodeAt (nodesIn (routesIn s y) nodes edges ends n) i)) i ≡ clear)
 
 abbrev μ-loop : tie.MeasureT-loop
-μ-loop g built s y nodes ends n i₀ i = n - i
+μ-loop g built hints s y nodes ends n i₀ i = n - i
 
 loop-holds : tie.Need-loop-holds Inv-loop μ-loop
 unfolding checks
@@ -28,7 +28,7 @@ loop-holds c = (omega arith, λ edges. refl)
 
 returns : tie.Need-returns Inv-loop μ-loop
 returns c =
-    let a = c .before .before .before .before .before .before .before .before .args in
+    let a = c .before .before .before .before .before .before .before .before .before .args in
     let top = c .before .before .before .before .loop in
     let test = c .before .before .before .loop-test .taken in
     let told = ap checkOf (c .enum-told2 .given .1) in
@@ -37,7 +37,7 @@ returns c =
 
 loop-again : tie.Need-loop-again Inv-loop μ-loop
 loop-again c =
-    let a = c .before .before .before .before .before .before .before .before .args in
+    let a = c .before .before .before .before .before .before .before .before .before .args in
     let top = c .before .before .before .before .loop in
     let test = c .before .before .before .loop-test .taken in (
       omega arith,
@@ -50,7 +50,7 @@ loop-again c =
 returns-2 : tie.Need-returns-2 Inv-loop μ-loop
 returns-2 c =
     let end = c .before .loop in
-    let all : end .i ≡ c .before .before .before .before .before .args .n = omega arith in
+    let all : end .i ≡ c .before .before .before .before .before .before .args .n = omega arith in
     λ edges. sym (rw all at (end .inv .1 edges))
 
 pub check-nodes-spec : {M : Type 1} → statement M

@@ -16,17 +16,17 @@ use Rattle.unwind.proofs.part.funclet_entries.Statement.{statement}
 use Rattle.unwind.proofs.part.funclet_entries.Tie as tie
 
 abbrev Inv-loop : tie.InvT-loop
-Inv-loop g built s y n set₀ j₀ set j = (j ≤ n) × Entered (heldIn g .graph) (routesIn s y) j set
+Inv-loop g built hints s y n set₀ j₀ set j = (j ≤ n) × Entered (heldIn g .graph) (routesIn s y) j set
 
 abbrev μ-loop : tie.MeasureT-loop
-μ-loop g built s y n set₀ j₀ set j = n - j
+μ-loop g built hints s y n set₀ j₀ set j = n - j
 
 loop-holds : tie.Need-loop-holds Inv-loop μ-loop
-loop-holds c = (omega arith, entered-none (heldIn (c .before .before .args .g .now) .graph) (routesIn (c .before .before .args .s .now) (c .before .before .args .y)))
+loop-holds c = (omega arith, entered-none (heldIn (c .before .before .before .args .g .now) .graph) (routesIn (c .before .before .before .args .s .now) (c .before .before .before .args .y)))
 
 loop-again : tie.Need-loop-again Inv-loop μ-loop
 loop-again c =
-    let a = c .before .before .before .before .before .before .before .args in
+    let a = c .before .before .before .before .before .before .before .before .args in
     let g = heldIn (a .g .now) .graph in
     let m = routesIn (a .s .now) (a .y) in
     let top = c .before .before .before .before .loop in
@@ -41,7 +41,7 @@ loop-again c =
 
 returns : tie.Need-returns Inv-loop μ-loop
 returns c =
-    let start = c .before .before .before .before in
+    let start = c .before .before .before .before .before in
     let a = start .args in
     let end = c .before .loop in
     let m = routesIn (a .s .now) (a .y) in

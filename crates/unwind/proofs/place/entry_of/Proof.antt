@@ -12,7 +12,7 @@ use Rattle.unwind.proofs.place.entry_of.Tie as tie
 
 returns : tie.Need-returns
 returns c =
-    let a = c .before .before .args in
+    let a = c .before .before .before .args in
     sym (entry-root (heldIn (a .g .now) .graph) (routesIn (a .s .now) (a .y)) (a .f) (c .if1 .taken))
 
 sub-step-at : tie.Need-sub-step-at
@@ -21,21 +21,21 @@ sub-step-at c = let ne = c .if1 .left in omega arith
 returns-2 : tie.Need-returns-2
 unfolding blockIn
 returns-2 c =
-    let a = c .before .before .before .before .before .before .before .args in
+    let a = c .before .before .before .before .before .before .before .before .args in
     let lead = rw (c .before .before .before .before .step-at .ensures) at (c .before .before .before .leading-block .ensures) in
     sym (entry-named (heldIn (a .g .now) .graph) (routesIn (a .s .now) (a .y)) (a .f) (c .before .before .before .before .before .if1 .left) ∙ ap blockIn (sym lead ∙ ap leadingOf (c .before .b .given .1)))
 
 returns-3 : tie.Need-returns-3
 unfolding blockIn
 returns-3 c =
-    let a = c .before .before .before .before .before .before .args in
+    let a = c .before .before .before .before .before .before .before .args in
     let lead = rw (c .before .before .before .step-at .ensures) at (c .before .before .leading-block .ensures) in
     sym (entry-named (heldIn (a .g .now) .graph) (routesIn (a .s .now) (a .y)) (a .f) (c .before .before .before .before .if1 .left) ∙ ap blockIn (sym lead ∙ ap leadingOf (c .enum-told .given .1)))
 
 returns-4 : tie.Need-returns-4
 unfolding blockIn
 returns-4 c =
-    let a = c .before .before .before .before .before .before .args in
+    let a = c .before .before .before .before .before .before .before .args in
     let lead = rw (c .before .before .before .step-at .ensures) at (c .before .before .leading-block .ensures) in
     sym (entry-named (heldIn (a .g .now) .graph) (routesIn (a .s .now) (a .y)) (a .f) (c .before .before .before .before .if1 .left) ∙ ap blockIn (sym lead ∙ ap leadingOf (c .enum-told2 .given .1)))
 

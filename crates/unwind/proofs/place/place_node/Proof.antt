@@ -20,29 +20,29 @@ use Rattle.unwind.proofs.place.place_node.Statement.{statement}
 use Rattle.unwind.proofs.place.place_node.Tie as tie
 
 entry-of-requires : tie.Need-entry-of-requires
-entry-of-requires c κs = let ready = c .before .before .before .before .before .before .before .before .before .before .pre .0 in (ready .stands, ready .built)
+entry-of-requires c κs = let ready = c .before .before .before .before .before .before .before .before .before .before .before .pre .0 in (ready .stands, ready .built)
 
 -- the check of node i
 leads : (c : tie.Start) → funcletCheck (heldIn (c .args .g .now) .graph) (funcletAt (routesIn (c .args .s .now) (c .args .y)) (c .args .nodes .now) (c .args .i)) ≡ clear
 leads c = c .pre .1 (c .args .i) (omega arith)
 
 -- the funclet of node i, by its record, its entry and its slot
-funclet : (c : tie.After-node-at) → c .node-at .result .funclet ≡ recordIn (c .before .before .before .before .before .before .before .before .before .before .args .nodes .now) (c .before .before .before .before .before .before .before .before .before .before .args .i) .funclet
+funclet : (c : tie.After-node-at) → c .node-at .result .funclet ≡ recordIn (c .before .before .before .before .before .before .before .before .before .before .before .args .nodes .now) (c .before .before .before .before .before .before .before .before .before .before .before .args .i) .funclet
 funclet c = ap (λ (x : NodeRecord). x .funclet) (c .node-at .ensures .is)
 
-entry : (c : tie.After-entry-of) → c .entry-of .result ≡ entryBlock (heldIn (c .before .before .before .before .before .before .before .before .before .before .before .args .g .now) .graph) (funcletAt (routesIn (c .before .before .before .before .before .before .before .before .before .before .before .args .s .now) (c .before .before .before .before .before .before .before .before .before .before .before .args .y)) (c .before .before .before .before .before .before .before .before .before .before .before .args .nodes .now) (c .before .before .before .before .before .before .before .before .before .before .before .args .i))
+entry : (c : tie.After-entry-of) → c .entry-of .result ≡ entryBlock (heldIn (c .before .before .before .before .before .before .before .before .before .before .before .before .args .g .now) .graph) (funcletAt (routesIn (c .before .before .before .before .before .before .before .before .before .before .before .before .args .s .now) (c .before .before .before .before .before .before .before .before .before .before .before .before .args .y)) (c .before .before .before .before .before .before .before .before .before .before .before .before .args .nodes .now) (c .before .before .before .before .before .before .before .before .before .before .before .before .args .i))
 entry c =
-    let a = c .before .before .before .before .before .before .before .before .before .before .before .args in
+    let a = c .before .before .before .before .before .before .before .before .before .before .before .before .args in
     c .entry-of .ensures ∙ ap (λ (f : ℕ). entryBlock (heldIn (a .g .now) .graph) (funcletIn (routesIn (a .s .now) (a .y)) f)) (funclet (c .before))
 
 few : (c : tie.After-entry-of) → c .entry-of .result ≤ 1024
 few c =
-    let a = c .before .before .before .before .before .before .before .before .before .before .before .args in
-    omega (arith, entry c, entry-most (heldIn (a .g .now) .graph) (routesIn (a .s .now) (a .y)) _ (block-most (a .g .now)) (leads (c .before .before .before .before .before .before .before .before .before .before .before)))
-
-slot : (c : tie.After-slot-of) → c .slot-of .result ≡ slotOf (heldIn (c .before .before .before .before .before .before .before .before .before .before .before .before .args .g .now) .graph) (funcletAt (routesIn (c .before .before .before .before .before .before .before .before .before .before .before .before .args .s .now) (c .before .before .before .before .before .before .before .before .before .before .before .before .args .y)) (c .before .before .before .before .before .before .before .before .before .before .before .before .args .nodes .now) (c .before .before .before .before .before .before .before .before .before .before .before .before .args .i))
-slot c =
     let a = c .before .before .before .before .before .before .before .before .before .before .before .before .args in
+    omega (arith, entry c, entry-most (heldIn (a .g .now) .graph) (routesIn (a .s .now) (a .y)) _ (block-most (a .g .now)) (leads (c .before .before .before .before .before .before .before .before .before .before .before .before)))
+
+slot : (c : tie.After-slot-of) → c .slot-of .result ≡ slotOf (heldIn (c .before .before .before .before .before .before .before .before .before .before .before .before .before .args .g .now) .graph) (funcletAt (routesIn (c .before .before .before .before .before .before .before .before .before .before .before .before .before .args .s .now) (c .before .before .before .before .before .before .before .before .before .before .before .before .before .args .y)) (c .before .before .before .before .before .before .before .before .before .before .before .before .before .args .nodes .now) (c .before .before .before .before .before .before .before .before .before .before .before .before .before .args .i))
+slot c =
+    let a = c .before .before .before .before .before .before .before .before .before .before .before .before .before .args in
     slot-is (heldIn (a .g .now) .graph) (routesIn (a .s .now) (a .y)) _ _ _ (c .before .entry-of .ensures) (c .slot-of .ensures .0) (c .slot-of .ensures .1)
     ∙ ap (λ (f : ℕ). slotOf (heldIn (a .g .now) .graph) (funcletIn (routesIn (a .s .now) (a .y)) f)) (funclet (c .before .before))
 
@@ -51,8 +51,8 @@ slot-of-requires c κs = few c
 
 place-clone-requires : tie.Need-place-clone-requires
 place-clone-requires c κs =
-    let a = c .before .before .before .before .before .before .before .before .before .before .before .before .before .before .before .before .before .before .before .args in
-    let pre = c .before .before .before .before .before .before .before .before .before .before .before .before .before .before .before .before .before .before .before .pre in
+    let a = c .before .before .before .before .before .before .before .before .before .before .before .before .before .before .before .before .before .before .before .before .args in
+    let pre = c .before .before .before .before .before .before .before .before .before .before .before .before .before .before .before .before .before .before .before .before .pre in
     (late-lt (heldIn (a .g .now) .graph) (routesIn (a .s .now) (a .y)) (a .nodes .now) (a .firsts .now) (a .i) _ _ (slot (c .before .before .before .before .before .before .before)) (c .before .before .before .before .before .number-at .ensures .0) (pre .1) (pre .3) (c .before .before .before .before .if1 .taken), pre .2, pre .5)
 
 same-length : tie.Need-same-length
@@ -69,15 +69,15 @@ same-length-4 c = sizes-kept (c .before .before .before .before .before .before 
 
 returns : tie.Need-returns
 returns c =
-    let a = c .before .before .before .before .before .before .before .before .before .before .before .before .before .before .before .before .before .before .before .before .before .before .before .before .before .before .before .before .args in
-    let pre = c .before .before .before .before .before .before .before .before .before .before .before .before .before .before .before .before .before .before .before .before .before .before .before .before .before .before .before .before .pre in
+    let a = c .before .before .before .before .before .before .before .before .before .before .before .before .before .before .before .before .before .before .before .before .before .before .before .before .before .before .before .before .before .args in
+    let pre = c .before .before .before .before .before .before .before .before .before .before .before .before .before .before .before .before .before .before .before .before .before .before .before .before .before .before .before .before .before .pre in
     let g = heldIn (a .g .now) .graph in
     let m = routesIn (a .s .now) (a .y) in
     let taken = c .before .before .before .before .before .before .before .before .before .before .before .before .before .if1 .taken in
     let at = slot (c .before .before .before .before .before .before .before .before .before .before .before .before .before .before .before .before) in
     let v = c .before .before .before .before .before .before .before .before .before .before .before .before .before .before .number-at .ensures .0 in
     let stored = c .before .before .before .before .before .before .before .before .place-clone .ensures in (
-      clone-next g m (a .nodes .now) (a .i) _ _ _ _ _ _ _ _ (pre .2) (block-most (a .g .now)) (leads (c .before .before .before .before .before .before .before .before .before .before .before .before .before .before .before .before .before .before .before .before .before .before .before .before .before .before .before .before)) (a .base) _
+      clone-next g m (a .nodes .now) (a .i) _ _ _ _ _ _ _ _ (pre .2) (block-most (a .g .now)) (leads (c .before .before .before .before .before .before .before .before .before .before .before .before .before .before .before .before .before .before .before .before .before .before .before .before .before .before .before .before .before)) (a .base) _
           (late-none g m (a .nodes .now) (a .firsts .now) (a .i) _ _ at v (pre .1) (pre .3) taken)
           (late-lt g m (a .nodes .now) (a .firsts .now) (a .i) _ _ at v (pre .1) (pre .3) taken)
           (late-like g m (a .nodes .now) (a .firsts .now) (a .i) _ _ at v (pre .1) (pre .3) taken)
@@ -85,31 +85,31 @@ returns c =
       firsts-late g m (a .nodes .now) (a .firsts .now) (a .i) _ _ at v (pre .1) (pre .3) taken,
     )
 
-within : (c : tie.After-slot-of) → c .slot-of .result ≤ length (heldIn (c .before .before .before .before .before .before .before .before .before .before .before .before .args .g .now) .graph .blocks)
-within c = rw (slot c) (slot-in (heldIn (c .before .before .before .before .before .before .before .before .before .before .before .before .args .g .now) .graph) _ (leads (c .before .before .before .before .before .before .before .before .before .before .before .before)))
+within : (c : tie.After-slot-of) → c .slot-of .result ≤ length (heldIn (c .before .before .before .before .before .before .before .before .before .before .before .before .before .args .g .now) .graph .blocks)
+within c = rw (slot c) (slot-in (heldIn (c .before .before .before .before .before .before .before .before .before .before .before .before .before .args .g .now) .graph) _ (leads (c .before .before .before .before .before .before .before .before .before .before .before .before .before)))
 
 mul-firsts : tie.Need-mul-firsts
-mul-firsts c = omega (arith, within (c .before .before .before), block-most (c .before .before .before .before .before .before .before .before .before .before .before .before .before .before .before .args .g .now))
+mul-firsts c = omega (arith, within (c .before .before .before), block-most (c .before .before .before .before .before .before .before .before .before .before .before .before .before .before .before .before .args .g .now))
 
 slice-write-firsts : tie.Need-slice-write-firsts
-slice-write-firsts c = omega (arith, within (c .before .before .before), c .before .before .before .before .before .before .before .before .before .before .before .before .before .before .before .pre .3 .room)
+slice-write-firsts c = omega (arith, within (c .before .before .before), c .before .before .before .before .before .before .before .before .before .before .before .before .before .before .before .before .pre .3 .room)
 
 part-at-requires : tie.Need-part-at-requires
 part-at-requires c κs =
-    let a = c .before .before .before .before .before .before .before .before .before .before .before .before .before .before .before .args in
-    let pre = c .before .before .before .before .before .before .before .before .before .before .before .before .before .before .before .pre in
+    let a = c .before .before .before .before .before .before .before .before .before .before .before .before .before .before .before .before .args in
+    let pre = c .before .before .before .before .before .before .before .before .before .before .before .before .before .before .before .before .pre in
     let g = heldIn (a .g .now) .graph in
     let m = routesIn (a .s .now) (a .y) in
-    let lead = rw (sym (funclet (c .before .before .before .before .before))) at (leads (c .before .before .before .before .before .before .before .before .before .before .before .before .before .before .before)) in
+    let lead = rw (sym (funclet (c .before .before .before .before .before))) at (leads (c .before .before .before .before .before .before .before .before .before .before .before .before .before .before .before .before)) in
     let is = c .before .before .before .before .entry-of .ensures in
     (pre .0 .stands, pre .0 .roomy, pre .0 .linked, λ ne. (rw is (entry-lt g m _ ne lead), rw is (entry-built g m _ ne lead)))
 
 returns-of-requires : tie.Need-returns-of-requires
-returns-of-requires c κs = let ready = c .before .before .before .before .before .before .before .before .before .before .before .before .before .before .before .before .before .pre .0 in (ready .stands, ready .goes)
+returns-of-requires c κs = let ready = c .before .before .before .before .before .before .before .before .before .before .before .before .before .before .before .before .before .before .pre .0 in (ready .stands, ready .goes)
 
 store-node-requires : tie.Need-store-node-requires
 store-node-requires c κs =
-    let s = c .before .before .before .before .before .before .before .before .before .before .before .before .before .before .before .before .before .before .before .before .before .before .before .before .pre .2 in
+    let s = c .before .before .before .before .before .before .before .before .before .before .before .before .before .before .before .before .before .before .before .before .before .before .before .before .before .pre .2 in
     (omega (arith, s .bases-fit), omega (arith, s .entries-fit), omega (arith, s .parts-fit), omega (arith, s .returns-fit), omega arith, omega (arith, few (c .before .before .before .before .before .before .before .before .before .before .before .before .before)))
 
 same-length-6 : tie.Need-same-length-6
@@ -126,14 +126,14 @@ same-length-9 c = sizes-kept (c .before .before .before .before .before .before 
 
 returns-2 : tie.Need-returns-2
 returns-2 c =
-    let a = c .before .before .before .before .before .before .before .before .before .before .before .before .before .before .before .before .before .before .before .before .before .before .before .before .before .before .before .before .before .before .before .before .before .args in
-    let pre = c .before .before .before .before .before .before .before .before .before .before .before .before .before .before .before .before .before .before .before .before .before .before .before .before .before .before .before .before .before .before .before .before .before .pre in
+    let a = c .before .before .before .before .before .before .before .before .before .before .before .before .before .before .before .before .before .before .before .before .before .before .before .before .before .before .before .before .before .before .before .before .before .before .args in
+    let pre = c .before .before .before .before .before .before .before .before .before .before .before .before .before .before .before .before .before .before .before .before .before .before .before .before .before .before .before .before .before .before .before .before .before .before .pre in
     let g = heldIn (a .g .now) .graph in
     let m = routesIn (a .s .now) (a .y) in
     let f = funclet (c .before .before .before .before .before .before .before .before .before .before .before .before .before .before .before .before .before .before .before .before .before .before .before) in
     let part = c .before .before .before .before .before .before .before .before .before .before .before .before .before .before .before .before .before .part-at in
     let ret = c .before .before .before .before .before .before .before .before .before .before .before .before .before .before .before .returns-of in
-    let lead = rw (sym f) at (leads (c .before .before .before .before .before .before .before .before .before .before .before .before .before .before .before .before .before .before .before .before .before .before .before .before .before .before .before .before .before .before .before .before .before)) in
+    let lead = rw (sym f) at (leads (c .before .before .before .before .before .before .before .before .before .before .before .before .before .before .before .before .before .before .before .before .before .before .before .before .before .before .before .before .before .before .before .before .before .before)) in
     let has = rw f at (part-is g m _ _ _ _ lead (pre .0 .bars) (c .before .before .before .before .before .before .before .before .before .before .before .before .before .before .before .before .before .before .before .before .before .before .entry-of .ensures) (part .ensures .0) (part .ensures .1)) in
     let left = c .before .before .before .before .before .before .before .before .before .before .before .before .before .before .before .before .before .before .if1 .left in
     let at = slot (c .before .before .before .before .before .before .before .before .before .before .before .before .before .before .before .before .before .before .before .before .before) in

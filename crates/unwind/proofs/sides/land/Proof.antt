@@ -16,20 +16,20 @@ use Rattle.unwind.proofs.sides.land.Tie as tie
 
 returns : tie.Need-returns
 returns c =
-    let a = c .before .before .before .before .args in
+    let a = c .before .before .before .before .before .args in
     let read = c .before .before .path-at .ensures in
     (sym (land-propagate (heldIn (a .g .now) .graph) (pathRecord (routesIn (a .s .now) (a .y)) (a .p)) (ap (λ (x : Path). x .end) (sym read) ∙ c .if1 .taken)), omega arith)
 
 returns-2 : tie.Need-returns-2
 returns-2 c =
-    let a = c .before .before .before .before .before .before .args in
+    let a = c .before .before .before .before .before .before .before .args in
     let here = ap (λ (x : Path). x .end) (c .before .before .before .before .path-at .ensures) in
     (sym (land-resume (heldIn (a .g .now) .graph) (pathRecord (routesIn (a .s .now) (a .y)) (a .p)) (λ e. c .if2 .taken (here ∙ e)) (λ e. c .before .before .if1 .left (here ∙ e))), omega arith)
 
 returns-3 : tie.Need-returns-3
 unfolding blockIn
 returns-3 c =
-    let a = c .before .before .before .before .before .before .before .before .before .before .args in
+    let a = c .before .before .before .before .before .before .before .before .before .before .before .args in
     let g = heldIn (a .g .now) .graph in
     let p = pathRecord (routesIn (a .s .now) (a .y)) (a .p) in
     let read = c .before .before .before .before .before .before .before .before .path-at .ensures in
@@ -39,7 +39,7 @@ returns-3 c =
 returns-4 : tie.Need-returns-4
 unfolding blockIn
 returns-4 c =
-    let a = c .before .before .before .before .before .before .before .before .before .args in
+    let a = c .before .before .before .before .before .before .before .before .before .before .args in
     let g = heldIn (a .g .now) .graph in
     let p = pathRecord (routesIn (a .s .now) (a .y)) (a .p) in
     let read = c .before .before .before .before .before .before .before .path-at .ensures in
@@ -49,7 +49,7 @@ returns-4 c =
 returns-5 : tie.Need-returns-5
 unfolding blockIn
 returns-5 c =
-    let a = c .before .before .before .before .before .before .before .before .before .args in
+    let a = c .before .before .before .before .before .before .before .before .before .before .args in
     let g = heldIn (a .g .now) .graph in
     let p = pathRecord (routesIn (a .s .now) (a .y)) (a .p) in
     let read = c .before .before .before .before .before .before .before .path-at .ensures in

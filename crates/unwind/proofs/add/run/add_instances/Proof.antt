@@ -9,7 +9,7 @@ use Rattle.unwind.proofs.add.run.add_instances.Tie as tie
 
 guard-routes-requires : tie.Need-guard-routes-requires
 guard-routes-requires c κs =
-    let start = c .before .before .before .before .before .before .before .before .before .before .before .before .before .before .before .before in
+    let start = c .before .before .before .before .before .before .before .before .before .before .before .before .before .before .before .before .before in
     let a = start .args in
     let k = start .pre .0 in
     let p = start .pre .1 in
@@ -17,7 +17,7 @@ guard-routes-requires c κs =
 
 land-ends-requires : tie.Need-land-ends-requires
 land-ends-requires c κs =
-    let start = c .before .before .before .before .before .before .before .before .before .before .before .before .before .before .before .before .before .before .before .before .before in
+    let start = c .before .before .before .before .before .before .before .before .before .before .before .before .before .before .before .before .before .before .before .before .before .before in
     let a = start .args in
     let k = start .pre .0 in
     let p = start .pre .1 in
@@ -25,7 +25,7 @@ land-ends-requires c κs =
 
 add-placed-requires : tie.Need-add-placed-requires
 add-placed-requires c κs =
-    let start = c .before .before .before .before .before .before .before .before .before .before .before .before .before .before .before .before .before .before .before .before .before .before .before .before .before .before .before .before .before in
+    let start = c .before .before .before .before .before .before .before .before .before .before .before .before .before .before .before .before .before .before .before .before .before .before .before .before .before .before .before .before .before .before in
     let a = start .args in
     let k = start .pre .0 in
     let p = start .pre .1 in

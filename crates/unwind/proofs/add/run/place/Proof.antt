@@ -9,19 +9,19 @@ use Rattle.unwind.proofs.add.run.place.Tie as tie
 
 funclet-entries-requires : tie.Need-funclet-entries-requires
 funclet-entries-requires c κs =
-    let start = c .before .before .before .before .before .before .before .before .before in
+    let start = c .before .before .before .before .before .before .before .before .before .before in
     let a = start .args in
     let k = start .pre .0 in
     (stands-of (heldIn (a .g .now)) (k .graphed), k .built, table-stepped (heldIn (a .g .now) .graph) (routesIn (a .s .now) (a .y)) (k .accepted) (k .passed), k .accepted)
 
 ordinary-sources-requires : tie.Need-ordinary-sources-requires
 ordinary-sources-requires c κs =
-    let start = c .before .before .before .before .before .before .before .before .before .before in
+    let start = c .before .before .before .before .before .before .before .before .before .before .before in
     stands-of (heldIn (start .args .g .now)) (start .pre .0 .graphed)
 
 place-nodes-requires : tie.Need-place-nodes-requires
 place-nodes-requires c κs =
-    let start = c .before .before .before .before .before .before .before .before .before .before .before .before .before .before .before .before .before .before in
+    let start = c .before .before .before .before .before .before .before .before .before .before .before .before .before .before .before .before .before .before .before in
     let k = start .pre .0 in (
       record {
         stands = stands-of (heldIn (start .args .g .now)) (k .graphed);
