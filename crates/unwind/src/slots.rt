@@ -1,8 +1,11 @@
-// Sets of blocks in a slice, sixteen words each.
+// Sets of blocks in a slice, sixteen words each. Nothing else looks into them.
 use graph::blockset::sixteen;
 ghost use mathlib.Core.Path.{_≡_};
-ghost use Prim.Native.Nat.{_+_, _*_, _≤_};
-ghost use lib.ListN.{length};
+ghost use Prim.Native.Nat.{_+_, _*_, _/_, _≤_, _<_};
+ghost use lib.Bits.{bitXor};
+ghost use lib.ListN.{length, getD};
+ghost use Rattle.unwind.specs.Gather.{inSet};
+ghost use Rattle.unwind.specs.Most.{membersOf};
 ghost use Rattle.unwind.specs.Placed.{setAt, SetPut};
 
 // Set i.
@@ -27,4 +30,43 @@ pub fn put_set(sets: &mut [u64], i: usize, w: &[u64; 16])
     for k in 0..16 {
         sets[at + k] = w[k];
     }
+}
+
+// Whether set i has block b.
+pub fn in_set(sets: &[u64], i: usize, b: usize) -> bool
+    requires { ⌜ i < 65536 ⌝ }
+    ensures { λ r. ⌜ r ≡ inSet (now (sets .entry)) i b ⌝ }
+{
+    if b < 1024 {
+        let k = 16 * i + b / 64;
+        if k < sets.len() {
+            return (sets[k] >> (b % 64)) % 2 == 1;
+        }
+    }
+    false
+}
+
+// No fewer than the blocks of set i that are below `blocks`: all that its words up to there have.
+pub fn members_of(sets: &[u64], i: usize, blocks: usize) -> usize
+    requires { ⌜ (16 * i + 16 ≤ length (now sets)) × (blocks ≤ 1024) ⌝ }
+    ensures { λ r. ⌜ (membersOf (now (sets .entry)) blocks i ≤ r) × (r ≤ 1024) ⌝ }
+{
+    let at = 16 * i;
+    let words = (blocks + 63) / 64;
+    let mut n = 0;
+    for k in 0..words {
+        n += u64::count_ones(sets[at + k]) as usize;
+    }
+    n
+}
+
+// The places of word j whose bit differs from the next.
+pub fn turns_at(sets: &[u64], j: usize) -> u64
+    ensures { λ t. ⌜ t ≡ bitXor (getD (now (sets .entry)) j 0) (getD (now (sets .entry)) j 0 / 2) ⌝ }
+{
+    if j < sets.len() {
+        let w = sets[j];
+        return w ^ (w >> 1);
+    }
+    0
 }

@@ -1,10 +1,11 @@
 // The most ways out of blocks that routes can give: there are no more hops, lists of hops or route edges.
+use crate::slots::members_of;
 use crate::tries::store::node_at;
 use crate::tries::store::number_at;
 ghost use mathlib.Core.Path.{_≡_};
 ghost use Prim.Native.Nat.{_+_, _*_, _≤_};
 ghost use lib.ListN.{length};
-ghost use Rattle.unwind.specs.Most.{waysOf, membersOf, guardedWays, returnedWays};
+ghost use Rattle.unwind.specs.Most.{waysOf, guardedWays, returnedWays};
 
 // Of each route out of the blocks that it guards, and of each node out of those from which it returns.
 pub fn most_ways(
@@ -52,18 +53,4 @@ fn ways_of(nodes: &[u16], i: usize) -> usize
 {
     let x = node_at(nodes, i);
     x.edges + x.ends
-}
-
-// No fewer than the blocks of set i that are below `blocks`: all that its words up to there have.
-fn members_of(sets: &[u64], i: usize, blocks: usize) -> usize
-    requires { ⌜ (16 * i + 16 ≤ length (now sets)) × (blocks ≤ 1024) ⌝ }
-    ensures { λ r. ⌜ (membersOf (now (sets .entry)) blocks i ≤ r) × (r ≤ 1024) ⌝ }
-{
-    let at = 16 * i;
-    let words = (blocks + 63) / 64;
-    let mut n = 0;
-    for k in 0..words {
-        n += u64::count_ones(sets[at + k]) as usize;
-    }
-    n
 }

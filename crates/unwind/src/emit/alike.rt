@@ -1,12 +1,12 @@
 // Blocks in a row with the same ways out: what was gathered of one stands for the next.
 use crate::sides::STAY;
+use crate::slots::turns_at;
 use crate::tries::store::number_at;
 use graph::blockset::has_in;
 use graph::blockset::sixteen;
 ghost use mathlib.Core.Path.{_≡_};
 ghost use mathlib.Core.Bool.{true};
-ghost use Prim.Native.Nat.{_/_, _≤_, _<_};
-ghost use lib.Bits.{bitXor};
+ghost use Prim.Native.Nat.{_≤_, _<_};
 ghost use lib.ListN.{getD};
 ghost use Rattle.unwind.specs.Alike.{Moves, Steady, Turning, GoesOn};
 
@@ -90,15 +90,4 @@ fn returns_turn(returns: &[u64], originals: &[u16], n: usize, k: usize) -> u64
         t = t | turns_at(returns, 16 * i + k);
     }
     t
-}
-
-// The places of word j whose bit differs from the next.
-fn turns_at(sets: &[u64], j: usize) -> u64
-    ensures { λ t. ⌜ t ≡ bitXor (getD (now (sets .entry)) j 0) (getD (now (sets .entry)) j 0 / 2) ⌝ }
-{
-    if j < sets.len() {
-        let w = sets[j];
-        return w ^ (w >> 1);
-    }
-    0
 }

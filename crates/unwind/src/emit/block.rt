@@ -1,16 +1,16 @@
 // All ways out of a block that stood: of the routes that guard it, and of the nodes on the original blocks that return there.
 use crate::emit::gather::gather_node;
+use crate::slots::in_set;
 use crate::tries::store::Counts;
 use crate::tries::store::number_at;
 use image::section::RouteLayout;
-ghost use mathlib.Core.Path.{_≡_};
 ghost use Prim.Native.Nat.{_+_, _*_, _≤_, _<_};
 ghost use lib.ListN.{length, getD};
 ghost use Rattle.image.specs.Image.{routesIn};
 ghost use Rattle.image.specs.Accepted.{AcceptedRoutes};
 ghost use Rattle.graph.specs.Fold.{flat};
 ghost use Rattle.unwind.specs.Nodes.{recordIn};
-ghost use Rattle.unwind.specs.Gather.{inSet, NodeFits, AllFit, routeRecords, returnRecords, Pooled, Adds};
+ghost use Rattle.unwind.specs.Gather.{NodeFits, AllFit, routeRecords, returnRecords, Pooled, Adds};
 ghost use Rattle.unwind.specs.Routed.{TriesIn};
 ghost use Rattle.unwind.specs.Lent.{blockRecords, BlockHeld};
 ghost use Rattle.unwind.specs.Members.{Originals};
@@ -198,18 +198,4 @@ fn gather_returned(
         return gather_node(s, y, nodes, edges, ends, heads, landings, i, b, exits, held);
     }
     held
-}
-
-// Whether set i has block b.
-pub fn in_set(sets: &[u64], i: usize, b: usize) -> bool
-    requires { ⌜ i < 65536 ⌝ }
-    ensures { λ r. ⌜ r ≡ inSet (now (sets .entry)) i b ⌝ }
-{
-    if b < 1024 {
-        let k = 16 * i + b / 64;
-        if k < sets.len() {
-            return (sets[k] >> (b % 64)) % 2 == 1;
-        }
-    }
-    false
 }

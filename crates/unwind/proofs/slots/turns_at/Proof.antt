@@ -1,8 +1,8 @@
 -- `turns_at` meets its contract: a word, or none. Assumes nothing.
 use lib.ListN.{List·getD-eq-default}
 use borrow.Author.Needs.{needs}
-use Rattle.unwind.proofs.emit.alike.turns_at.Statement.{statement}
-use Rattle.unwind.proofs.emit.alike.turns_at.Tie as tie
+use Rattle.unwind.proofs.slots.turns_at.Statement.{statement}
+use Rattle.unwind.proofs.slots.turns_at.Tie as tie
 
 returns-2 : tie.Need-returns-2
 returns-2 c =

@@ -1,8 +1,8 @@
 -- `in_set` meets its contract: the word and its digit are the set's. Assumes nothing.
 use Rattle.unwind.proofs.PoolLaws.{set-in, set-past, set-outside}
 use borrow.Author.Needs.{needs}
-use Rattle.unwind.proofs.emit.block.in_set.Statement.{statement}
-use Rattle.unwind.proofs.emit.block.in_set.Tie as tie
+use Rattle.unwind.proofs.slots.in_set.Statement.{statement}
+use Rattle.unwind.proofs.slots.in_set.Tie as tie
 
 returns : tie.Need-returns
 returns c = let a = c .before .before .before .args in set-in (a .sets .now) (a .i) (a .b) (c .before .before .if1 .taken)

@@ -9,8 +9,8 @@ use Rattle.graph.specs.Fold.{count}
 use Rattle.graph.specs.BlockSet.{member}
 use Rattle.unwind.specs.Placed.{setAt}
 use Rattle.unwind.proofs.MostLaws.{members-less, members-next}
-use Rattle.unwind.proofs.add.most.members_of.Statement.{statement}
-use Rattle.unwind.proofs.add.most.members_of.Tie as tie
+use Rattle.unwind.proofs.slots.members_of.Statement.{statement}
+use Rattle.unwind.proofs.slots.members_of.Tie as tie
 
 abbrev Inv-loop : tie.InvT-loop
 Inv-loop sets i blocks at words n₀ k₀ n k = (k ≤ words) × (n ≤ 64 * k) × (n ≡ count (member (setAt sets i)) (64 * k))
