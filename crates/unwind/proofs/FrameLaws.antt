@@ -1,6 +1,6 @@
 -- The scratch of an addition, from its lengths to the instances that stand in it.
---     all-few, framed              no routes and no graph has more; the lengths of a frame for no more than so many
---     frame-room                   the room that is left where the tries stand
+--     all-few, all-small           no routes and no graph has more
+--     scratched, roomed            the lengths of a frame for no more than so many: for the tries, and where they stand
 --     nodes-checked                the checks of the nodes in scratch
 --     placements, at-hand          the instances, and then the sides
 -- Assumes nothing.
@@ -27,67 +27,59 @@ use Rattle.unwind.specs.declared.tries.store.Counts.{Counts}
 use Rattle.unwind.specs.Stands.{Stands}
 use Rattle.addition.specs.Trie.{Node, nodeAt, tries}
 use Rattle.unwind.specs.Nodes.{nodesIn}
-use Rattle.unwind.specs.Routed.{TriesIn}
+use Rattle.unwind.specs.Routed.{Scratch, TriesIn}
 use Rattle.unwind.specs.Placed.{PlacedAll}
 use Rattle.unwind.specs.Sides.{Lands, GuardsIn}
 use Rattle.addition.specs.Add.{nodeCheck}
 use Rattle.unwind.specs.Answers.{RoutesChecked}
-use Rattle.unwind.specs.Frames.{Few, Frame, Room, Placements, AtHand}
+use Rattle.unwind.specs.Frames.{Few, Small, Room, Placements, AtHand}
 use Rattle.unwind.proofs.Standing.{stands-of}
 use Rattle.unwind.proofs.TrieNodes.{length-nodes}
 use Rattle.unwind.proofs.SizeChecks.{placed-in, bounded-in}
 
 -- ---- lengths
 
--- all routes that are accepted, and all graphs
-pub all-few : (w s : List ℕ) (y : RouteLayout) → AcceptedRoutes (routesIn s y) → Few (heldIn w .graph) y 512 128 32 1024 4096
-all-few w s y ok =
+-- all routes that are accepted
+pub all-few : (s : List ℕ) (y : RouteLayout) → AcceptedRoutes (routesIn s y) → Few y 512 128 32
+all-few s y ok =
     let steps-are = length-records stepFrom s (y .steps) in
     let paths-are = length-records pathFrom s (y .paths) in
     let routes-are = length-records routeFrom s (y .routes) in
-    record { steps-few = omega arith; paths-few = omega arith; routes-few = omega arith; blocks-few = block-most w; edges-few = edge-most w }
+    record { steps-few = omega arith; paths-few = omega arith; routes-few = omega arith }
 
-module _ (g : Graph) (s : List ℕ) (y : RouteLayout) (steps paths routes blocks most : ℕ) (few : Few g y steps paths routes blocks most) (steps-most : steps ≤ 512) (paths-most : paths ≤ 128) (blocks-most : blocks < 6 * (steps + paths)) where
-  pub framed : {starts nodes edges ends stack roots head next bases heads parts returns guards landings exits : List ℕ}
+-- all graphs
+pub all-small : (w : List ℕ) → Small (heldIn w .graph) 1024 4096
+all-small w = record { blocks-few = block-most w; edges-few = edge-most w }
+
+module _ (s : List ℕ) (y : RouteLayout) (steps paths routes : ℕ) (few : Few y steps paths routes) where
+  pub scratched : {starts nodes edges ends stack roots : List ℕ}
       → length starts ≡ paths + 1 → length nodes ≡ 6 * (routes + steps) → length edges ≡ 3 * steps → length ends ≡ 3 * paths → length stack ≡ 3 * steps → length roots ≡ routes
-      → Roomy g head next → head ≡ replicate (length head) 0
-      → length bases ≡ routes + steps → length heads ≡ routes + steps → length parts ≡ 16 * (routes + steps) → length returns ≡ 16 * (routes + steps)
-      → length guards ≡ 16 * routes → length landings ≡ paths → length exits ≡ 6 * (steps + paths) → exits ≡ replicate (length exits) 0
-      → Frame g (routesIn s y) starts nodes edges ends stack roots head next bases heads parts returns guards landings exits
-  framed starts-long nodes-long edges-long ends-long stack-long roots-long links unlinked bases-long heads-long parts-long returns-long guards-long landings-long exits-long unplaced =
+      → Scratch (routesIn s y) starts nodes edges ends stack roots
+  scratched starts-long nodes-long edges-long ends-long stack-long roots-long =
       let steps-are = length-records stepFrom s (y .steps) in
       let paths-are = length-records pathFrom s (y .paths) in
       let routes-are = length-records routeFrom s (y .routes) in
-      record {
-        scratch = record { starts-fit = omega arith; nodes-fit = omega arith; edges-fit = omega arith; ends-fit = omega arith; stack-fit = omega arith; roots-fit = omega arith };
-        links = links;
-        unlinked = unlinked;
-        bases-fit = omega arith;
-        heads-fit = omega arith;
-        parts-fit = omega arith;
-        returns-fit = omega arith;
-        guards-fit = omega arith;
-        landings-fit = omega arith;
-        exits-fit = record { edges-few = omega arith; ends-few = omega arith; room = omega arith };
-        firsts-fit = omega arith;
-        unplaced = unplaced;
-      }
+      record { starts-fit = omega arith; nodes-fit = omega arith; edges-fit = omega arith; ends-fit = omega arith; stack-fit = omega arith; roots-fit = omega arith }
 
-pub frame-room : {g : Graph} {m : RouteImage} {starts nodes edges ends stack roots head next bases heads parts returns guards landings exits nodes′ edges′ ends′ roots′ : List ℕ} {c : Counts}
-    → Frame g m starts nodes edges ends stack roots head next bases heads parts returns guards landings exits → TriesIn m nodes′ edges′ ends′ roots′ c
-    → length nodes′ ≡ length nodes → length edges′ ≡ length edges → length ends′ ≡ length ends
-    → Room g m edges′ ends′ head next bases heads parts returns guards landings exits c
-frame-room f t nodes-long edges-long ends-long =
-    record {
-      links = f .links;
-      unlinked = f .unlinked;
-      slots = record { bases-fit = omega arith; entries-fit = omega arith; parts-fit = omega arith; returns-fit = omega arith };
-      guards-fit = f .guards-fit;
-      landings-fit = omega arith;
-      exits-fit = record { edges-few = omega arith; ends-few = omega arith; room = omega arith };
-      firsts-fit = f .firsts-fit;
-      unplaced = f .unplaced;
-    }
+  module _ (g : Graph) (blocks most : ℕ) (small : Small g blocks most) (steps-most : steps ≤ 512) (paths-most : paths ≤ 128) (blocks-most : blocks < 6 * (steps + paths)) where
+    pub roomed : {nodes edges ends roots head next bases heads parts returns guards landings exits : List ℕ} {c : Counts}
+        → TriesIn (routesIn s y) nodes edges ends roots c → length nodes ≡ 6 * (routes + steps) → length edges ≡ 3 * steps → length ends ≡ 3 * paths
+        → length head ≡ blocks → length next ≡ most → head ≡ replicate (length head) 0
+        → length bases ≡ routes + steps → length heads ≡ routes + steps → length parts ≡ 16 * (routes + steps) → length returns ≡ 16 * (routes + steps)
+        → length guards ≡ 16 * routes → length landings ≡ paths → length exits ≡ 6 * (steps + paths) → exits ≡ replicate (length exits) 0
+        → Room g (routesIn s y) edges ends head next bases heads parts returns guards landings exits c
+    roomed t nodes-long edges-long ends-long head-long next-long unlinked bases-long heads-long parts-long returns-long guards-long landings-long exits-long unplaced =
+        let routes-are = length-records routeFrom s (y .routes) in
+        record {
+          links = record { blocks = omega arith; edges = omega arith };
+          unlinked = unlinked;
+          slots = record { bases-fit = omega arith; entries-fit = omega arith; parts-fit = omega arith; returns-fit = omega arith };
+          guards-fit = omega arith;
+          landings-fit = omega arith;
+          exits-fit = record { edges-few = omega arith; ends-few = omega arith; room = omega arith };
+          firsts-fit = omega arith;
+          unplaced = unplaced;
+        }
 
 -- ---- what stands
 

@@ -14,38 +14,25 @@ use Rattle.graph.specs.WellFormed.{wellFormed}
 use Rattle.unwind.specs.declared.tries.store.Counts.{Counts}
 use Rattle.addition.specs.Part.{funclets}
 use Rattle.addition.specs.Trie.{tries}
-use Rattle.unwind.specs.Routed.{Scratch, TriesIn}
+use Rattle.unwind.specs.Routed.{TriesIn}
 use Rattle.unwind.specs.Placed.{Slots, Placed}
 use Rattle.unwind.specs.Lent as lent
 use Rattle.unwind.specs.Copies.{Bounded}
 use Rattle.unwind.specs.Instances.{Instances}
 
--- routes with no more than so many steps, paths and routes, and a graph with no more than so many blocks and edges
-pub record Few (g : Graph) (y : RouteLayout) (steps paths routes blocks edges : ℕ) : Type 0 where
+-- routes with no more than so many steps, paths and routes
+pub record Few (y : RouteLayout) (steps paths routes : ℕ) : Type 0 where
   pub steps-few : y .steps .count ≤ steps
   pub paths-few : y .paths .count ≤ paths
   pub routes-few : y .routes .count ≤ routes
+
+-- a graph with no more than so many blocks and edges
+pub record Small (g : Graph) (blocks edges : ℕ) : Type 0 where
   pub blocks-few : length (g .blocks) ≤ blocks
   pub edges-few : length (g .edges) ≤ edges
 
--- THE FRAME: there is room for the tries of the routes, for the links of the graph, of which there are none yet, for an instance
--- of each node that there is room for, and for the exits of a block; where those go the first node of each slot stands before, of
--- which there is none yet
-pub record Frame (g : Graph) (m : RouteImage) (starts nodes edges ends stack roots head next bases heads parts returns guards landings exits : List ℕ) : Type 0 where
-  pub scratch : Scratch m starts nodes edges ends stack roots
-  pub links : Roomy g head next
-  pub unlinked : head ≡ replicate (length head) 0
-  pub bases-fit : length nodes ≤ 6 * length bases
-  pub heads-fit : length nodes ≤ 6 * length heads
-  pub parts-fit : 16 * length nodes ≤ 6 * length parts
-  pub returns-fit : 16 * length nodes ≤ 6 * length returns
-  pub guards-fit : 16 * length (m .routes) ≤ length guards
-  pub landings-fit : length ends ≤ 3 * length landings
-  pub exits-fit : lent.Roomy edges ends exits
-  pub firsts-fit : length (g .blocks) < length exits
-  pub unplaced : exits ≡ replicate (length exits) 0
-
--- the room that is left where the tries stand
+-- THE ROOM where the tries stand: for the links of the graph, of which there are none yet, for an instance of each node, and for
+-- the exits of a block; where those go the first node of each slot stands before, of which there is none yet
 pub record Room (g : Graph) (m : RouteImage) (edges ends head next bases heads parts returns guards landings exits : List ℕ) (c : Counts) : Type 0 where
   pub links : Roomy g head next
   pub unlinked : head ≡ replicate (length head) 0

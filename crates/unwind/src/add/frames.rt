@@ -1,7 +1,8 @@
 // The frames of an addition: scratch of three sizes, zeroed for each call, so that a small addition does not pay for a large one.
 use crate::add::AddedRoutes;
-use crate::add::run::add_in;
+use crate::add::run::add_tries;
 use crate::hops::Hops;
+use crate::tries::intern_routes;
 use graph::store::Words;
 use graph::store::blocks::block_count;
 use graph::store::edges::edge_count;
@@ -11,7 +12,7 @@ ghost use mathlib.Core.Bool.{true};
 ghost use Rattle.image.specs.Image.{routesIn};
 ghost use Rattle.graph.specs.Words.{heldIn};
 ghost use Rattle.unwind.specs.Answers.{Adds, RoutesChecked};
-ghost use Rattle.unwind.specs.Frames.{Few};
+ghost use Rattle.unwind.specs.Frames.{Few, Small};
 
 // Routes whose own checks are clear, in the smallest frame that has room for them.
 pub fn add_checked(
@@ -24,34 +25,35 @@ pub fn add_checked(
     requires { ⌜ RoutesChecked (heldIn (now g)) built (routesIn (now s) y) ⌝ }
     ensures { λ r. ⌜ Adds (routesIn (now (s .entry)) y) (now (g .entry)) (now (g .exit)) (now (h .entry)) (now (h .exit)) r ⌝ }
 {
-    if is_few(g, y, 8, 8, 4) {
+    if !is_small(g) {
+        return add_full(g, built, s, y, h);
+    }
+    if is_few(y, 8, 8, 4) {
         return add_tiny(g, built, s, y, h);
     }
-    if is_few(g, y, 64, 32, 8) {
+    if is_few(y, 64, 32, 8) {
         return add_small(g, built, s, y, h);
     }
     add_full(g, built, s, y, h)
 }
 
-// Whether a graph is small, and routes have no more than so many steps, paths and routes.
-fn is_few(g: &Words, y: RouteLayout, steps: u32, paths: u32, routes: u32) -> bool
-    ensures { λ r. ⌜ (r ≡ true → Few (heldIn (now (g .entry)) .graph) y steps paths routes 64 256) ⌝ }
+// Whether a graph has few blocks and edges.
+fn is_small(g: &Words) -> bool
+    ensures { λ r. ⌜ (r ≡ true → Small (heldIn (now (g .entry)) .graph) 64 256) ⌝ }
 {
-    if steps < y.steps.count {
-        return false;
-    }
-    if paths < y.paths.count {
-        return false;
-    }
-    if routes < y.routes.count {
-        return false;
-    }
     (block_count(g) <= 64) & (edge_count(g) <= 256)
+}
+
+// Whether routes have no more than so many steps, paths and routes.
+fn is_few(y: RouteLayout, steps: u32, paths: u32, routes: u32) -> bool
+    ensures { λ r. ⌜ (r ≡ true → Few y steps paths routes) ⌝ }
+{
+    (y.steps.count <= steps) & (y.paths.count <= paths) & (y.routes.count <= routes)
 }
 
 // Few routes, to a small graph.
 fn add_tiny(g: &mut Words, built: usize, s: &[u8], y: RouteLayout, h: &mut Hops) -> AddedRoutes
-    requires { ⌜ RoutesChecked (heldIn (now g)) built (routesIn (now s) y) × Few (heldIn (now g) .graph) y 8 8 4 64 256 ⌝ }
+    requires { ⌜ RoutesChecked (heldIn (now g)) built (routesIn (now s) y) × Few y 8 8 4 × Small (heldIn (now g) .graph) 64 256 ⌝ }
     ensures { λ r. ⌜ Adds (routesIn (now (s .entry)) y) (now (g .entry)) (now (g .exit)) (now (h .entry)) (now (h .exit)) r ⌝ }
 {
     let mut starts = [0u16; 9];
@@ -69,18 +71,28 @@ fn add_tiny(g: &mut Words, built: usize, s: &[u8], y: RouteLayout, h: &mut Hops)
     let mut guards = [0u64; 64];
     let mut landings = [0u16; 8];
     let mut exits = [0u16; 96];
-    add_in(
-        g,
-        built,
+    let stored = intern_routes(
         s,
         y,
-        h,
         &mut starts,
         &mut nodes,
         &mut edges,
         &mut ends,
         &mut stack,
         &mut roots,
+    );
+    add_tries(
+        g,
+        built,
+        &mut stack,
+        s,
+        y,
+        h,
+        &nodes,
+        &edges,
+        &ends,
+        &roots,
+        stored,
         &mut head,
         &mut next,
         &mut bases,
@@ -95,7 +107,7 @@ fn add_tiny(g: &mut Words, built: usize, s: &[u8], y: RouteLayout, h: &mut Hops)
 
 // More of them.
 fn add_small(g: &mut Words, built: usize, s: &[u8], y: RouteLayout, h: &mut Hops) -> AddedRoutes
-    requires { ⌜ RoutesChecked (heldIn (now g)) built (routesIn (now s) y) × Few (heldIn (now g) .graph) y 64 32 8 64 256 ⌝ }
+    requires { ⌜ RoutesChecked (heldIn (now g)) built (routesIn (now s) y) × Few y 64 32 8 × Small (heldIn (now g) .graph) 64 256 ⌝ }
     ensures { λ r. ⌜ Adds (routesIn (now (s .entry)) y) (now (g .entry)) (now (g .exit)) (now (h .entry)) (now (h .exit)) r ⌝ }
 {
     let mut starts = [0u16; 33];
@@ -113,18 +125,28 @@ fn add_small(g: &mut Words, built: usize, s: &[u8], y: RouteLayout, h: &mut Hops
     let mut guards = [0u64; 128];
     let mut landings = [0u16; 32];
     let mut exits = [0u16; 576];
-    add_in(
-        g,
-        built,
+    let stored = intern_routes(
         s,
         y,
-        h,
         &mut starts,
         &mut nodes,
         &mut edges,
         &mut ends,
         &mut stack,
         &mut roots,
+    );
+    add_tries(
+        g,
+        built,
+        &mut stack,
+        s,
+        y,
+        h,
+        &nodes,
+        &edges,
+        &ends,
+        &roots,
+        stored,
         &mut head,
         &mut next,
         &mut bases,
@@ -139,7 +161,7 @@ fn add_small(g: &mut Words, built: usize, s: &[u8], y: RouteLayout, h: &mut Hops
 
 // Any routes, to any graph.
 fn add_full(g: &mut Words, built: usize, s: &[u8], y: RouteLayout, h: &mut Hops) -> AddedRoutes
-    requires { ⌜ RoutesChecked (heldIn (now g)) built (routesIn (now s) y) × Few (heldIn (now g) .graph) y 512 128 32 1024 4096 ⌝ }
+    requires { ⌜ RoutesChecked (heldIn (now g)) built (routesIn (now s) y) ⌝ }
     ensures { λ r. ⌜ Adds (routesIn (now (s .entry)) y) (now (g .entry)) (now (g .exit)) (now (h .entry)) (now (h .exit)) r ⌝ }
 {
     let mut starts = [0u16; 129];
@@ -157,18 +179,28 @@ fn add_full(g: &mut Words, built: usize, s: &[u8], y: RouteLayout, h: &mut Hops)
     let mut guards = [0u64; 512];
     let mut landings = [0u16; 128];
     let mut exits = [0u16; 3840];
-    add_in(
-        g,
-        built,
+    let stored = intern_routes(
         s,
         y,
-        h,
         &mut starts,
         &mut nodes,
         &mut edges,
         &mut ends,
         &mut stack,
         &mut roots,
+    );
+    add_tries(
+        g,
+        built,
+        &mut stack,
+        s,
+        y,
+        h,
+        &nodes,
+        &edges,
+        &ends,
+        &roots,
+        stored,
         &mut head,
         &mut next,
         &mut bases,

@@ -2,17 +2,24 @@
 use mathlib.Core.Path.{refl}
 use native.Mathlib.Omega.{arith}
 use Rattle.graph.specs.Words.{heldIn}
-use Rattle.unwind.proofs.FrameLaws.{framed}
+use Rattle.unwind.proofs.FrameLaws.{scratched, roomed}
 use borrow.Author.Needs.{needs}
 use Rattle.unwind.proofs.add.frames.add_tiny.Statement.{statement}
 use Rattle.unwind.proofs.add.frames.add_tiny.Tie as tie
 
-add-in-requires : tie.Need-add-in-requires
-add-in-requires c κs =
-    let start = c .before .before .before .before .before .before .before .before .before .before .before .before .before .before .before .before .before .before in
+intern-routes-requires : tie.Need-intern-routes-requires
+intern-routes-requires c κs =
+    let start = c .before .before .before .before .before .before .before in
     let a = start .args in
-    let few = start .pre .1 in
-    (start .pre .0, framed (heldIn (a .g .now) .graph) (a .s .now) (a .y) 8 8 4 64 256 few (omega arith) (omega arith) (omega arith) refl refl refl refl refl refl (record { blocks = few .blocks-few; edges = few .edges-few }) refl refl refl refl refl refl refl refl refl)
+    (start .pre .0 .accepted, scratched (a .s .now) (a .y) 8 8 4 (start .pre .1) refl refl refl refl refl refl)
+
+add-tries-requires : tie.Need-add-tries-requires
+add-tries-requires c κs =
+    let start = c .before .before .before .before .before .before .before .before .before .before .before .before .before .before .before .before .before .before .before .before .before .before .before .before .before .before .before .before .before .before in
+    let a = start .args in
+    let tries = c .before .before .before .before .before .before .before .before .before .before .before .before .before .before .before .before .before .before .before .before .before .before .intern-routes in
+    let kept = tries .kept .1 .1 .1 in
+    (start .pre .0, tries .ensures, roomed (a .s .now) (a .y) 8 8 4 (start .pre .1) (heldIn (a .g .now) .graph) 64 256 (start .pre .2) (omega arith) (omega arith) (omega arith) (tries .ensures) (kept .0) (kept .1 .0) (kept .1 .1 .0) refl refl refl refl refl refl refl refl refl refl refl)
 
 pub add-tiny-spec : {M : Type 1} → statement M
 add-tiny-spec =
@@ -24,6 +31,7 @@ add-tiny-spec =
     (λ c. search needs)
     (λ c. search needs)
     (λ c. search needs)
+    intern-routes-requires
     (λ c. search needs)
     (λ c. search needs)
     (λ c. search needs)
@@ -33,5 +41,10 @@ add-tiny-spec =
     (λ c. search needs)
     (λ c. search needs)
     (λ c. search needs)
-    add-in-requires
+    (λ c. search needs)
+    (λ c. search needs)
+    (λ c. search needs)
+    (λ c. search needs)
+    (λ c. search needs)
+    add-tries-requires
     (λ c. search needs))
