@@ -2,8 +2,8 @@
 //! turn, many times a turn; the least time of all turns counts. The reader is
 //! held against a plain one, on images of three sizes and on some that are
 //! refused; the build, which reads its image too, against the published build
-//! alone, whose input was made beforehand; the addition of routes after that
-//! build, and alone, against the published two.
+//! whose input was made beforehand, and against the same that reads its image
+//! too; the addition of routes after that build likewise, and alone.
 //!
 //! `bench list` and `bench count SIDE WORK NAME` are for `count.sh`, which
 //! counts machine instructions instead of time.
@@ -19,8 +19,8 @@ use std::hint::black_box;
 use std::time::Instant;
 
 use added::{time, Case};
-use oracle::image::Image;
-use oracle::session::Inputs;
+use oracle::image::{read_image, Image};
+use oracle::session::{Built, Inputs};
 use proved::WORDS;
 
 fn main() {
@@ -44,14 +44,11 @@ fn time_all(turns: usize) {
     for (name, bytes) in images::all() {
         read(name, &bytes, turns);
     }
-    println!("{:28} {:>8} {:>10} {:>10} {:>7}", "build", "bytes", "proved ns", "Rust ns", "ratio");
+    head_with_reading("build");
     for (name, image) in programs::all() {
         build(name, &image, turns);
     }
-    println!(
-        "{:28} {:>8} {:>10} {:>10} {:>7} {:>10} {:>7}",
-        "build and add", "bytes", "proved ns", "Rust ns", "ratio", "reading", "ratio"
-    );
+    head_with_reading("build and add");
     let cases: Vec<_> = programs::added()
         .into_iter()
         .map(|(name, image)| add(name, Case::new(name, image), turns))
@@ -62,6 +59,13 @@ fn time_all(turns: usize) {
     }
 }
 
+fn head_with_reading(work: &str) {
+    println!(
+        "{work:28} {:>8} {:>10} {:>10} {:>7} {:>10} {:>7}",
+        "bytes", "proved ns", "Rust ns", "ratio", "reading", "ratio"
+    );
+}
+
 /// Tells the build with its addition; answers the addition alone.
 fn add(name: &'static str, mut case: Case, turns: usize) -> (&'static str, usize, f64, f64) {
     let (mut ours, mut theirs) = ([f64::MAX; 2], [f64::MAX; 3]);
@@ -70,13 +74,7 @@ fn add(name: &'static str, mut case: Case, turns: usize) -> (&'static str, usize
         theirs = least(theirs, case.time_rust());
     }
     let [read, whole, alone] = theirs;
-    println!(
-        "{name:28} {:8} {:10.1} {whole:10.1} {:7.2} {read:10.1} {:7.2}",
-        case.bytes(),
-        ours[0],
-        ours[0] / whole,
-        ours[0] / read
-    );
+    tell_with_reading(name, case.bytes(), ours[0], whole, read);
     (name, case.bytes(), ours[1], alone)
 }
 
@@ -101,16 +99,30 @@ fn build(name: &str, image: &Image, turns: usize) {
     let inputs = Inputs::of(image);
     assert!(proved::build(&bytes, &mut words) && inputs.clone().build().is_ok(), "{name}");
     let times = 200_000 / (bytes.len() + 400);
-    let (mut ours, mut theirs) = (f64::MAX, f64::MAX);
+    let (mut ours, mut theirs, mut reading) = (f64::MAX, f64::MAX, f64::MAX);
     for _ in 0..turns {
         ours = ours.min(time(times, || proved::build(black_box(&bytes), &mut words)));
+        let mut built = Vec::with_capacity(2 * times);
+        reading = reading.min(time(times, || built.push(read_and_build(black_box(&bytes)))));
         let copies = vec![inputs.clone(); times];
-        let mut built = Vec::with_capacity(times);
         let start = Instant::now();
-        built.extend(copies.into_iter().map(|copy| black_box(copy).build()));
+        built.extend(copies.into_iter().flat_map(|copy| black_box(copy).build()));
         theirs = theirs.min(start.elapsed().as_nanos() as f64 / times as f64);
     }
-    tell(name, bytes.len(), ours, theirs);
+    tell_with_reading(name, bytes.len(), ours, theirs, reading);
+}
+
+fn read_and_build(bytes: &[u8]) -> Built {
+    let image = read_image(bytes).expect("an image that is accepted");
+    Inputs::of(&image).build().expect("an image that is accepted")
+}
+
+fn tell_with_reading(name: &str, bytes: usize, ours: f64, theirs: f64, reading: f64) {
+    println!(
+        "{name:28} {bytes:8} {ours:10.1} {theirs:10.1} {:7.2} {reading:10.1} {:7.2}",
+        ours / theirs,
+        ours / reading
+    );
 }
 
 fn tell(name: &str, bytes: usize, ours: f64, theirs: f64) {
