@@ -14,6 +14,7 @@ pub mod TrieLaid
 pub mod TrieNodes
 pub mod TrieEarly
 pub mod LowerLaws
+pub mod SeenLaws
 pub mod TrieFuel
 pub mod TrieGroups
 pub mod TrieIntern

@@ -2,8 +2,8 @@
 --     Alike, same-on, same-other, same-end, same-size     two lists compared from place i on
 --     funclet-root, funclet-other, funclet-both           two funclets compared
 --     value-root, value-other                             the number that names one
---     place-first, place-none, place-lt                   the first of a list that equals a node, or none; it stands there
---     length-nodes, nodes-more, node-of, nodes-same, nodes-still     the nodes in scratch; after stores elsewhere
+--     place-first, place-lt                               the first of a list that equals a node; it stands there
+--     length-nodes, nodes-more, node-of, place-nothing, nodes-same, nodes-still     the nodes in scratch; none equals a node; after stores elsewhere
 --     kept-present, kept-new                              a node stands already, or is stored
 -- Assumes nothing.
 use mathlib.Core.Path.{_≡_, refl, sym, ap, _∙_}
@@ -100,7 +100,7 @@ module _ (n : Node) where
   place-first (x ∷ l) (suc i) d h others here =
       rw (others 0 (omega arith), place-first l i d (omega arith) (λ j lt. others (suc j) (omega arith)) here)
 
-  pub place-none : (l : List Node) (d : Node) → ((j : ℕ) → j < length l → sameNode n (getD l j d) ≡ false) → placeOf n l ≡ none
+  place-none : (l : List Node) (d : Node) → ((j : ℕ) → j < length l → sameNode n (getD l j d) ≡ false) → placeOf n l ≡ none
   unfolding placeOf
   place-none [] d others = refl
   place-none (x ∷ l) d others = rw (others 0 (omega arith), place-none l d (λ j lt. others (suc j) (omega arith)))
@@ -129,6 +129,10 @@ module _ (m : RouteImage) (nodes edges ends : List ℕ) where
   pub node-of : (n i : ℕ) (d : Node) → i < n → getD (nodesIn m nodes edges ends n) i d ≡ nodeIn m edges ends (recordIn nodes i)
   unfolding nodesIn
   node-of n i d h = getD-table (λ k. nodeIn m edges ends (recordIn nodes k)) n i d h
+
+  pub place-nothing : (n : ℕ) (x : Node) → ((j : ℕ) → j < n → sameNode x (nodeIn m edges ends (recordIn nodes j)) ≡ false) → none ≡ placeOf x (nodesIn m nodes edges ends n)
+  place-nothing n x others =
+      sym (place-none x (nodesIn m nodes edges ends n) x (λ j h. let lt : j < n = omega (arith, length-nodes n) in rw (node-of n j x lt) (others j lt)))
 
 pub nodes-same : (m : RouteImage) (nodes′ nodes edges ends : List ℕ) (n : ℕ) → ((i : ℕ) → i < n → recordIn nodes′ i ≡ recordIn nodes i) → nodesIn m nodes′ edges ends n ≡ nodesIn m nodes edges ends n
 unfolding nodesIn

@@ -2,6 +2,7 @@
 --     among-none, among-all     of no path, and of all of them
 --     key-none, key-early       the next path has no key, or one that comes no later than `last`
 --     key-merged                it has a later one
+--     key-alone                 the group has one path, whose key is `last`
 -- Assumes nothing.
 use mathlib.Core.Path.{_≡_, refl, sym, ap, _∙_}
 use mathlib.Core.Bool.{true, false, false≢true}
@@ -18,11 +19,12 @@ use Rattle.unwind.specs.declared.tries.keys.Key.{Key}
 use Rattle.unwind.specs.declared.tries.keys.NextKey.{NextKey}
 use Rattle.unwind.specs.declared.tries.keys.NextKey.the-variants.{At, Nothing}
 use Rattle.addition.specs.Order.{Tagged, compareTagged}
-use Rattle.unwind.specs.Interning.{isLt, after, before, nearest, leftAt}
+use Rattle.addition.specs.Walk.{_∈_}
+use Rattle.unwind.specs.Interning.{isLt, after, before, nearest, leftAt, pathsOf}
 use Rattle.unwind.specs.Keys.{keysOf, keyIn, keyOf, mergedOn, merged, firstKeys, Spans, SpansIn, KeyOf, NextAmong, NextOf}
 use Rattle.addition.proofs.Lists.{mem-flat}
 use Rattle.unwind.proofs.TrieOrder.{total-key, not-gt-eq, self-eq, next-in, next-new}
-use Rattle.unwind.proofs.TrieKeys.{nearest-append, nearest-none, nearer-taken, nearer-late, nearer-early, keys-flat}
+use Rattle.unwind.proofs.TrieKeys.{nearest-append, nearest-none, nearer-taken, nearer-late, nearer-early, keys-flat, one-key}
 
 abbrev order : Tagged ℕ → Tagged ℕ → Ordering
 order = compareTagged compare
@@ -143,3 +145,20 @@ module _ (m : RouteImage) (g : Group) (last : NextKey) where
           (λ x p q.
           let alike : keyIn m key ≡ keyIn m b = let k = same n (At b) so-far key found x q in cc in
           not-gt-eq (sym e ∙ rw alike (self-eq order total-key (keyIn m b))))
+
+module _ (m : RouteImage) (g : Group) (k : Key) (alone : g .count ≡ 1) (had : keyIn m k ∈ keysOf (pathsOf m g)) where
+  path-alone : pathsOf m g ≡ leftAt m g (g .first + 0)
+  unfolding pathsOf flat
+  path-alone = rw alone
+
+  only : keysOf (pathsOf m g) ≡ keyIn m k ∷ []
+  only = rw path-alone (one-key m g (g .first + 0) (rw path-alone at had))
+
+  pub key-alone : NextOf m g (At k) Nothing
+  unfolding keyOf
+  key-alone =
+      record {
+        is = sym (nearer-early order (some (keyIn m k)) none (keyIn m k) only (ap isLt (self-eq order total-key (keyIn m k))));
+        stands = tt;
+        spans = tt;
+      }

@@ -14,6 +14,7 @@ use Rattle.unwind.specs.declared.tries.keys.NextKey.the-variants.{At, No
 use Rattle.addition.specs.Lists.{joined}
 use Rattle.addition.specs.Order.{Tagged, tagged, compareTagged}
 use Rattle.addition.specs.Trie.{cut, groupOn}
+use Rattle.addition.specs.Walk.{_∈_}
 use Rattle.unwind.specs.Nodes.{stepIn, tagsIn}
 use Rattle.unwind.specs.Interning.{nearest, stepsIn, leftAt, pathsOf}
 
@@ -62,6 +63,11 @@ module _ (m : RouteImage) where
   abbrev pub KeyIn : Group → NextKey → Type 0
   KeyIn g (At k) = Stands g k
   KeyIn g Nothing = Unit {0}
+
+  -- some path of the group has the key
+  abbrev pub Had : Group → NextKey → Type 0
+  Had g (At k) = keyIn k ∈ keysOf (pathsOf m g)
+  Had g Nothing = Unit {0}
 
   pub record KeyOf (g : Group) (q : ℕ) (r : NextKey) : Type 0 where
     pub is : keysOf (leftAt m g q) ≡ listOf (keyOf r)

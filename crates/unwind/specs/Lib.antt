@@ -7,6 +7,7 @@ pub mod Runs
 pub mod Laid
 pub mod Kept
 pub mod Lower
+pub mod Seen
 pub mod Interns
 pub mod Routed
 pub mod Placed

@@ -39,6 +39,7 @@ pub fn intern_routes(
         edges: 0,
         ends: 0,
     };
+    let mut seen = [0u64; 16];
     let mut first = 0;
     for r in 0..n {
         let count = route_at(s, y.routes, r).paths;
@@ -49,7 +50,19 @@ pub fn intern_routes(
             from: 0,
             depth: 0,
         };
-        let root = intern(s, y, starts, group, nodes, edges, ends, stack, stored, 0);
+        let root = intern(
+            s,
+            y,
+            starts,
+            group,
+            nodes,
+            edges,
+            ends,
+            stack,
+            &mut seen,
+            stored,
+            0,
+        );
         roots[r] = root.place as u16;
         stored = root.counts;
         first += count;

@@ -20,6 +20,7 @@ ghost use Rattle.unwind.specs.Nodes.{nodesIn, Stored};
 ghost use Rattle.unwind.specs.Interning.{pathsOf};
 ghost use Rattle.unwind.specs.Laid.{endsList};
 ghost use Rattle.unwind.specs.Lower.{Lower};
+ghost use Rattle.unwind.specs.Seen.{Seen};
 ghost use Rattle.unwind.specs.Interns.{weight, groupBehind, funcletOf, Grouped, Room, Closes, Interns};
 
 // The node of a group. It calls itself for each group that its paths lead to, which has fewer steps left; the edges of the
@@ -33,11 +34,12 @@ pub fn intern(
     edges: &mut [u16],
     ends: &mut [u16],
     stack: &mut [u16],
+    seen: &mut [u64; 16],
     counts: Counts,
     top: usize,
 ) -> Interned
-    requires { ⌜ Grouped (routesIn (now s) y) (now starts) g × Stored (now nodes) (now edges) (now ends) counts × Room (now nodes) (now edges) (now ends) (now stack) counts top (suc (weight (pathsOf (routesIn (now s) y) g))) (weight (pathsOf (routesIn (now s) y) g)) (length (pathsOf (routesIn (now s) y) g)) × Lower (nodesIn (routesIn (now s) y) (now nodes) (now edges) (now ends) (counts .nodes)) ⌝ }
-    ensures { λ r. ⌜ Interns (routesIn (now (s .entry)) y) g (now (nodes .entry)) (now (edges .entry)) (now (ends .entry)) (now (stack .entry)) counts top (now (nodes .exit)) (now (edges .exit)) (now (ends .exit)) (now (stack .exit)) r ⌝ }
+    requires { ⌜ Grouped (routesIn (now s) y) (now starts) g × Stored (now nodes) (now edges) (now ends) counts × Room (now nodes) (now edges) (now ends) (now stack) counts top (suc (weight (pathsOf (routesIn (now s) y) g))) (weight (pathsOf (routesIn (now s) y) g)) (length (pathsOf (routesIn (now s) y) g)) × Lower (nodesIn (routesIn (now s) y) (now nodes) (now edges) (now ends) (counts .nodes)) × Seen (routesIn (now s) y) (now nodes) (counts .nodes) (now seen) ⌝ }
+    ensures { λ r. ⌜ Interns (routesIn (now (s .entry)) y) g (now (nodes .entry)) (now (edges .entry)) (now (ends .entry)) (now (stack .entry)) counts top (now (nodes .exit)) (now (edges .exit)) (now (ends .exit)) (now (stack .exit)) r × Seen (routesIn (now (s .entry)) y) (now (nodes .exit)) (r .counts .nodes) (now (seen .exit)) ⌝ }
 {
     let mut stored = counts;
     let mut n = 0;
@@ -45,7 +47,20 @@ pub fn intern(
     loop {
         let next = next_key(s, y, starts, g, last);
         let NextKey::At(key) = next else {
-            return close_node(s, y, starts, g, nodes, edges, ends, stack, stored, top, n);
+            return close_node(
+                s,
+                y,
+                starts,
+                g,
+                nodes,
+                edges,
+                ends,
+                stack,
+                seen,
+                stored,
+                top,
+                n,
+            );
         };
         let behind = group_behind(g, key);
         let child = intern(
@@ -57,6 +72,7 @@ pub fn intern(
             edges,
             ends,
             stack,
+            seen,
             stored,
             top + n,
         );
@@ -85,12 +101,13 @@ fn close_node(
     edges: &mut [u16],
     ends: &mut [u16],
     stack: &[u16],
+    seen: &mut [u64; 16],
     counts: Counts,
     top: usize,
     n: usize,
 ) -> Interned
-    requires { ⌜ Grouped (routesIn (now s) y) (now starts) g × Stored (now nodes) (now edges) (now ends) counts × Room (now nodes) (now edges) (now ends) (now stack) counts top 1 n (length (endsList (pathsOf (routesIn (now s) y) g))) × Lower (nodesIn (routesIn (now s) y) (now nodes) (now edges) (now ends) (counts .nodes)) ⌝ }
-    ensures { λ r. ⌜ Closes (routesIn (now (s .entry)) y) g (now (nodes .entry)) (now (edges .entry)) (now (ends .entry)) (now (stack .entry)) counts top n (now (nodes .exit)) (now (edges .exit)) (now (ends .exit)) r ⌝ }
+    requires { ⌜ Grouped (routesIn (now s) y) (now starts) g × Stored (now nodes) (now edges) (now ends) counts × Room (now nodes) (now edges) (now ends) (now stack) counts top 1 n (length (endsList (pathsOf (routesIn (now s) y) g))) × Lower (nodesIn (routesIn (now s) y) (now nodes) (now edges) (now ends) (counts .nodes)) × Seen (routesIn (now s) y) (now nodes) (counts .nodes) (now seen) ⌝ }
+    ensures { λ r. ⌜ Closes (routesIn (now (s .entry)) y) g (now (nodes .entry)) (now (edges .entry)) (now (ends .entry)) (now (stack .entry)) counts top n (now (nodes .exit)) (now (edges .exit)) (now (ends .exit)) r × Seen (routesIn (now (s .entry)) y) (now (nodes .exit)) (r .counts .nodes) (now (seen .exit)) ⌝ }
 {
     let first_edge = counts.edges;
     let first_end = counts.ends;
@@ -104,7 +121,7 @@ fn close_node(
         first_end,
         ends: end_count,
     };
-    keep_node(s, y, nodes, edges, ends, counts, node)
+    keep_node(s, y, nodes, edges, ends, seen, counts, node)
 }
 
 // The paths that go on behind a key.

@@ -16,7 +16,7 @@ ghost use Rattle.image.specs.Image.{routesIn};
 ghost use Rattle.image.specs.Accepted.{AcceptedRoutes};
 ghost use Rattle.addition.specs.Order.{compareTagged};
 ghost use Rattle.unwind.specs.Interning.{orderingOf, after, Starts, GroupIn};
-ghost use Rattle.unwind.specs.Keys.{keyIn, keyOf, merged, KeySmall, KeyIn, KeyOf, NextAmong, NextOf};
+ghost use Rattle.unwind.specs.Keys.{keyIn, keyOf, merged, KeySmall, KeyIn, Had, KeyOf, NextAmong, NextOf};
 
 // The calls, which are consecutive steps, and the funclet behind them; the first and the last path that has them.
 pub struct Key {
@@ -31,12 +31,17 @@ pub enum NextKey {
     Nothing,
 }
 
-// The key that comes next after `last`, or the first one.
+// The key that comes next after `last`, or the first one. One path has no other than its own.
 pub fn next_key(s: &[u8], y: RouteLayout, starts: &[u16], g: Group, last: NextKey) -> NextKey
-    requires { ⌜ AcceptedRoutes (routesIn (now s) y) × Starts (routesIn (now s) y) (now starts) × GroupIn (routesIn (now s) y) g × KeyIn (routesIn (now s) y) g last ⌝ }
+    requires { ⌜ AcceptedRoutes (routesIn (now s) y) × Starts (routesIn (now s) y) (now starts) × GroupIn (routesIn (now s) y) g × KeyIn (routesIn (now s) y) g last × Had (routesIn (now s) y) g last ⌝ }
     ensures { λ r. ⌜ NextOf (routesIn (now (s .entry)) y) g last r ⌝ }
 {
     let count = g.count;
+    if count == 1 {
+        if let NextKey::At(_) = last {
+            return NextKey::Nothing;
+        }
+    }
     let mut best = NextKey::Nothing;
     for k in 0..count {
         best = nearer_key(s, y, starts, g, last, best, k);

@@ -8,6 +8,8 @@ use crate::tries::store::branch_at;
 use crate::tries::store::node_at;
 use crate::tries::store::number_at;
 use crate::tries::store::put_node;
+use graph::blockset::has_in;
+use graph::blockset::put_in;
 use image::access::step_at;
 use image::section::RouteLayout;
 ghost use mathlib.Core.Path.{_≡_};
@@ -24,6 +26,7 @@ ghost use Rattle.unwind.specs.Nodes.{recordIn, branches, funcletIn, valu
 ghost use Rattle.unwind.specs.Interning.{ordered, meaning};
 ghost use Rattle.unwind.specs.Kept.{placeIn, Behind, Kept};
 ghost use Rattle.unwind.specs.Lower.{Lower, BehindChildren};
+ghost use Rattle.unwind.specs.Seen.{markOf, Seen};
 
 // Where a node stands.
 pub enum Place {
@@ -37,24 +40,27 @@ pub struct Interned {
     pub counts: Counts,
 }
 
-// Stores a node whose edges and ends are laid behind those that are stored, unless an equal one stands.
+// Stores a node whose edges and ends are laid behind those that are stored, unless an equal one stands; `seen` has the marks
+// of the funclets of all that stand.
 pub fn keep_node(
     s: &[u8],
     y: RouteLayout,
     nodes: &mut [u16],
     edges: &[u16],
     ends: &[u16],
+    seen: &mut [u64; 16],
     counts: Counts,
     x: NodeRecord,
 ) -> Interned
-    requires { ⌜ AcceptedRoutes (routesIn (now s) y) × Stored (now nodes) (now edges) (now ends) counts × Behind (now nodes) (now edges) (now ends) counts x × Lower (nodesIn (routesIn (now s) y) (now nodes) (now edges) (now ends) (counts .nodes)) ⌝ }
-    ensures { λ r. ⌜ Kept (routesIn (now (s .entry)) y) (now (nodes .entry)) (now (edges .entry)) (now (ends .entry)) counts x (now (nodes .exit)) r ⌝ }
+    requires { ⌜ AcceptedRoutes (routesIn (now s) y) × Stored (now nodes) (now edges) (now ends) counts × Behind (now nodes) (now edges) (now ends) counts x × Lower (nodesIn (routesIn (now s) y) (now nodes) (now edges) (now ends) (counts .nodes)) × Seen (routesIn (now s) y) (now nodes) (counts .nodes) (now seen) ⌝ }
+    ensures { λ r. ⌜ Kept (routesIn (now (s .entry)) y) (now (nodes .entry)) (now (edges .entry)) (now (ends .entry)) counts x (now (nodes .exit)) r × Seen (routesIn (now (s .entry)) y) (now (nodes .exit)) (r .counts .nodes) (now (seen .exit)) ⌝ }
 {
     let n = counts.nodes;
-    match find_node(s, y, nodes, edges, ends, n, x) {
+    match find_node(s, y, nodes, edges, ends, seen, n, x) {
         Place::At(i) => Interned { place: i, counts },
         Place::Nothing => {
             put_node(nodes, n, x);
+            put_in(seen, mark_of(funclet_value(s, y, x.funclet)));
             Interned {
                 place: n,
                 counts: Counts {
@@ -67,17 +73,18 @@ pub fn keep_node(
     }
 }
 
-// The first of the n nodes that equals x. It stands behind the children of x.
+// The first of the n nodes that equals x. It stands behind the children of x, and the mark of its funclet was seen.
 fn find_node(
     s: &[u8],
     y: RouteLayout,
     nodes: &[u16],
     edges: &[u16],
     ends: &[u16],
+    seen: &[u64; 16],
     n: usize,
     x: NodeRecord,
 ) -> Place
-    requires { ⌜ AcceptedRoutes (routesIn (now s) y) × NodeSmall x × (6 * n ≤ length (now nodes)) × Lower (nodesIn (routesIn (now s) y) (now nodes) (now edges) (now ends) n) ⌝ }
+    requires { ⌜ AcceptedRoutes (routesIn (now s) y) × NodeSmall x × (6 * n ≤ length (now nodes)) × Lower (nodesIn (routesIn (now s) y) (now nodes) (now edges) (now ends) n) × Seen (routesIn (now s) y) (now nodes) n (now seen) ⌝ }
     ensures { λ r. ⌜ placeIn r ≡ placeOf (nodeIn (routesIn (now (s .entry)) y) (now (edges .entry)) (now (ends .entry)) x) (nodesIn (routesIn (now (s .entry)) y) (now (nodes .entry)) (now (edges .entry)) (now (ends .entry)) n) ⌝ }
 {
     let low = behind_children(edges, x.first_edge, x.edges);
@@ -85,6 +92,9 @@ fn find_node(
         return Place::Nothing;
     }
     let value = funclet_value(s, y, x.funclet);
+    if !has_in(seen, mark_of(value)) {
+        return Place::Nothing;
+    }
     for i in low..n {
         if stands_at(s, y, nodes, edges, ends, i, x, value) {
             return Place::At(i);
@@ -150,6 +160,13 @@ fn funclet_value(s: &[u8], y: RouteLayout, a: usize) -> u64
         return 0;
     }
     step_at(s, y.steps, a - 1).value
+}
+
+// The mark of a funclet: one of fewer numbers than a set has room for, drawn from its value.
+fn mark_of(value: u64) -> usize
+    ensures { λ r. ⌜ r ≡ markOf value ⌝ }
+{
+    (value % 1021) as usize
 }
 
 // Equal nodes: all but the route.

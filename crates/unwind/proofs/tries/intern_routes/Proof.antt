@@ -1,4 +1,5 @@
--- `intern_routes` meets its contract. The invariant: the routes before r are interned. Assumes nothing.
+-- `intern_routes` meets its contract. The invariant: the routes before r are interned, and the marks of their nodes were
+-- seen. Assumes nothing.
 use mathlib.Core.Path.{_≡_, ap}
 use Prim.Native.Nat.{_-_, _≤_, _<_}
 use native.Mathlib.Omega.{arith}
@@ -8,23 +9,25 @@ use Rattle.image.specs.Image.{routesIn}
 use Rattle.image.specs.declared.record.Route.{Route}
 use Rattle.image.proofs.Tables.{length-records}
 use Rattle.graph.proofs.RouteLaws.{paths-in}
+use Rattle.unwind.specs.Seen.{Seen}
+use Rattle.unwind.proofs.SeenLaws.{seen-none}
 use Rattle.unwind.proofs.TrieRoutes.{Routed, route-start, route-grouped, route-room, place-small, route-next, route-done}
 use borrow.Author.Needs.{needs}
 use Rattle.unwind.proofs.tries.intern_routes.Statement.{statement}
 use Rattle.unwind.proofs.tries.intern_routes.Tie as tie
 
 abbrev Inv-loop : tie.InvT-loop
-Inv-loop s y starts nodes₀ edges₀ ends₀ stack₀ roots₀ n stored₀ first₀ r₀ nodes edges ends stack roots stored first r =
-    (r ≤ y .routes .count) × Routed (routesIn s y) nodes₀ edges₀ ends₀ stack₀ roots₀ nodes edges ends stack roots stored first r
+Inv-loop s y starts nodes₀ edges₀ ends₀ stack₀ roots₀ n stored₀ seen₀ first₀ r₀ nodes edges ends stack roots stored seen first r =
+    (r ≤ y .routes .count) × Routed (routesIn s y) nodes₀ edges₀ ends₀ stack₀ roots₀ nodes edges ends stack roots stored first r × Seen (routesIn s y) nodes (stored .nodes) seen
 
 abbrev μ-loop : tie.MeasureT-loop
-μ-loop s y starts nodes₀ edges₀ ends₀ stack₀ roots₀ n stored₀ first₀ r₀ nodes edges ends stack roots stored first r = n - r
+μ-loop s y starts nodes₀ edges₀ ends₀ stack₀ roots₀ n stored₀ seen₀ first₀ r₀ nodes edges ends stack roots stored seen first r = n - r
 
 path-starts-requires : tie.Need-path-starts-requires Inv-loop μ-loop
 path-starts-requires c κs = (c .before .before .before .before .before .before .before .before .pre .0, c .before .before .before .before .before .before .before .before .pre .1 .starts-fit)
 
 loop-holds : tie.Need-loop-holds Inv-loop μ-loop
-loop-holds c = (search needs, route-start _ (c .before .before .before .before .before .before .before .before .before .before .before .before .pre .0) _ _ _ _ _ _ (c .before .before .before .before .before .before .before .before .before .before .before .before .pre .1))
+loop-holds c = (search needs, route-start _ (c .before .before .before .before .before .before .before .before .before .before .before .before .pre .0) _ _ _ _ _ _ (c .before .before .before .before .before .before .before .before .before .before .before .before .pre .1), seen-none _ _)
 
 -- route r stands among all
 among : (c : tie.In-loop Inv-loop μ-loop) → c .before .loop .r < length (routesIn (c .before .before .before .before .before .before .before .before .before .before .before .before .before .before .args .s .now) (c .before .before .before .before .before .before .before .before .before .before .before .before .before .before .args .y) .routes)
@@ -32,39 +35,41 @@ among c = rw (length-records routeFrom (c .before .before .before .before .befor
 
 intern-requires : tie.Need-intern-requires Inv-loop μ-loop
 intern-requires c κs =
-    let h = among (c .before .before .before .before .before .before) in
-    rw (c .before .before .before .before .before .route-at .ensures) (
-      route-grouped _ (c .before .before .before .before .before .before .before .before .before .before .before .before .before .before .before .before .before .before .before .before .pre .0) _ _ _ _ _ _ (c .before .before .before .before .before .before .before .before .before .before .before .before .before .before .before .before .before .before .before .before .pre .1) _ _ _ _ _ _ _ _ (c .before .before .before .before .before .before .before .loop .inv .1) h _ (c .before .before .before .before .before .before .before .before .before .before .before .path-starts .ensures),
-      c .before .before .before .before .before .before .before .loop .inv .1 .stored,
-      route-room _ (c .before .before .before .before .before .before .before .before .before .before .before .before .before .before .before .before .before .before .before .before .pre .0) _ _ _ _ _ _ (c .before .before .before .before .before .before .before .before .before .before .before .before .before .before .before .before .before .before .before .before .pre .1) _ _ _ _ _ _ _ _ (c .before .before .before .before .before .before .before .loop .inv .1) h,
-      c .before .before .before .before .before .before .before .loop .inv .1 .lower,
+    let h = among (c .before .before .before .before .before .before .before) in
+    rw (c .before .before .before .before .before .before .route-at .ensures) (
+      route-grouped _ (c .before .before .before .before .before .before .before .before .before .before .before .before .before .before .before .before .before .before .before .before .before .pre .0) _ _ _ _ _ _ (c .before .before .before .before .before .before .before .before .before .before .before .before .before .before .before .before .before .before .before .before .before .pre .1) _ _ _ _ _ _ _ _ (c .before .before .before .before .before .before .before .before .loop .inv .1) h _ (c .before .before .before .before .before .before .before .before .before .before .before .before .path-starts .ensures),
+      c .before .before .before .before .before .before .before .before .loop .inv .1 .stored,
+      route-room _ (c .before .before .before .before .before .before .before .before .before .before .before .before .before .before .before .before .before .before .before .before .before .pre .0) _ _ _ _ _ _ (c .before .before .before .before .before .before .before .before .before .before .before .before .before .before .before .before .before .before .before .before .before .pre .1) _ _ _ _ _ _ _ _ (c .before .before .before .before .before .before .before .before .loop .inv .1) h,
+      c .before .before .before .before .before .before .before .before .loop .inv .1 .lower,
+      c .before .before .before .before .before .before .before .before .loop .inv .2,
     )
 
 cast-roots : tie.Need-cast-roots Inv-loop μ-loop
 cast-roots c =
-    let done = rw (c .before .before .before .before .before .before .before .before .before .before .before .before .before .before .before .route-at .ensures) at (c .before .before .before .before .before .before .before .before .before .intern .ensures) in
-    omega (arith, place-small _ (c .before .before .before .before .before .before .before .before .before .before .before .before .before .before .before .before .before .before .before .before .before .before .before .before .before .before .before .before .before .before .pre .0) _ _ _ _ _ _ (c .before .before .before .before .before .before .before .before .before .before .before .before .before .before .before .before .before .before .before .before .before .before .before .before .before .before .before .before .before .before .pre .1) _ _ _ _ _ _ _ _ (c .before .before .before .before .before .before .before .before .before .before .before .before .before .before .before .before .before .loop .inv .1) (among (c .before .before .before .before .before .before .before .before .before .before .before .before .before .before .before .before)) _ _ _ _ _ done)
+    let done = rw (c .before .before .before .before .before .before .before .before .before .before .before .before .before .before .before .before .route-at .ensures) at (c .before .before .before .before .before .before .before .before .before .intern .ensures .0) in
+    omega (arith, place-small _ (c .before .before .before .before .before .before .before .before .before .before .before .before .before .before .before .before .before .before .before .before .before .before .before .before .before .before .before .before .before .before .before .pre .0) _ _ _ _ _ _ (c .before .before .before .before .before .before .before .before .before .before .before .before .before .before .before .before .before .before .before .before .before .before .before .before .before .before .before .before .before .before .before .pre .1) _ _ _ _ _ _ _ _ (c .before .before .before .before .before .before .before .before .before .before .before .before .before .before .before .before .before .before .loop .inv .1) (among (c .before .before .before .before .before .before .before .before .before .before .before .before .before .before .before .before .before)) _ _ _ _ _ done)
 
 mul-roots : tie.Need-mul-roots Inv-loop μ-loop
-mul-roots c = omega (arith, among (c .before .before .before .before .before .before .before .before .before .before .before .before .before .before .before .before), c .before .before .before .before .before .before .before .before .before .before .before .before .before .before .before .before .before .before .before .before .before .before .before .before .before .before .before .before .before .before .pre .0 .routes-most)
+mul-roots c = omega (arith, among (c .before .before .before .before .before .before .before .before .before .before .before .before .before .before .before .before .before), c .before .before .before .before .before .before .before .before .before .before .before .before .before .before .before .before .before .before .before .before .before .before .before .before .before .before .before .before .before .before .before .pre .0 .routes-most)
 
 slice-write-roots : tie.Need-slice-write-roots Inv-loop μ-loop
-slice-write-roots c = omega (arith, among (c .before .before .before .before .before .before .before .before .before .before .before .before .before .before .before .before), c .before .before .before .before .before .before .before .before .before .before .before .before .before .before .before .before .before .before .before .before .before .before .before .before .before .before .before .before .before .before .pre .1 .roots-fit, c .before .before .before .before .before .before .before .before .before .before .before .before .before .before .before .before .before .loop .inv .1 .roots-long)
+slice-write-roots c = omega (arith, among (c .before .before .before .before .before .before .before .before .before .before .before .before .before .before .before .before .before), c .before .before .before .before .before .before .before .before .before .before .before .before .before .before .before .before .before .before .before .before .before .before .before .before .before .before .before .before .before .before .before .pre .1 .roots-fit, c .before .before .before .before .before .before .before .before .before .before .before .before .before .before .before .before .before .before .loop .inv .1 .roots-long)
 
 add-first : tie.Need-add-first Inv-loop μ-loop
 add-first c =
-    omega (arith, paths-in (routesIn (c .before .before .before .before .before .before .before .before .before .before .before .before .before .before .before .before .before .before .before .before .before .before .before .before .before .before .before .before .before .before .before .args .s .now) (c .before .before .before .before .before .before .before .before .before .before .before .before .before .before .before .before .before .before .before .before .before .before .before .before .before .before .before .before .before .before .before .args .y)) (c .before .before .before .before .before .before .before .before .before .before .before .before .before .before .before .before .before .before .before .before .before .before .before .before .before .before .before .before .before .before .before .pre .0) (c .before .before .before .before .before .before .before .before .before .before .before .before .before .before .before .before .before .before .loop .r) (among (c .before .before .before .before .before .before .before .before .before .before .before .before .before .before .before .before .before)), c .before .before .before .before .before .before .before .before .before .before .before .before .before .before .before .before .before .before .before .before .before .before .before .before .before .before .before .before .before .before .before .pre .0 .paths-most, c .before .before .before .before .before .before .before .before .before .before .before .before .before .before .before .before .before .before .loop .inv .1 .first-is, ap (λ (x : Route). x .paths) (c .before .before .before .before .before .before .before .before .before .before .before .before .before .before .before .before .route-at .ensures))
+    omega (arith, paths-in (routesIn (c .before .before .before .before .before .before .before .before .before .before .before .before .before .before .before .before .before .before .before .before .before .before .before .before .before .before .before .before .before .before .before .before .args .s .now) (c .before .before .before .before .before .before .before .before .before .before .before .before .before .before .before .before .before .before .before .before .before .before .before .before .before .before .before .before .before .before .before .before .args .y)) (c .before .before .before .before .before .before .before .before .before .before .before .before .before .before .before .before .before .before .before .before .before .before .before .before .before .before .before .before .before .before .before .before .pre .0) (c .before .before .before .before .before .before .before .before .before .before .before .before .before .before .before .before .before .before .before .loop .r) (among (c .before .before .before .before .before .before .before .before .before .before .before .before .before .before .before .before .before .before)), c .before .before .before .before .before .before .before .before .before .before .before .before .before .before .before .before .before .before .before .before .before .before .before .before .before .before .before .before .before .before .before .before .pre .0 .paths-most, c .before .before .before .before .before .before .before .before .before .before .before .before .before .before .before .before .before .before .before .loop .inv .1 .first-is, ap (λ (x : Route). x .paths) (c .before .before .before .before .before .before .before .before .before .before .before .before .before .before .before .before .before .route-at .ensures))
 
 add-r : tie.Need-add-r Inv-loop μ-loop
-add-r c = omega (arith, among (c .before .before .before .before .before .before .before .before .before .before .before .before .before .before .before .before .before), c .before .before .before .before .before .before .before .before .before .before .before .before .before .before .before .before .before .before .before .before .before .before .before .before .before .before .before .before .before .before .before .pre .0 .routes-most)
+add-r c = omega (arith, among (c .before .before .before .before .before .before .before .before .before .before .before .before .before .before .before .before .before .before), c .before .before .before .before .before .before .before .before .before .before .before .before .before .before .before .before .before .before .before .before .before .before .before .before .before .before .before .before .before .before .before .before .pre .0 .routes-most)
 
 loop-again : tie.Need-loop-again Inv-loop μ-loop
 loop-again c =
-    let done = rw (c .before .before .before .before .before .before .before .before .before .before .before .before .before .before .before .before .route-at .ensures) at (c .before .before .before .before .before .before .before .before .before .before .intern .ensures) in
-    rw (c .before .before .before .before .before .before .before .before .before .before .before .before .before .before .before .before .route-at .ensures) (
+    let done = rw (c .before .before .before .before .before .before .before .before .before .before .before .before .before .before .before .before .before .route-at .ensures) at (c .before .before .before .before .before .before .before .before .before .before .intern .ensures .0) in
+    rw (c .before .before .before .before .before .before .before .before .before .before .before .before .before .before .before .before .before .route-at .ensures) (
       search needs,
-      route-next _ (c .before .before .before .before .before .before .before .before .before .before .before .before .before .before .before .before .before .before .before .before .before .before .before .before .before .before .before .before .before .before .before .pre .0) _ _ _ _ _ _ (c .before .before .before .before .before .before .before .before .before .before .before .before .before .before .before .before .before .before .before .before .before .before .before .before .before .before .before .before .before .before .before .pre .1) _ _ _ _ _ _ _ _ (c .before .before .before .before .before .before .before .before .before .before .before .before .before .before .before .before .before .before .loop .inv .1) (among (c .before .before .before .before .before .before .before .before .before .before .before .before .before .before .before .before .before)) _ _ _ _ _ done
+      route-next _ (c .before .before .before .before .before .before .before .before .before .before .before .before .before .before .before .before .before .before .before .before .before .before .before .before .before .before .before .before .before .before .before .before .pre .0) _ _ _ _ _ _ (c .before .before .before .before .before .before .before .before .before .before .before .before .before .before .before .before .before .before .before .before .before .before .before .before .before .before .before .before .before .before .before .before .pre .1) _ _ _ _ _ _ _ _ (c .before .before .before .before .before .before .before .before .before .before .before .before .before .before .before .before .before .before .before .loop .inv .1) (among (c .before .before .before .before .before .before .before .before .before .before .before .before .before .before .before .before .before .before)) _ _ _ _ _ done
           (c .before .before .before .before .before .before .before .before .before .before .intern .kept .1 .1 .1 .1 .0) (c .before .before .before .before .before .before .before .before .before .before .intern .kept .1 .1 .1 .1 .1 .0) (c .before .before .before .before .before .before .before .before .before .before .intern .kept .1 .1 .1 .1 .1 .1 .0) (c .before .before .before .before .before .before .before .before .before .before .intern .kept .1 .1 .1 .1 .1 .1 .1 .0),
+      c .before .before .before .before .before .before .before .before .before .before .intern .ensures .1,
     )
 
 same-length-2 : tie.Need-same-length-2 Inv-loop μ-loop

@@ -1,5 +1,6 @@
 -- `intern` meets its contract. It calls itself on paths with fewer steps left: the measure is the longest count of steps. The
--- loop's invariant: the groups up to `last` are interned, and their edges stand on the stack. Assumes nothing.
+-- loop's invariant: the groups up to `last` are interned, and their edges stand on the stack; the marks of all nodes were seen.
+-- Assumes nothing.
 use mathlib.Core.Path.{_≡_, _∙_}
 use Prim.Native.Nat.{ℕ, _<_}
 use native.Mathlib.Omega.{arith}
@@ -16,6 +17,7 @@ use Rattle.unwind.specs.declared.tries.keys.NextKey.the-variants.{At, No
 use Rattle.addition.specs.Trie.{longest}
 use Rattle.unwind.specs.Interning.{pathsOf}
 use Rattle.unwind.specs.Keys.{NextOf}
+use Rattle.unwind.specs.Seen.{Seen}
 use Rattle.unwind.proofs.TrieWork.{left, Working, work-start, next-falls, child-grouped, child-room, push-room, left-falls, branch-small, work-next, close-room, work-done}
 use Rattle.unwind.proofs.tries.intern.intern.Reads as intern
 use Rattle.unwind.proofs.tries.intern.intern.Kinds as intern-kinds
@@ -27,21 +29,21 @@ use Rattle.unwind.proofs.tries.store.put_branch.Reads as put-branch-rea
 use Rattle.unwind.proofs.tries.intern.+intern.{statement}
 use Rattle.unwind.proofs.tries.intern.+intern.Tie.{close}
 
-abbrev μ-intern : Measures 6 intern-kinds.ps ℕ
+abbrev μ-intern : Measures 7 intern-kinds.ps ℕ
 μ-intern κs a = longest (pathsOf (routesIn (now (a .0)) (a .1 .0)) (a .1 .1 .1 .0))
 
-abbrev intern-at : ℕ → In 6 intern-kinds.ps
-intern-at t = and 6 intern-kinds.ps (is 6 intern-kinds.ps μ-intern t) intern.Pre
+abbrev intern-at : ℕ → In 7 intern-kinds.ps
+intern-at t = and 7 intern-kinds.ps (is 7 intern-kinds.ps μ-intern t) intern.Pre
 
-abbrev intern-below : ℕ → In 6 intern-kinds.ps
-intern-below t = and 6 intern-kinds.ps (falls 6 intern-kinds.ps _<_ μ-intern t) intern.Pre
+abbrev intern-below : ℕ → In 7 intern-kinds.ps
+intern-below t = and 7 intern-kinds.ps (falls 7 intern-kinds.ps _<_ μ-intern t) intern.Pre
 
 abbrev intern-Inv-loop : intern-lts.InvT-loop
-intern-Inv-loop s y starts g nodes₀ edges₀ ends₀ stack₀ top stored₀ n₀ last₀ nodes edges ends stack stored n last =
-    Working (routesIn s y) g nodes₀ edges₀ ends₀ stack₀ stored₀ top nodes edges ends stack stored n last
+intern-Inv-loop s y starts g nodes₀ edges₀ ends₀ stack₀ seen₀ top stored₀ n₀ last₀ nodes edges ends stack seen stored n last =
+    Working (routesIn s y) g nodes₀ edges₀ ends₀ stack₀ stored₀ top nodes edges ends stack stored n last × Seen (routesIn s y) nodes (stored .nodes) seen
 
 abbrev intern-μ-loop : intern-lts.MeasureT-loop
-intern-μ-loop s y starts g nodes₀ edges₀ ends₀ stack₀ top stored₀ n₀ last₀ nodes edges ends stack stored n last =
+intern-μ-loop s y starts g nodes₀ edges₀ ends₀ stack₀ seen₀ top stored₀ n₀ last₀ nodes edges ends stack seen stored n last =
     length (left (routesIn s y) g last)
 
 -- a key that was found
@@ -60,7 +62,7 @@ intern-loop-holds : (t : ℕ) → intern-lts.Need-loop-holds (
   put-branch-reads.Asked,
   put-branch-reads.Learnt,
 ) (intern-at t) intern.Post intern-Inv-loop intern-μ-loop
-intern-loop-holds t c = work-start _ _ _ _ _ _ _ _ (c .before .before .before .before .before .before .pre .1 .1) (c .before .before .before .before .before .before .pre .1 .3)
+intern-loop-holds t c = (work-start _ _ _ _ _ _ _ _ (c .before .before .before .before .before .before .pre .1 .1) (c .before .before .before .before .before .before .pre .1 .3), c .before .before .before .before .before .before .pre .1 .4)
 
 intern-next-key-requires : (t : ℕ) → intern-lts.Need-next-key-requires (
   next-key-reads.Asked,
@@ -74,7 +76,7 @@ intern-next-key-requires : (t : ℕ) → intern-lts.Need-next-key-requires (
   put-branch-reads.Asked,
   put-branch-reads.Learnt,
 ) (intern-at t) intern.Post intern-Inv-loop intern-μ-loop
-intern-next-key-requires t c κs = (c .before .before .before .before .before .before .before .pre .1 .0 .accepted, c .before .before .before .before .before .before .before .pre .1 .0 .starts, c .before .before .before .before .before .before .before .pre .1 .0 .within, c .loop .inv .key)
+intern-next-key-requires t c κs = (c .before .before .before .before .before .before .before .pre .1 .0 .accepted, c .before .before .before .before .before .before .before .pre .1 .0 .starts, c .before .before .before .before .before .before .before .pre .1 .0 .within, c .loop .inv .0 .key, c .loop .inv .0 .had)
 
 intern-enum-known-next : (t : ℕ) → intern-lts.Need-enum-known-next (
   next-key-reads.Asked,
@@ -117,9 +119,9 @@ intern-close-node-requires : (t : ℕ) → intern-lts.Need-close-node-requires (
   put-branch-reads.Learnt,
 ) (intern-at t) intern.Post intern-Inv-loop intern-μ-loop
 intern-close-node-requires t c κs =
-    let m = routesIn (c .before .before .before .before .before .before .before .before .before .before .before .before .before .before .args .s .now) (c .before .before .before .before .before .before .before .before .before .before .before .before .before .before .args .y) in
-    let next : NextOf m (c .before .before .before .before .before .before .before .before .before .before .before .before .before .before .args .g) (c .before .before .before .before .before .before .before .loop .last) Nothing = rw (c .before .before .before .before .enum-told .given .1) at (c .before .before .before .before .before .before .next-key .ensures) in
-    (c .before .before .before .before .before .before .before .before .before .before .before .before .before .before .pre .1 .0, c .before .before .before .before .before .before .before .loop .inv .stored, close-room m (c .before .before .before .before .before .before .before .before .before .before .before .before .before .before .args .g) (c .before .before .before .before .before .before .before .before .before .before .before .before .before .before .args .nodes .now) (c .before .before .before .before .before .before .before .before .before .before .before .before .before .before .args .edges .now) (c .before .before .before .before .before .before .before .before .before .before .before .before .before .before .args .ends .now) (c .before .before .before .before .before .before .before .before .before .before .before .before .before .before .args .stack .now) (c .before .before .before .before .before .before .before .before .before .before .before .before .before .before .args .counts) (c .before .before .before .before .before .before .before .before .before .before .before .before .before .before .args .top) (c .before .before .before .before .before .before .before .before .before .before .before .before .before .before .pre .1 .2) (c .before .before .before .before .before .before .before .loop .nodes) (c .before .before .before .before .before .before .before .loop .edges) (c .before .before .before .before .before .before .before .loop .ends) (c .before .before .before .before .before .before .before .loop .stack) (c .before .before .before .before .before .before .before .loop .stored) (c .before .before .before .before .before .before .before .loop .n) (c .before .before .before .before .before .before .before .loop .last) (c .before .before .before .before .before .before .before .loop .inv) next, c .before .before .before .before .before .before .before .loop .inv .lower)
+    let m = routesIn (c .before .before .before .before .before .before .before .before .before .before .before .before .before .before .before .args .s .now) (c .before .before .before .before .before .before .before .before .before .before .before .before .before .before .before .args .y) in
+    let next : NextOf m (c .before .before .before .before .before .before .before .before .before .before .before .before .before .before .before .args .g) (c .before .before .before .before .before .before .before .before .loop .last) Nothing = rw (c .before .before .before .before .before .enum-told .given .1) at (c .before .before .before .before .before .before .before .next-key .ensures) in
+    (c .before .before .before .before .before .before .before .before .before .before .before .before .before .before .before .pre .1 .0, c .before .before .before .before .before .before .before .before .loop .inv .0 .stored, close-room m (c .before .before .before .before .before .before .before .before .before .before .before .before .before .before .before .args .g) (c .before .before .before .before .before .before .before .before .before .before .before .before .before .before .before .args .nodes .now) (c .before .before .before .before .before .before .before .before .before .before .before .before .before .before .before .args .edges .now) (c .before .before .before .before .before .before .before .before .before .before .before .before .before .before .before .args .ends .now) (c .before .before .before .before .before .before .before .before .before .before .before .before .before .before .before .args .stack .now) (c .before .before .before .before .before .before .before .before .before .before .before .before .before .before .before .args .counts) (c .before .before .before .before .before .before .before .before .before .before .before .before .before .before .before .args .top) (c .before .before .before .before .before .before .before .before .before .before .before .before .before .before .before .pre .1 .2) (c .before .before .before .before .before .before .before .before .loop .nodes) (c .before .before .before .before .before .before .before .before .loop .edges) (c .before .before .before .before .before .before .before .before .loop .ends) (c .before .before .before .before .before .before .before .before .loop .stack) (c .before .before .before .before .before .before .before .before .loop .stored) (c .before .before .before .before .before .before .before .before .loop .n) (c .before .before .before .before .before .before .before .before .loop .last) (c .before .before .before .before .before .before .before .before .loop .inv .0) next, c .before .before .before .before .before .before .before .before .loop .inv .0 .lower, c .before .before .before .before .before .before .before .before .loop .inv .1)
 
 intern-same-length : (t : ℕ) → intern-lts.Need-same-length (
   next-key-reads.Asked,
@@ -133,7 +135,7 @@ intern-same-length : (t : ℕ) → intern-lts.Need-same-length (
   put-branch-reads.Asked,
   put-branch-reads.Learnt,
 ) (intern-at t) intern.Post intern-Inv-loop intern-μ-loop
-intern-same-length t c = c .before .before .before .before .before .before .close-node .kept .1 .1 .1 .1 .0 ∙ c .before .before .before .before .before .before .before .before .before .before .before .before .before .before .loop .inv .nodes-long
+intern-same-length t c = c .before .before .before .before .before .before .close-node .kept .1 .1 .1 .1 .0 ∙ c .before .before .before .before .before .before .before .before .before .before .before .before .before .before .before .loop .inv .0 .nodes-long
 
 intern-same-length-2 : (t : ℕ) → intern-lts.Need-same-length-2 (
   next-key-reads.Asked,
@@ -147,7 +149,7 @@ intern-same-length-2 : (t : ℕ) → intern-lts.Need-same-length-2 (
   put-branch-reads.Asked,
   put-branch-reads.Learnt,
 ) (intern-at t) intern.Post intern-Inv-loop intern-μ-loop
-intern-same-length-2 t c = c .before .before .before .before .before .before .close-node .kept .1 .1 .1 .1 .1 .0 ∙ c .before .before .before .before .before .before .before .before .before .before .before .before .before .before .loop .inv .edges-long
+intern-same-length-2 t c = c .before .before .before .before .before .before .close-node .kept .1 .1 .1 .1 .1 .0 ∙ c .before .before .before .before .before .before .before .before .before .before .before .before .before .before .before .loop .inv .0 .edges-long
 
 intern-same-length-3 : (t : ℕ) → intern-lts.Need-same-length-3 (
   next-key-reads.Asked,
@@ -161,7 +163,7 @@ intern-same-length-3 : (t : ℕ) → intern-lts.Need-same-length-3 (
   put-branch-reads.Asked,
   put-branch-reads.Learnt,
 ) (intern-at t) intern.Post intern-Inv-loop intern-μ-loop
-intern-same-length-3 t c = c .before .before .before .before .before .before .close-node .kept .1 .1 .1 .1 .1 .1 .0 ∙ c .before .before .before .before .before .before .before .before .before .before .before .before .before .before .loop .inv .ends-long
+intern-same-length-3 t c = c .before .before .before .before .before .before .close-node .kept .1 .1 .1 .1 .1 .1 .0 ∙ c .before .before .before .before .before .before .before .before .before .before .before .before .before .before .before .loop .inv .0 .ends-long
 
 intern-same-length-4 : (t : ℕ) → intern-lts.Need-same-length-4 (
   next-key-reads.Asked,
@@ -175,7 +177,7 @@ intern-same-length-4 : (t : ℕ) → intern-lts.Need-same-length-4 (
   put-branch-reads.Asked,
   put-branch-reads.Learnt,
 ) (intern-at t) intern.Post intern-Inv-loop intern-μ-loop
-intern-same-length-4 t c = c .before .before .before .before .before .before .before .before .before .before .before .before .before .before .loop .inv .stack-long
+intern-same-length-4 t c = c .before .before .before .before .before .before .before .before .before .before .before .before .before .before .before .loop .inv .0 .stack-long
 
 intern-returns : (t : ℕ) → intern-lts.Need-returns (
   next-key-reads.Asked,
@@ -190,9 +192,9 @@ intern-returns : (t : ℕ) → intern-lts.Need-returns (
   put-branch-reads.Learnt,
 ) (intern-at t) intern.Post intern-Inv-loop intern-μ-loop
 intern-returns t c =
-    let m = routesIn (c .before .before .before .before .before .before .before .before .before .before .before .before .before .before .before .before .before .before .before .before .before .args .s .now) (c .before .before .before .before .before .before .before .before .before .before .before .before .before .before .before .before .before .before .before .before .before .args .y) in
-    let next : NextOf m (c .before .before .before .before .before .before .before .before .before .before .before .before .before .before .before .before .before .before .before .before .before .args .g) (c .before .before .before .before .before .before .before .before .before .before .before .before .before .before .loop .last) Nothing = rw (c .before .before .before .before .before .before .before .before .before .before .before .enum-told .given .1) at (c .before .before .before .before .before .before .before .before .before .before .before .before .before .next-key .ensures) in
-    work-done m (c .before .before .before .before .before .before .before .before .before .before .before .before .before .before .before .before .before .before .before .before .before .args .g) (c .before .before .before .before .before .before .before .before .before .before .before .before .before .before .before .before .before .before .before .before .before .args .nodes .now) (c .before .before .before .before .before .before .before .before .before .before .before .before .before .before .before .before .before .before .before .before .before .args .edges .now) (c .before .before .before .before .before .before .before .before .before .before .before .before .before .before .before .before .before .before .before .before .before .args .ends .now) (c .before .before .before .before .before .before .before .before .before .before .before .before .before .before .before .before .before .before .before .before .before .args .stack .now) (c .before .before .before .before .before .before .before .before .before .before .before .before .before .before .before .before .before .before .before .before .before .args .counts) (c .before .before .before .before .before .before .before .before .before .before .before .before .before .before .before .before .before .before .before .before .before .args .top) (c .before .before .before .before .before .before .before .before .before .before .before .before .before .before .before .before .before .before .before .before .before .pre .1 .2) (c .before .before .before .before .before .before .before .before .before .before .before .before .before .before .loop .nodes) (c .before .before .before .before .before .before .before .before .before .before .before .before .before .before .loop .edges) (c .before .before .before .before .before .before .before .before .before .before .before .before .before .before .loop .ends) (c .before .before .before .before .before .before .before .before .before .before .before .before .before .before .loop .stack) (c .before .before .before .before .before .before .before .before .before .before .before .before .before .before .loop .stored) (c .before .before .before .before .before .before .before .before .before .before .before .before .before .before .loop .n) (c .before .before .before .before .before .before .before .before .before .before .before .before .before .before .loop .last) (c .before .before .before .before .before .before .before .before .before .before .before .before .before .before .loop .inv) next _ _ _ (c .before .before .before .before .before .before .close-node .result) (c .before .before .before .before .before .before .close-node .ensures)
+    let m = routesIn (c .before .before .before .before .before .before .before .before .before .before .before .before .before .before .before .before .before .before .before .before .before .before .args .s .now) (c .before .before .before .before .before .before .before .before .before .before .before .before .before .before .before .before .before .before .before .before .before .before .args .y) in
+    let next : NextOf m (c .before .before .before .before .before .before .before .before .before .before .before .before .before .before .before .before .before .before .before .before .before .before .args .g) (c .before .before .before .before .before .before .before .before .before .before .before .before .before .before .before .loop .last) Nothing = rw (c .before .before .before .before .before .before .before .before .before .before .before .before .enum-told .given .1) at (c .before .before .before .before .before .before .before .before .before .before .before .before .before .before .next-key .ensures) in
+    (work-done m (c .before .before .before .before .before .before .before .before .before .before .before .before .before .before .before .before .before .before .before .before .before .before .args .g) (c .before .before .before .before .before .before .before .before .before .before .before .before .before .before .before .before .before .before .before .before .before .before .args .nodes .now) (c .before .before .before .before .before .before .before .before .before .before .before .before .before .before .before .before .before .before .before .before .before .before .args .edges .now) (c .before .before .before .before .before .before .before .before .before .before .before .before .before .before .before .before .before .before .before .before .before .before .args .ends .now) (c .before .before .before .before .before .before .before .before .before .before .before .before .before .before .before .before .before .before .before .before .before .before .args .stack .now) (c .before .before .before .before .before .before .before .before .before .before .before .before .before .before .before .before .before .before .before .before .before .before .args .counts) (c .before .before .before .before .before .before .before .before .before .before .before .before .before .before .before .before .before .before .before .before .before .before .args .top) (c .before .before .before .before .before .before .before .before .before .before .before .before .before .before .before .before .before .before .before .before .before .before .pre .1 .2) (c .before .before .before .before .before .before .before .before .before .before .before .before .before .before .before .loop .nodes) (c .before .before .before .before .before .before .before .before .before .before .before .before .before .before .before .loop .edges) (c .before .before .before .before .before .before .before .before .before .before .before .before .before .before .before .loop .ends) (c .before .before .before .before .before .before .before .before .before .before .before .before .before .before .before .loop .stack) (c .before .before .before .before .before .before .before .before .before .before .before .before .before .before .before .loop .stored) (c .before .before .before .before .before .before .before .before .before .before .before .before .before .before .before .loop .n) (c .before .before .before .before .before .before .before .before .before .before .before .before .before .before .before .loop .last) (c .before .before .before .before .before .before .before .before .before .before .before .before .before .before .before .loop .inv .0) next _ _ _ (c .before .before .before .before .before .before .close-node .result) (c .before .before .before .before .before .before .close-node .ensures .0), c .before .before .before .before .before .before .close-node .ensures .1)
 
 intern-group-behind-requires : (t : ℕ) → intern-lts.Need-group-behind-requires (
   next-key-reads.Asked,
@@ -224,8 +226,8 @@ intern-add-intern : (t : ℕ) → intern-lts.Need-add-intern (
   put-branch-reads.Learnt,
 ) (intern-at t) intern.Post intern-Inv-loop intern-μ-loop
 intern-add-intern t c =
-    let next = found _ _ _ _ (c .before .before .before .before .before .before .next .given .1) (c .before .before .before .before .before .before .before .before .next-key .ensures) in
-    omega (arith, push-room _ _ _ _ _ _ _ _ (c .before .before .before .before .before .before .before .before .before .before .before .before .before .before .before .before .pre .1 .2) _ _ _ _ _ _ _ (c .before .before .before .before .before .before .before .before .before .loop .inv) _ next .0)
+    let next = found _ _ _ _ (c .before .before .before .before .before .before .before .next .given .1) (c .before .before .before .before .before .before .before .before .before .next-key .ensures) in
+    omega (arith, push-room _ _ _ _ _ _ _ _ (c .before .before .before .before .before .before .before .before .before .before .before .before .before .before .before .before .before .pre .1 .2) _ _ _ _ _ _ _ (c .before .before .before .before .before .before .before .before .before .before .loop .inv .0) _ next .0)
 
 intern-intern-requires : (t : ℕ) → intern-lts.Need-intern-requires (
   next-key-reads.Asked,
@@ -240,10 +242,10 @@ intern-intern-requires : (t : ℕ) → intern-lts.Need-intern-requires (
   put-branch-reads.Learnt,
 ) (intern-at t) intern.Post intern-Inv-loop intern-μ-loop
 intern-intern-requires t c κs =
-    let next = found _ _ _ _ (c .before .before .before .before .before .before .next .given .1) (c .before .before .before .before .before .before .before .before .next-key .ensures) in
-    rw (c .before .before .before .before .group-behind .ensures) (
-      omega (arith, next-falls _ _ _ _ next, c .before .before .before .before .before .before .before .before .before .before .before .before .before .before .before .before .pre .0),
-      (child-grouped _ _ _ _ next _ (c .before .before .before .before .before .before .before .before .before .before .before .before .before .before .before .before .pre .1 .0), c .before .before .before .before .before .before .before .before .before .loop .inv .stored, child-room _ _ _ _ _ _ _ _ (c .before .before .before .before .before .before .before .before .before .before .before .before .before .before .before .before .pre .1 .2) _ _ _ _ _ _ _ (c .before .before .before .before .before .before .before .before .before .loop .inv) _ next, c .before .before .before .before .before .before .before .before .before .loop .inv .lower),
+    let next = found _ _ _ _ (c .before .before .before .before .before .before .before .next .given .1) (c .before .before .before .before .before .before .before .before .before .next-key .ensures) in
+    rw (c .before .before .before .before .before .group-behind .ensures) (
+      omega (arith, next-falls _ _ _ _ next, c .before .before .before .before .before .before .before .before .before .before .before .before .before .before .before .before .before .pre .0),
+      (child-grouped _ _ _ _ next _ (c .before .before .before .before .before .before .before .before .before .before .before .before .before .before .before .before .before .pre .1 .0), c .before .before .before .before .before .before .before .before .before .before .loop .inv .0 .stored, child-room _ _ _ _ _ _ _ _ (c .before .before .before .before .before .before .before .before .before .before .before .before .before .before .before .before .before .pre .1 .2) _ _ _ _ _ _ _ (c .before .before .before .before .before .before .before .before .before .before .loop .inv .0) _ next, c .before .before .before .before .before .before .before .before .before .before .loop .inv .0 .lower, c .before .before .before .before .before .before .before .before .before .before .loop .inv .1),
     )
 
 intern-add-put-branch : (t : ℕ) → intern-lts.Need-add-put-branch (
@@ -259,8 +261,8 @@ intern-add-put-branch : (t : ℕ) → intern-lts.Need-add-put-branch (
   put-branch-reads.Learnt,
 ) (intern-at t) intern.Post intern-Inv-loop intern-μ-loop
 intern-add-put-branch t c =
-    let next = found _ _ _ _ (c .before .before .before .before .before .before .before .before .before .before .before .before .before .before .before .before .next .given .1) (c .before .before .before .before .before .before .before .before .before .before .before .before .before .before .before .before .before .before .next-key .ensures) in
-    omega (arith, push-room _ _ _ _ _ _ _ _ (c .before .before .before .before .before .before .before .before .before .before .before .before .before .before .before .before .before .before .before .before .before .before .before .before .before .before .pre .1 .2) _ _ _ _ _ _ _ (c .before .before .before .before .before .before .before .before .before .before .before .before .before .before .before .before .before .before .before .loop .inv) _ next .0)
+    let next = found _ _ _ _ (c .before .before .before .before .before .before .before .before .before .before .before .before .before .before .before .before .before .next .given .1) (c .before .before .before .before .before .before .before .before .before .before .before .before .before .before .before .before .before .before .before .next-key .ensures) in
+    omega (arith, push-room _ _ _ _ _ _ _ _ (c .before .before .before .before .before .before .before .before .before .before .before .before .before .before .before .before .before .before .before .before .before .before .before .before .before .before .before .pre .1 .2) _ _ _ _ _ _ _ (c .before .before .before .before .before .before .before .before .before .before .before .before .before .before .before .before .before .before .before .before .loop .inv .0) _ next .0)
 
 intern-put-branch-requires : (t : ℕ) → intern-lts.Need-put-branch-requires (
   next-key-reads.Asked,
@@ -275,9 +277,9 @@ intern-put-branch-requires : (t : ℕ) → intern-lts.Need-put-branch-requires (
   put-branch-reads.Learnt,
 ) (intern-at t) intern.Post intern-Inv-loop intern-μ-loop
 intern-put-branch-requires t c κs =
-    let next = found _ _ _ _ (c .before .before .before .before .before .before .before .before .before .before .before .before .before .before .before .before .next .given .1) (c .before .before .before .before .before .before .before .before .before .before .before .before .before .before .before .before .before .before .next-key .ensures) in
-    let done = rw (c .before .before .before .before .before .before .before .before .before .before .before .before .before .before .group-behind .ensures) at (c .before .before .before .before .before .before .before .before .before .intern .ensures) in
-    (omega (arith, push-room _ _ _ _ _ _ _ _ (c .before .before .before .before .before .before .before .before .before .before .before .before .before .before .before .before .before .before .before .before .before .before .before .before .before .before .pre .1 .2) _ _ _ _ _ _ _ (c .before .before .before .before .before .before .before .before .before .before .before .before .before .before .before .before .before .before .before .loop .inv) _ next .1, c .before .before .before .before .before .before .before .before .before .intern .kept .1 .1 .1 .1 .1 .1 .1 .0), branch-small _ _ _ _ _ _ _ _ (c .before .before .before .before .before .before .before .before .before .before .before .before .before .before .before .before .before .before .before .before .before .before .before .before .before .before .pre .1 .2) _ _ _ _ _ _ _ (c .before .before .before .before .before .before .before .before .before .before .before .before .before .before .before .before .before .before .before .loop .inv) _ next _ _ _ _ _ done (c .before .before .before .before .before .before .before .before .before .before .before .before .before .before .before .before .before .before .before .before .before .before .before .before .before .before .pre .1 .0 .accepted .steps-most))
+    let next = found _ _ _ _ (c .before .before .before .before .before .before .before .before .before .before .before .before .before .before .before .before .before .next .given .1) (c .before .before .before .before .before .before .before .before .before .before .before .before .before .before .before .before .before .before .before .next-key .ensures) in
+    let done = rw (c .before .before .before .before .before .before .before .before .before .before .before .before .before .before .before .group-behind .ensures) at (c .before .before .before .before .before .before .before .before .before .intern .ensures .0) in
+    (omega (arith, push-room _ _ _ _ _ _ _ _ (c .before .before .before .before .before .before .before .before .before .before .before .before .before .before .before .before .before .before .before .before .before .before .before .before .before .before .before .pre .1 .2) _ _ _ _ _ _ _ (c .before .before .before .before .before .before .before .before .before .before .before .before .before .before .before .before .before .before .before .before .loop .inv .0) _ next .1, c .before .before .before .before .before .before .before .before .before .intern .kept .1 .1 .1 .1 .1 .1 .1 .0), branch-small _ _ _ _ _ _ _ _ (c .before .before .before .before .before .before .before .before .before .before .before .before .before .before .before .before .before .before .before .before .before .before .before .before .before .before .before .pre .1 .2) _ _ _ _ _ _ _ (c .before .before .before .before .before .before .before .before .before .before .before .before .before .before .before .before .before .before .before .before .loop .inv .0) _ next _ _ _ _ _ done (c .before .before .before .before .before .before .before .before .before .before .before .before .before .before .before .before .before .before .before .before .before .before .before .before .before .before .before .pre .1 .0 .accepted .steps-most))
 
 intern-add-n : (t : ℕ) → intern-lts.Need-add-n (
   next-key-reads.Asked,
@@ -292,8 +294,8 @@ intern-add-n : (t : ℕ) → intern-lts.Need-add-n (
   put-branch-reads.Learnt,
 ) (intern-at t) intern.Post intern-Inv-loop intern-μ-loop
 intern-add-n t c =
-    let next = found _ _ _ _ (c .before .before .before .before .before .before .before .before .before .before .before .before .before .before .before .before .before .before .before .before .next .given .1) (c .before .before .before .before .before .before .before .before .before .before .before .before .before .before .before .before .before .before .before .before .before .before .next-key .ensures) in
-    omega (arith, push-room _ _ _ _ _ _ _ _ (c .before .before .before .before .before .before .before .before .before .before .before .before .before .before .before .before .before .before .before .before .before .before .before .before .before .before .before .before .before .before .pre .1 .2) _ _ _ _ _ _ _ (c .before .before .before .before .before .before .before .before .before .before .before .before .before .before .before .before .before .before .before .before .before .before .before .loop .inv) _ next .0)
+    let next = found _ _ _ _ (c .before .before .before .before .before .before .before .before .before .before .before .before .before .before .before .before .before .before .before .before .before .next .given .1) (c .before .before .before .before .before .before .before .before .before .before .before .before .before .before .before .before .before .before .before .before .before .before .before .next-key .ensures) in
+    omega (arith, push-room _ _ _ _ _ _ _ _ (c .before .before .before .before .before .before .before .before .before .before .before .before .before .before .before .before .before .before .before .before .before .before .before .before .before .before .before .before .before .before .before .pre .1 .2) _ _ _ _ _ _ _ (c .before .before .before .before .before .before .before .before .before .before .before .before .before .before .before .before .before .before .before .before .before .before .before .before .loop .inv .0) _ next .0)
 
 intern-loop-less : (t : ℕ) → intern-lts.Need-loop-less (
   next-key-reads.Asked,
@@ -308,8 +310,8 @@ intern-loop-less : (t : ℕ) → intern-lts.Need-loop-less (
   put-branch-reads.Learnt,
 ) (intern-at t) intern.Post intern-Inv-loop intern-μ-loop
 intern-loop-less t c =
-    let next = found _ _ _ _ (c .before .before .before .before .before .before .before .before .before .before .before .before .before .before .before .before .before .before .before .before .next .given .1) (c .before .before .before .before .before .before .before .before .before .before .before .before .before .before .before .before .before .before .before .before .before .before .next-key .ensures) in
-    left-falls _ _ _ _ _ _ _ _ (c .before .before .before .before .before .before .before .before .before .before .before .before .before .before .before .before .before .before .before .before .before .before .before .before .before .before .before .before .before .before .pre .1 .2) _ _ _ _ _ _ _ (c .before .before .before .before .before .before .before .before .before .before .before .before .before .before .before .before .before .before .before .before .before .before .before .loop .inv) _ next
+    let next = found _ _ _ _ (c .before .before .before .before .before .before .before .before .before .before .before .before .before .before .before .before .before .before .before .before .before .next .given .1) (c .before .before .before .before .before .before .before .before .before .before .before .before .before .before .before .before .before .before .before .before .before .before .before .next-key .ensures) in
+    left-falls _ _ _ _ _ _ _ _ (c .before .before .before .before .before .before .before .before .before .before .before .before .before .before .before .before .before .before .before .before .before .before .before .before .before .before .before .before .before .before .before .pre .1 .2) _ _ _ _ _ _ _ (c .before .before .before .before .before .before .before .before .before .before .before .before .before .before .before .before .before .before .before .before .before .before .before .before .loop .inv .0) _ next
 
 intern-loop-again : (t : ℕ) → intern-lts.Need-loop-again (
   next-key-reads.Asked,
@@ -324,10 +326,12 @@ intern-loop-again : (t : ℕ) → intern-lts.Need-loop-again (
   put-branch-reads.Learnt,
 ) (intern-at t) intern.Post intern-Inv-loop intern-μ-loop
 intern-loop-again t c =
-    let next = found _ _ _ _ (c .before .before .before .before .before .before .before .before .before .before .before .before .before .before .before .before .before .before .before .before .next .given .1) (c .before .before .before .before .before .before .before .before .before .before .before .before .before .before .before .before .before .before .before .before .before .before .next-key .ensures) in
-    let done = rw (c .before .before .before .before .before .before .before .before .before .before .before .before .before .before .before .before .before .before .group-behind .ensures) at (c .before .before .before .before .before .before .before .before .before .before .before .before .before .intern .ensures) in
-    work-next _ _ _ _ _ _ _ _ (c .before .before .before .before .before .before .before .before .before .before .before .before .before .before .before .before .before .before .before .before .before .before .before .before .before .before .before .before .before .before .pre .1 .2) _ _ _ _ _ _ _ (c .before .before .before .before .before .before .before .before .before .before .before .before .before .before .before .before .before .before .before .before .before .before .before .loop .inv) _ next _ _ _ _ _ done _ (c .before .before .before .put-branch .ensures)
-    (c .before .before .before .before .before .before .before .before .before .before .before .before .before .intern .kept .1 .1 .1 .1 .0) (c .before .before .before .before .before .before .before .before .before .before .before .before .before .intern .kept .1 .1 .1 .1 .1 .0) (c .before .before .before .before .before .before .before .before .before .before .before .before .before .intern .kept .1 .1 .1 .1 .1 .1 .0) (c .before .before .before .before .before .before .before .before .before .before .before .before .before .intern .kept .1 .1 .1 .1 .1 .1 .1 .0)
+    let next = found _ _ _ _ (c .before .before .before .before .before .before .before .before .before .before .before .before .before .before .before .before .before .before .before .before .before .next .given .1) (c .before .before .before .before .before .before .before .before .before .before .before .before .before .before .before .before .before .before .before .before .before .before .before .next-key .ensures) in
+    let done = rw (c .before .before .before .before .before .before .before .before .before .before .before .before .before .before .before .before .before .before .before .group-behind .ensures) at (c .before .before .before .before .before .before .before .before .before .before .before .before .before .intern .ensures .0) in (
+      work-next _ _ _ _ _ _ _ _ (c .before .before .before .before .before .before .before .before .before .before .before .before .before .before .before .before .before .before .before .before .before .before .before .before .before .before .before .before .before .before .before .pre .1 .2) _ _ _ _ _ _ _ (c .before .before .before .before .before .before .before .before .before .before .before .before .before .before .before .before .before .before .before .before .before .before .before .before .loop .inv .0) _ next _ _ _ _ _ done _ (c .before .before .before .put-branch .ensures)
+          (c .before .before .before .before .before .before .before .before .before .before .before .before .before .intern .kept .1 .1 .1 .1 .0) (c .before .before .before .before .before .before .before .before .before .before .before .before .before .intern .kept .1 .1 .1 .1 .1 .0) (c .before .before .before .before .before .before .before .before .before .before .before .before .before .intern .kept .1 .1 .1 .1 .1 .1 .0) (c .before .before .before .before .before .before .before .before .before .before .before .before .before .intern .kept .1 .1 .1 .1 .1 .1 .1 .0),
+      c .before .before .before .before .before .before .before .before .before .before .before .before .before .intern .ensures .1,
+    )
 
 pub +intern-spec : {M : Type 1} → statement M
 +intern-spec = close μ-intern λ t. intern-lts.spec (

@@ -8,7 +8,7 @@ use Rattle.unwind.proofs.tries.intern.close_node.Statement.{statement}
 use Rattle.unwind.proofs.tries.intern.close_node.Tie as tie
 
 lay-edges-requires : tie.Need-lay-edges-requires
-lay-edges-requires c κs = let r = c .before .before .before .before .before .before .before .pre .2 in (c .before .before .before .before .before .before .before .pre .0 .accepted, omega (arith, r .stack-few), omega (arith, r .edges-few), r .edges-fit)
+lay-edges-requires c κs = let pre = c .before .before .before .before .before .before .before .pre in let r = pre .2 in (pre .0 .accepted, omega (arith, r .stack-few), omega (arith, r .edges-few), r .edges-fit)
 
 lay-ends-requires : tie.Need-lay-ends-requires
 lay-ends-requires c κs =
@@ -21,23 +21,31 @@ funclet-of-requires c κs = let p = c .before .before .before .before .before .b
 
 keep-node-requires : tie.Need-keep-node-requires
 keep-node-requires c κs =
-    let m = routesIn (c .before .before .before .before .before .before .before .before .before .before .before .before .before .before .before .before .before .before .args .s .now) (c .before .before .before .before .before .before .before .before .before .before .before .before .before .before .before .before .before .before .args .y) in
-    let p = c .before .before .before .before .before .before .before .before .before .before .lay-edges .kept .1 .1 .1 .1 .1 .0 in
-    let q = c .before .before .before .before .before .before .lay-ends .kept .1 .1 .1 .1 .0 in (
-      c .before .before .before .before .before .before .before .before .before .before .before .before .before .before .before .before .before .before .pre .0 .accepted,
-      stored-still _ _ _ _ _ _ (c .before .before .before .before .before .before .before .before .before .before .before .before .before .before .before .before .before .before .pre .1) p q,
-      behind-laid m (c .before .before .before .before .before .before .before .before .before .before .before .before .before .before .before .before .before .before .args .starts .now) (c .before .before .before .before .before .before .before .before .before .before .before .before .before .before .before .before .before .before .args .g) (c .before .before .before .before .before .before .before .before .before .before .before .before .before .before .before .before .before .before .pre .0) (c .before .before .before .before .before .before .before .before .before .before .before .before .before .before .before .before .before .before .args .nodes .now) (c .before .before .before .before .before .before .before .before .before .before .before .before .before .before .before .before .before .before .args .edges .now) (c .before .before .before .before .before .before .before .before .before .before .before .before .before .before .before .before .before .before .args .ends .now) (c .before .before .before .before .before .before .before .before .before .before .before .before .before .before .before .before .before .before .args .stack .now) (c .before .before .before .before .before .before .before .before .before .before .before .before .before .before .before .before .before .before .args .counts) (c .before .before .before .before .before .before .before .before .before .before .before .before .before .before .before .before .before .before .args .top) (c .before .before .before .before .before .before .before .before .before .before .before .before .before .before .before .before .before .before .args .n)
-          (c .before .before .before .before .before .before .before .before .before .before .before .before .before .before .before .before .before .before .pre .1) (c .before .before .before .before .before .before .before .before .before .before .before .before .before .before .before .before .before .before .pre .2) _ _ (c .before .before .before .funclet-of .result) (c .before .before .before .before .before .before .before .before .before .before .lay-edges .result) (c .before .before .before .before .before .before .lay-ends .result) (c .before .before .before .funclet-of .ensures) (c .before .before .before .before .before .before .before .before .before .before .lay-edges .ensures) (c .before .before .before .before .before .before .lay-ends .ensures) p q,
-      lower-laid m (c .before .before .before .before .before .before .before .before .before .before .before .before .before .before .before .before .before .before .args .starts .now) (c .before .before .before .before .before .before .before .before .before .before .before .before .before .before .before .before .before .before .args .g) (c .before .before .before .before .before .before .before .before .before .before .before .before .before .before .before .before .before .before .pre .0) (c .before .before .before .before .before .before .before .before .before .before .before .before .before .before .before .before .before .before .args .nodes .now) (c .before .before .before .before .before .before .before .before .before .before .before .before .before .before .before .before .before .before .args .edges .now) (c .before .before .before .before .before .before .before .before .before .before .before .before .before .before .before .before .before .before .args .ends .now) (c .before .before .before .before .before .before .before .before .before .before .before .before .before .before .before .before .before .before .args .stack .now) (c .before .before .before .before .before .before .before .before .before .before .before .before .before .before .before .before .before .before .args .counts) (c .before .before .before .before .before .before .before .before .before .before .before .before .before .before .before .before .before .before .args .top) (c .before .before .before .before .before .before .before .before .before .before .before .before .before .before .before .before .before .before .args .n)
-          (c .before .before .before .before .before .before .before .before .before .before .before .before .before .before .before .before .before .before .pre .1) (c .before .before .before .before .before .before .before .before .before .before .before .before .before .before .before .before .before .before .pre .2) _ _ (c .before .before .before .funclet-of .result) (c .before .before .before .before .before .before .before .before .before .before .lay-edges .result) (c .before .before .before .before .before .before .lay-ends .result) (c .before .before .before .funclet-of .ensures) (c .before .before .before .before .before .before .before .before .before .before .lay-edges .ensures) (c .before .before .before .before .before .before .lay-ends .ensures) (c .before .before .before .before .before .before .before .before .before .before .before .before .before .before .before .before .before .before .pre .3),
+    let start = c .before .before .before .before .before .before .before .before .before .before .before .before .before .before .before .before .before .before .before in
+    let a = start .args in
+    let m = routesIn (a .s .now) (a .y) in
+    let edges = c .before .before .before .before .before .before .before .before .before .before .before .lay-edges in
+    let ends = c .before .before .before .before .before .before .before .lay-ends in
+    let f = c .before .before .before .before .funclet-of in
+    let p = edges .kept .1 .1 .1 .1 .1 .0 in
+    let q = ends .kept .1 .1 .1 .1 .0 in (
+      start .pre .0 .accepted,
+      stored-still _ _ _ _ _ _ (start .pre .1) p q,
+      behind-laid m (a .starts .now) (a .g) (start .pre .0) (a .nodes .now) (a .edges .now) (a .ends .now) (a .stack .now) (a .counts) (a .top) (a .n) (start .pre .1) (start .pre .2) _ _ (f .result) (edges .result) (ends .result) (f .ensures) (edges .ensures) (ends .ensures) p q,
+      lower-laid m (a .starts .now) (a .g) (start .pre .0) (a .nodes .now) (a .edges .now) (a .ends .now) (a .stack .now) (a .counts) (a .top) (a .n) (start .pre .1) (start .pre .2) _ _ (f .result) (edges .result) (ends .result) (f .ensures) (edges .ensures) (ends .ensures) (start .pre .3),
+      start .pre .4,
     )
 
 returns : tie.Need-returns
 returns c =
-    let m = routesIn (c .before .before .before .before .before .before .before .before .before .before .before .before .before .before .before .before .before .before .before .before .before .args .s .now) (c .before .before .before .before .before .before .before .before .before .before .before .before .before .before .before .before .before .before .before .before .before .args .y) in
-    close-law m (c .before .before .before .before .before .before .before .before .before .before .before .before .before .before .before .before .before .before .before .before .before .args .starts .now) (c .before .before .before .before .before .before .before .before .before .before .before .before .before .before .before .before .before .before .before .before .before .args .g) (c .before .before .before .before .before .before .before .before .before .before .before .before .before .before .before .before .before .before .before .before .before .pre .0) (c .before .before .before .before .before .before .before .before .before .before .before .before .before .before .before .before .before .before .before .before .before .args .nodes .now) (c .before .before .before .before .before .before .before .before .before .before .before .before .before .before .before .before .before .before .before .before .before .args .edges .now) (c .before .before .before .before .before .before .before .before .before .before .before .before .before .before .before .before .before .before .before .before .before .args .ends .now) (c .before .before .before .before .before .before .before .before .before .before .before .before .before .before .before .before .before .before .before .before .before .args .stack .now) (c .before .before .before .before .before .before .before .before .before .before .before .before .before .before .before .before .before .before .before .before .before .args .counts) (c .before .before .before .before .before .before .before .before .before .before .before .before .before .before .before .before .before .before .before .before .before .args .top) (c .before .before .before .before .before .before .before .before .before .before .before .before .before .before .before .before .before .before .before .before .before .args .n)
-    (c .before .before .before .before .before .before .before .before .before .before .before .before .before .before .before .before .before .before .before .before .before .pre .1) (c .before .before .before .before .before .before .before .before .before .before .before .before .before .before .before .before .before .before .before .before .before .pre .2) _ _ (c .before .before .before .before .before .before .funclet-of .result) (c .before .before .before .before .before .before .before .before .before .before .before .before .before .lay-edges .result) (c .before .before .before .before .before .before .before .before .before .lay-ends .result) (c .before .before .before .before .before .before .funclet-of .ensures) (c .before .before .before .before .before .before .before .before .before .before .before .before .before .lay-edges .ensures) (c .before .before .before .before .before .before .before .before .before .lay-ends .ensures)
-    _ (c .before .before .keep-node .result) (c .before .before .keep-node .ensures)
+    let start = c .before .before .before .before .before .before .before .before .before .before .before .before .before .before .before .before .before .before .before .before .before .before in
+    let a = start .args in
+    let m = routesIn (a .s .now) (a .y) in
+    let edges = c .before .before .before .before .before .before .before .before .before .before .before .before .before .before .lay-edges in
+    let ends = c .before .before .before .before .before .before .before .before .before .before .lay-ends in
+    let f = c .before .before .before .before .before .before .before .funclet-of in
+    let kept = c .before .before .keep-node in
+    (close-law m (a .starts .now) (a .g) (start .pre .0) (a .nodes .now) (a .edges .now) (a .ends .now) (a .stack .now) (a .counts) (a .top) (a .n) (start .pre .1) (start .pre .2) _ _ (f .result) (edges .result) (ends .result) (f .ensures) (edges .ensures) (ends .ensures) _ (kept .result) (kept .ensures .0), kept .ensures .1)
 
 pub close-node-spec : {M : Type 1} → statement M
 close-node-spec =
