@@ -6,14 +6,12 @@ use unwind::add::AddedRoutes;
 use unwind::hops::HopRow;
 use unwind::hops::Hops;
 ghost use mathlib.Core.Path.{_≡_};
-ghost use Prim.Native.Nat.{_<_};
-ghost use lib.ListN.{length};
 ghost use Rattle.graph.specs.Graph.{edge};
 ghost use Rattle.graph.specs.Words.{heldIn};
 ghost use Rattle.graph.specs.Stored.{withEdge, Stored};
 ghost use Rattle.addition.specs.Add.{addRoutes};
 ghost use Rattle.unwind.specs.Answers.{addAnswer, AddLeaves, Spells};
-ghost use Rattle.unwind.specs.HopWords.{hopAt, rowsIn, withHop, HopsStored};
+ghost use Rattle.unwind.specs.HopWords.{hopAt, rowsIn, withHopIfRoom, HopsStored};
 
 pub struct Graph {
     pub words: Words,
@@ -37,20 +35,18 @@ pub fn edge_at(g: &Graph, i: usize) -> Edge
     graph::store::edges::edge_at(&g.words, i)
 }
 
-// One hop more, behind the others.
+// One hop more, behind the others; where there is no room, nothing changes.
 pub fn add_hop(h: &mut HopList, x: HopRow)
-    requires { ⌜ length (rowsIn (now h .words) .hops) < 2048 ⌝ }
-    ensures { λ _. ⌜ HopsStored (now (h .entry) .words) (now (h .exit) .words) (withHop (rowsIn (now (h .entry) .words)) x) ⌝ }
+    ensures { λ _. ⌜ HopsStored (now (h .entry) .words) (now (h .exit) .words) (withHopIfRoom (rowsIn (now (h .entry) .words)) x) ⌝ }
 {
-    unwind::hops::add_hop(&mut h.words, x)
+    unwind::hops::add_hop_if_room(&mut h.words, x)
 }
 
-// Hop i, one of those that there are.
+// Hop i, and zeros past the last.
 pub fn hop_at(h: &HopList, i: usize) -> HopRow
-    requires { ⌜ i < length (rowsIn (now h .words) .hops) ⌝ }
     ensures { λ r. ⌜ r ≡ hopAt (rowsIn (now (h .entry) .words)) i ⌝ }
 {
-    unwind::hops::hop_at(&h.words, i)
+    unwind::hops::hop_or_zeros(&h.words, i)
 }
 
 // To a graph that any words hold, and routes that any bytes hold: the edges and copies that they want, and their hops.

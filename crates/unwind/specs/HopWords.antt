@@ -5,7 +5,7 @@ use mathlib.Core.Path.{_≡_}
 use mathlib.Core.Bool.{Bool, true, false, cond, not, _&&_}
 use mathlib.Core.List.{List, [], _∷_, _++_, map}
 use Prim.Native.Nat.{ℕ, zero, suc, _+_, _≤_, _<_}
-use lib.Dec.{eqb}
+use lib.Dec.{eqb, ltb}
 use lib.ListN.{length, getD, take, drop}
 use Rattle.image.specs.Image.{RouteImage}
 use Rattle.graph.specs.Section.{Section, records, Beside}
@@ -70,6 +70,10 @@ noRows = record { hops = []; lists = [] }
 
 abbrev pub withHop : Rows → HopRow → Rows
 withHop r x = record { hops = r .hops ++ (x ∷ []); lists = r .lists }
+
+-- one hop more behind the others; none where their section is full
+abbrev pub withHopIfRoom : Rows → HopRow → Rows
+withHopIfRoom r x = cond (ltb (length (r .hops)) (hopRows .most)) (withHop r x) r
 
 abbrev pub withRun : Rows → ListRow → Rows
 withRun r t = record { hops = r .hops; lists = r .lists ++ (t ∷ []) }

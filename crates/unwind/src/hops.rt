@@ -4,7 +4,7 @@ ghost use mathlib.Core.Path.{_≡_};
 ghost use Prim.Native.Nat.{_+_, _-_, _≤_, _<_, min};
 ghost use lib.ListN.{length, getD};
 ghost use lib.Seq.{sets};
-ghost use Rattle.unwind.specs.HopWords.{listRow, hopAt, rowsIn, withHop, withRun, withWider, HopsStored, HopsEmptied};
+ghost use Rattle.unwind.specs.HopWords.{listRow, hopAt, rowsIn, withHop, withHopIfRoom, withRun, withWider, HopsStored, HopsEmptied};
 
 pub type Hops = [u64; 18440];
 
@@ -69,6 +69,15 @@ pub fn add_hop(h: &mut Hops, x: HopRow)
     h[HOPS] = (n + 1) as u64;
 }
 
+// One more hop, behind the others; where there is no room, nothing changes.
+pub fn add_hop_if_room(h: &mut Hops, x: HopRow)
+    ensures { λ _. ⌜ HopsStored (now (h .entry)) (now (h .exit)) (withHopIfRoom (rowsIn (now (h .entry))) x) ⌝ }
+{
+    if hop_count(h) < HOP_MOST {
+        add_hop(h, x);
+    }
+}
+
 // One more list, behind the others.
 pub fn add_list(h: &mut Hops, t: ListRow)
     requires { ⌜ length (rowsIn (now h) .lists) < 4096 ⌝ }
@@ -93,6 +102,22 @@ pub fn hop_at(h: &Hops, i: usize) -> HopRow
         end: h[at + 2],
         first: h[at + 3],
         lists: h[at + 4],
+    }
+}
+
+// Hop i, and zeros past the last.
+pub fn hop_or_zeros(h: &Hops, i: usize) -> HopRow
+    ensures { λ r. ⌜ r ≡ hopAt (rowsIn (now (h .entry))) i ⌝ }
+{
+    if i < hop_count(h) {
+        return hop_at(h, i);
+    }
+    HopRow {
+        source: 0,
+        has_end: 0,
+        end: 0,
+        first: 0,
+        lists: 0,
     }
 }
 
