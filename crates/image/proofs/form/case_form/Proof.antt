@@ -13,7 +13,7 @@ check-there-requires-2 : tie.Need-check-there-requires-2
 check-there-requires-2 c κs = search needs
 
 returns : tie.Need-returns
-returns c = cc
+returns c = rw (c .check-there2 .ensures, c .before .check-there .ensures)
 
 pub case-form-spec : {M : Type 1} → statement M
 case-form-spec =

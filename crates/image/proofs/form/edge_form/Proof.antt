@@ -19,7 +19,7 @@ check-there-requires-2 : tie.Need-check-there-requires-2
 check-there-requires-2 c κs = search needs
 
 returns : tie.Need-returns
-returns c = cc
+returns c = rw (c .check-there2 .ensures, c .before .check-byte .ensures, c .before .before .check-there .ensures)
 
 pub edge-form-spec : {M : Type 1} → statement M
 edge-form-spec =

@@ -37,7 +37,7 @@ check-used4-requires : tie.Need-check-used4-requires
 check-used4-requires c κs = search needs
 
 returns : tie.Need-returns
-returns c = cc
+returns c = rw (c .check-used4 .ensures, c .before .byte-at .ensures .0, c .before .before .check-byte .ensures, c .before .before .before .check-there3 .ensures, c .before .before .before .before .check-there2 .ensures, c .before .before .before .before .before .check-there .ensures)
 
 pub handler-form-spec : {M : Type 1} → statement M
 handler-form-spec =

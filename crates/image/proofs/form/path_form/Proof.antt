@@ -22,7 +22,7 @@ check-there-requires : tie.Need-check-there-requires
 check-there-requires c κs = search needs
 
 returns : tie.Need-returns
-returns c = cc
+returns c = rw (c .check-there .ensures, c .before .check-used8 .ensures, c .before .before .byte-at .ensures .0, c .before .before .before .check-byte .ensures)
 
 pub path-form-spec : {M : Type 1} → statement M
 path-form-spec =

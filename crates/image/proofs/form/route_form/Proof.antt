@@ -19,7 +19,7 @@ check-there-requires-3 : tie.Need-check-there-requires-3
 check-there-requires-3 c κs = search needs
 
 returns : tie.Need-returns
-returns c = cc
+returns c = rw (c .check-there3 .ensures, c .before .check-there2 .ensures, c .before .before .check-there .ensures)
 
 pub route-form-spec : {M : Type 1} → statement M
 route-form-spec =

@@ -13,7 +13,7 @@ check-there-requires : tie.Need-check-there-requires
 check-there-requires c κs = search needs
 
 returns : tie.Need-returns
-returns c = cc
+returns c = rw (c .check-there .ensures, c .before .check-rising .ensures)
 
 pub source-form-spec : {M : Type 1} → statement M
 source-form-spec =

@@ -9,7 +9,7 @@ check-tag-requires : tie.Need-check-tag-requires
 check-tag-requires c κs = search needs
 
 returns : tie.Need-returns
-returns c = cc
+returns c = rw (c .check-tag .ensures, c .before .check-byte .ensures)
 
 pub step-form-spec : {M : Type 1} → statement M
 step-form-spec = tie.close (tie.spec check-byte-requires check-tag-requires returns)
