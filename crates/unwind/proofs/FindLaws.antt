@@ -1,5 +1,6 @@
 -- The hop of a leap among hops that rise.
 --     less-apart, less-equal       a hop compared with a pair, by their sources
+--     hop-is                       a hop that makes the leap of a pair
 --     one-hop                      two hops of one leap are one
 --     Between, between-all, between-right, between-left, between-end     a search by halving
 -- Assumes nothing.
@@ -46,6 +47,10 @@ module _ (x : HopRow) (b t : ℕ) where
   pub less-equal : x .source ≡ b → (not (eqb (x .«has_end») 0) && ltb (x .end) t) ≡ isLt (compareLeaps (rowLeap x) (pair b t))
   unfolding compareLeaps _and-then_
   less-equal e = sym (ap (λ (o : Ordering). isLt (o and-then compareHopEnds (endFrom x) (block t))) (number-eq (x .source) b e) ∙ ends-less x t)
+
+  pub hop-is : x .source ≡ b → (x .«has_end» ≡ 0 → ⊥) → x .end ≡ t → rowLeap x ≡ pair b t
+  unfolding endFrom
+  hop-is s ne e = rw (s, ne-eqb (x .«has_end») 0 ne, e)
 
 -- ---- hops that rise
 

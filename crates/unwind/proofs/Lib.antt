@@ -54,6 +54,7 @@ pub mod Finished
 pub mod Outcomes
 pub mod AllNodesLaws
 pub mod FindLaws
+pub mod FlagLaws
 pub mod WantLaws
 pub mod StoreLaws
 pub mod AnswerLaws

@@ -2,7 +2,7 @@
 --     added-runs, runs-fit         added edges leave the blocks as they were
 --     wants-none, wants-then       nothing, and ways behind others
 --     pair-stands                  the hop of an end that is a block
---     flags-none                   no flag is set
+--     hop-few, flags-none          no flag is set
 --     want-leave, want-again, want-new     one way: out of the function, wanted before, and new
 --     want-next                    one branch more
 --     stand-part, stand-front, stand-back, stand-flat     some of the ways that stand
@@ -23,8 +23,7 @@ use native.Mathlib.Numerals.{add-one}
 use native.Mathlib.Omega.{arith}
 use borrow.Author.Tests.{ne-eqb}
 use lib.Dec.{isEq}
-use lib.ListN.{length, getD, set, replicate, length-set, length-replicate, getD-replicate}
-use lib.Seq.{getD-set-same, getD-set-other}
+use lib.ListN.{length, getD, replicate, length-replicate}
 use Rattle.image.specs.Image.{RouteImage, table}
 use Rattle.graph.specs.declared.record.Edge.{Edge}
 use Rattle.graph.specs.Graph.{Graph, Held}
@@ -53,7 +52,7 @@ use Rattle.unwind.specs.Entries.{endIn}
 use Rattle.unwind.specs.Gather.{exitTo, edgeExits, endNumber, endExits, recordExits}
 use Rattle.unwind.specs.HopWords.{hopRows, hopRow, rowsIn, rowHop, rowHops, hopsIn}
 use Rattle.unwind.specs.Wanted.{wayOf, placeIn, recordWays, guardWays, returnWays, lentWays, RunsFit}
-use Rattle.unwind.specs.Flags.{pair, leapTo, wayTo, rowLeap, leapAt, HopsRise, HopIs, HopStands, WaysStand, Flags, seenWith, SameRuns, EdgesWanted, placeOf, setWays}
+use Rattle.unwind.specs.Flags.{pair, leapTo, wayTo, rowLeap, leapAt, HopsRise, HopIs, HopStands, WaysStand, Flags, FlagSet, seenWith, SameRuns, EdgesWanted, placeOf, setWays}
 use Rattle.addition.proofs.Lists.{or-left, none-in, mem-map, mem-joined, mem-flat, mem-getD}
 use Rattle.addition.proofs.Order.{exact-leaps, mem-sorted}
 use Rattle.unwind.proofs.Rising.{Rising, rising-sorted, total-leaps}
@@ -62,6 +61,7 @@ use Rattle.unwind.proofs.HopLaws.{hops-number}
 use Rattle.unwind.proofs.ChainLaws.{list-none, list-front}
 use Rattle.unwind.proofs.TrieKeys.{joined-append}
 use Rattle.unwind.proofs.FindLaws.{one-hop}
+use Rattle.unwind.proofs.FlagLaws.{flag-none}
 
 -- ---- the blocks are as they were
 
@@ -115,11 +115,11 @@ unfolding seenWith
 seen-then seen [] vs = refl
 seen-then seen (w ∷ ws) vs = seen-then (leap w ∷ seen) ws vs
 
-pub wants-none : (h g : List ℕ) (done : List Bool) → EdgesWanted h g done [] g done
+pub wants-none : (h g : List ℕ) (done : List ℕ) → EdgesWanted h g done [] g done
 unfolding routeEdges seenWith
 wants-none h g done = record { runs = same-runs (heldIn g .graph); added = λ seen f. added-none g; flags = λ seen f. f }
 
-pub wants-then : {h g g₁ g₂ : List ℕ} {done done₁ done₂ : List Bool} {ws vs : List Way} → EdgesWanted h g done ws g₁ done₁ → EdgesWanted h g₁ done₁ vs g₂ done₂ → EdgesWanted h g done (ws ++ vs) g₂ done₂
+pub wants-then : {h g g₁ g₂ : List ℕ} {done done₁ done₂ : List ℕ} {ws vs : List Way} → EdgesWanted h g done ws g₁ done₁ → EdgesWanted h g₁ done₁ vs g₂ done₂ → EdgesWanted h g done (ws ++ vs) g₂ done₂
 wants-then {h} {g} {g₁} {g₂} {done} {done₁} {done₂} {ws} {vs} a b =
     record {
       runs = record { table = b .runs .table ∙ a .runs .table; blocks = b .runs .blocks ∙ a .runs .blocks };
@@ -150,11 +150,15 @@ end-block t ne = rw (ne-eqb t 65535 ne)
 pub pair-stands : (h : List ℕ) (b t : ℕ) → (t ≡ 65535 → ⊥) → HopStands h (leapTo b t) → HopStands h (pair b t)
 pair-stands h b t ne s = subst (λ (e : HopEnd). HopStands h (record { source = b; end = e })) (end-block t ne) s
 
-pub flags-none : (h : List ℕ) → Flags h (replicate 2048 false) []
-unfolding wanted
-flags-none h = record { long = length-replicate 2048 false; tells = λ k s t p. getD-replicate {A = Bool} 2048 k false false (omega (arith, p .stands, hops-number h, size-most hopRows h)) }
+-- a hop's number
+hop-few : {h : List ℕ} {x : Leap} {k : ℕ} → HopIs h x k → k < 2048
+hop-few {h} p = omega (arith, p .stands, hops-number h, size-most hopRows h)
 
-module _ (h g : List ℕ) (done : List Bool) (r b t : ℕ) where
+pub flags-none : (h : List ℕ) → Flags h (replicate 33 0) []
+unfolding wanted
+flags-none h = record { long = length-replicate {A = ℕ} 33 0; tells = λ k s t p. flag-none k (hop-few p) }
+
+module _ (h g done : List ℕ) (r b t : ℕ) where
   pub want-leave : t ≡ 65535 → (calls : List ℕ) → EdgesWanted h g done (wayTo r b t calls ∷ []) g done
   unfolding routeEdges edgeTo seenWith endIn
   want-leave e calls =
@@ -177,7 +181,7 @@ module _ (h g : List ℕ) (done : List Bool) (r b t : ℕ) where
     way-is calls = λ i. record { source = b; route = r; calls = calls; end = end-block t ne i }
 
     -- the flag of another hop tells what it told
-    other : (seen : List Leap) (f : Flags h done seen) (j s u : ℕ) → HopIs h (pair s u) j → (j ≡ k → ⊥) → getD done j false ≡ wanted s u (pair b t ∷ seen)
+    other : (seen : List Leap) (f : Flags h done seen) (j s u : ℕ) → HopIs h (pair s u) j → (j ≡ k → ⊥) → member done j ≡ wanted s u (pair b t ∷ seen)
     other seen f j s u p d =
         f .tells j s u p
         ∙ sym (seen-other s u (pair b t) seen (λ q. d (one-hop h rises (pair b t) j k (record { stands = p .stands; is = p .is ∙ q }) here)))
@@ -188,37 +192,37 @@ module _ (h g : List ℕ) (done : List Bool) (r b t : ℕ) where
         let same : pair s u ≡ pair b t = sym (p .is) ∙ ap (leapAt h) e ∙ here .is in
         subst (λ (x : Leap). wanted s u (x ∷ seen) ≡ true) same (seen-it s u seen)
 
-    pub want-again : getD done k false ≡ true → (calls : List ℕ) → EdgesWanted h g done (wayTo r b t calls ∷ []) g done
-    unfolding routeEdges edgeTo seenWith
-    want-again was calls =
-        rw (way-is calls)
-        record {
-          runs = same-runs (heldIn g .graph);
-          added = λ seen f. rw (sym (f .tells k b t here) ∙ was) (added-none g);
-          flags = λ seen f. record { long = f .long; tells = λ j s u p. told seen f j s u p (ℕ-discrete j k) };
-        }
-      where
-        told : (seen : List Leap) (f : Flags h done seen) (j s u : ℕ) → HopIs h (pair s u) j → Dec (j ≡ k) → getD done j false ≡ wanted s u (pair b t ∷ seen)
-        told seen f j s u p (yes e) = ap (λ (n : ℕ). getD done n false) e ∙ was ∙ sym (this seen j s u p e)
-        told seen f j s u p (no d) = other seen f j s u p d
+    module _ (done′ : List ℕ) (put : FlagSet done k done′) where
+      flags : (seen : List Leap) → Flags h done seen → Flags h done′ (pair b t ∷ seen)
+      flags seen f = record { long = put .long ∙ f .long; tells = λ j s u p. told j s u p (ℕ-discrete j k) }
+        where
+          told : (j s u : ℕ) → HopIs h (pair s u) j → Dec (j ≡ k) → member done′ j ≡ wanted s u (pair b t ∷ seen)
+          told j s u p (yes e) = ap (member done′) e ∙ put .this (f .long) ∙ sym (this seen j s u p e)
+          told j s u p (no d) = put .others (f .long) j (hop-few p) d ∙ other seen f j s u p d
 
-    pub want-new : k < 2048 → getD done k false ≡ false → (g′ : List ℕ) (e : Edge) → e ≡ routeEdge (heldIn g .graph) r b t → Stored g g′ (withEdge (heldIn g) e) → (calls : List ℕ) → EdgesWanted h g done (wayTo r b t calls ∷ []) g′ (set done k true)
-    unfolding routeEdges edgeTo seenWith
-    want-new few was g′ e is st calls =
-        let one : Added g g′ (routeEdge (heldIn g .graph) r b t ∷ []) [] [] = edge-added (routeEdge (heldIn g .graph) r b t) (rw is at st) in
-        rw (way-is calls)
-        record {
-          runs = added-runs one;
-          added = λ seen f. rw (sym (f .tells k b t here) ∙ was) one;
-          flags = λ seen f. record { long = length-set done k true ∙ f .long; tells = λ j s u p. told seen f j s u p (ℕ-discrete j k) };
-        }
-      where
-        told : (seen : List Leap) (f : Flags h done seen) (j s u : ℕ) → HopIs h (pair s u) j → Dec (j ≡ k) → getD (set done k true) j false ≡ wanted s u (pair b t ∷ seen)
-        told seen f j s u p (yes q) = ap (λ (n : ℕ). getD (set done k true) n false) q ∙ getD-set-same done k true false (omega (arith, f .long)) ∙ sym (this seen j s u p q)
-        told seen f j s u p (no d) = getD-set-other done k j true false d ∙ other seen f j s u p d
+      pub want-again : member done k ≡ true → (calls : List ℕ) → EdgesWanted h g done (wayTo r b t calls ∷ []) g done′
+      unfolding routeEdges edgeTo seenWith
+      want-again was calls =
+          rw (way-is calls)
+          record {
+            runs = same-runs (heldIn g .graph);
+            added = λ seen f. rw (sym (f .tells k b t here) ∙ was) (added-none g);
+            flags = flags;
+          }
+
+      pub want-new : member done k ≡ false → (g′ : List ℕ) (e : Edge) → e ≡ routeEdge (heldIn g .graph) r b t → Stored g g′ (withEdge (heldIn g) e) → (calls : List ℕ) → EdgesWanted h g done (wayTo r b t calls ∷ []) g′ done′
+      unfolding routeEdges edgeTo seenWith
+      want-new was g′ e is st calls =
+          let one : Added g g′ (routeEdge (heldIn g .graph) r b t ∷ []) [] [] = edge-added (routeEdge (heldIn g .graph) r b t) (rw is at st) in
+          rw (way-is calls)
+          record {
+            runs = added-runs one;
+            added = λ seen f. rw (sym (f .tells k b t here) ∙ was) one;
+            flags = flags;
+          }
 
 -- one branch more
-pub want-next : {h g₀ g g′ : List ℕ} {done₀ done done′ : List Bool} (m : RouteImage) (r b : ℕ) (e : ℕ → Branch) (n : ℕ → ℕ) (k t : ℕ) → t ≡ n k
+pub want-next : {h g₀ g g′ : List ℕ} {done₀ done done′ : List ℕ} (m : RouteImage) (r b : ℕ) (e : ℕ → Branch) (n : ℕ → ℕ) (k t : ℕ) → t ≡ n k
     → EdgesWanted h g₀ done₀ (map (wayOf r) (table (λ j. exitTo m b (e j) (n j)) k)) g done → ((calls : List ℕ) → EdgesWanted h g done (wayTo r b t calls ∷ []) g′ done′)
     → EdgesWanted h g₀ done₀ (map (wayOf r) (table (λ j. exitTo m b (e j) (n j)) (k + 1))) g′ done′
 unfolding table
@@ -315,24 +319,24 @@ module _ (m : RouteImage) (nodes edges ends heads landings : List ℕ) (r b : �
           stand-table m r b (λ j. branchIn ends (x .«first_end» + j)) (λ j. endNumber b landings (x .«first_end» + j)) (x .ends)
           (stand-back (edge-ways x) (end-ways x) own)
 
-    pub record-wants : {g g₁ g₂ : List ℕ} {done done₁ done₂ : List Bool} → EdgesWanted h g done (map (wayOf r) (edgeExits m b edges heads (x .«first_edge») (x .edges))) g₁ done₁ → EdgesWanted h g₁ done₁ (map (wayOf r) (endExits m b ends landings (x .«first_end») (x .ends))) g₂ done₂ → EdgesWanted h g done (recordWays m nodes edges ends heads landings r b x′) g₂ done₂
+    pub record-wants : {g g₁ g₂ : List ℕ} {done done₁ done₂ : List ℕ} → EdgesWanted h g done (map (wayOf r) (edgeExits m b edges heads (x .«first_edge») (x .edges))) g₁ done₁ → EdgesWanted h g₁ done₁ (map (wayOf r) (endExits m b ends landings (x .«first_end») (x .ends))) g₂ done₂ → EdgesWanted h g done (recordWays m nodes edges ends heads landings r b x′) g₂ done₂
     record-wants {g} {g₁} {g₂} {done} {done₁} {done₂} a c =
         subst (λ (z : NodeRecord). EdgesWanted h g done (recordWays m nodes edges ends heads landings r b z) g₂ done₂) is
         (rw (both-ways x) (wants-then a c))
 
 -- ---- the blocks of a set
 
-pub record SetWanting (h : List ℕ) (f : ℕ → List Way) (w g₀ : List ℕ) (done₀ : List Bool) (left g : List ℕ) (done : List Bool) : Type 0 where
+pub record SetWanting (h : List ℕ) (f : ℕ → List Way) (w g₀ : List ℕ) (done₀ : List ℕ) (left g : List ℕ) (done : List ℕ) : Type 0 where
   pub long : length left ≡ 16
   pub taken : List ℕ
   pub rest : taken ++ listOf left ≡ listOf w
   pub wants : EdgesWanted h g₀ done₀ (joined f taken) g done
 
-pub wanting-start : (h : List ℕ) (f : ℕ → List Way) (w g : List ℕ) (done : List Bool) → length w ≡ 16 → SetWanting h f w g done w g done
+pub wanting-start : (h : List ℕ) (f : ℕ → List Way) (w g : List ℕ) (done : List ℕ) → length w ≡ 16 → SetWanting h f w g done w g done
 unfolding joined
 wanting-start h f w g done long = record { long = long; taken = []; rest = refl; wants = wants-none h g done }
 
-module _ {h : List ℕ} (f : ℕ → List Way) {w g₀ : List ℕ} {done₀ : List Bool} {left g : List ℕ} {done : List Bool} (p : SetWanting h f w g₀ done₀ left g done) where
+module _ {h : List ℕ} (f : ℕ → List Way) {w g₀ : List ℕ} {done₀ : List ℕ} {left g : List ℕ} {done : List ℕ} (p : SetWanting h f w g₀ done₀ left g done) where
   pub wanting-end : ((c : ℕ) → member left c ≡ false) → EdgesWanted h g₀ done₀ (joined f (listOf w)) g done
   wanting-end none = rw (sym (p .rest) ∙ ap (λ (k : List ℕ). p .taken ++ k) (list-none left none) ∙ append-nil (p .taken)) (p .wants)
 
@@ -346,7 +350,7 @@ module _ {h : List ℕ} (f : ℕ → List Way) {w g₀ : List ℕ} {done₀ : Li
         let there : o ∈ listOf w = rw (p .rest) at (Memᴰ·append-right (p .taken) here) in
         stand-part (joined f (listOf w)) (f o) (λ v k. mem-joined f there k) s
 
-    pub wanting-next : {g′ : List ℕ} {done′ : List Bool} → EdgesWanted h g done (f o) g′ done′ → SetWanting h f w g₀ done₀ (excluding left o) g′ done′
+    pub wanting-next : {g′ : List ℕ} {done′ : List ℕ} → EdgesWanted h g done (f o) g′ done′ → SetWanting h f w g₀ done₀ (excluding left o) g′ done′
     unfolding joined
     wanting-next a =
         record {
@@ -374,12 +378,12 @@ module _ (m : RouteImage) (nodes edges ends heads landings : List ℕ) where
   unfolding returnWays setWays placeOf placeIn
   return-set bases parts returns i r base part w p q s u = rw (p, q, s, u)
 
-module _ {h g₀ : List ℕ} {done₀ : List Bool} (f : ℕ → List Way) where
+module _ {h g₀ : List ℕ} {done₀ : List ℕ} (f : ℕ → List Way) where
   pub flat-start : EdgesWanted h g₀ done₀ (flat f 0) g₀ done₀
   unfolding flat
   flat-start = wants-none h g₀ done₀
 
-  pub flat-next : {g g′ : List ℕ} {done done′ : List Bool} (k : ℕ) → EdgesWanted h g₀ done₀ (flat f k) g done → EdgesWanted h g done (f k) g′ done′ → EdgesWanted h g₀ done₀ (flat f (k + 1)) g′ done′
+  pub flat-next : {g g′ : List ℕ} {done done′ : List ℕ} (k : ℕ) → EdgesWanted h g₀ done₀ (flat f k) g done → EdgesWanted h g done (f k) g′ done′ → EdgesWanted h g₀ done₀ (flat f (k + 1)) g′ done′
   flat-next k a b = rw (flat-more f k) (wants-then a b)
 
 module _ (base : ℕ) (part : List ℕ) (o : ℕ) where
@@ -404,7 +408,7 @@ module _ (m : RouteImage) (nodes edges ends heads landings roots guards bases pa
   unfolding lentWays
   lent-stand e = let all = ways-stand m h (guarded ++ returned) e in (stand-front guarded returned all, stand-back guarded returned all)
 
-  pub lent-wants : {g g₁ g₂ : List ℕ} {done₁ done₂ : List Bool} → EdgesWanted h g (replicate 2048 false) (flat (guardWays m nodes edges ends heads landings roots guards) routes) g₁ done₁
+  pub lent-wants : {g g₁ g₂ : List ℕ} {done₁ done₂ : List ℕ} → EdgesWanted h g (replicate 33 0) (flat (guardWays m nodes edges ends heads landings roots guards) routes) g₁ done₁
       → EdgesWanted h g₁ done₁ (flat (returnWays m nodes edges ends heads landings bases parts returns) n) g₂ done₂
       → Added g g₂ (routeEdges (heldIn g .graph) [] (lentWays m nodes edges ends heads landings roots guards bases parts returns routes n)) [] []
   unfolding lentWays

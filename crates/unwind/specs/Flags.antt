@@ -1,11 +1,11 @@
 -- Route edges as they are stored: each pair of a way is the leap of one hop, and a flag of that hop says whether the pair
 -- was wanted before.
 use mathlib.Core.Path.{_≡_}
-use mathlib.Core.Bool.{Bool, false, cond}
+use mathlib.Core.Bool.{true, cond}
 use mathlib.Core.List.{List, [], _∷_}
 use Prim.Native.Nat.{ℕ, _+_, _<_, Ordering·lt}
 use lib.Dec.{eqb}
-use lib.ListN.{length, getD}
+use lib.ListN.{length}
 use Rattle.image.specs.Image.{RouteImage}
 use Rattle.graph.specs.Graph.{Graph}
 use Rattle.graph.specs.Words.{heldIn}
@@ -68,10 +68,16 @@ SomeStand l f = (m : RouteImage) × (ends : List ℕ) × WaysStand l (f m ends)
 
 -- ---- flags
 
--- flag k says whether the pair of hop k is among those seen
-pub record Flags (l : List ℕ) (done : List Bool) (seen : List Leap) : Type 0 where
-  pub long : length done ≡ 2048
-  pub tells : (k s t : ℕ) → HopIs l (pair s t) k → getD done k false ≡ wanted s t seen
+-- flag k, a bit, says whether the pair of hop k is among those seen; no flag stands in the last word
+pub record Flags (l done : List ℕ) (seen : List Leap) : Type 0 where
+  pub long : length done ≡ 33
+  pub tells : (k s t : ℕ) → HopIs l (pair s t) k → member done k ≡ wanted s t seen
+
+-- flag k is set, and the others are as they were
+pub record FlagSet (done : List ℕ) (k : ℕ) (done′ : List ℕ) : Type 0 where
+  pub long : length done′ ≡ length done
+  pub this : length done ≡ 33 → member done′ k ≡ true
+  pub others : length done ≡ 33 → (j : ℕ) → j < 2048 → (j ≡ k → ⊥) → member done′ j ≡ member done j
 
 -- the leaps of ways are seen besides
 unfoldable pub seenWith : List Way → List Leap → List Leap
@@ -86,13 +92,13 @@ pub record SameRuns (g g′ : Graph) : Type 0 where
   pub blocks : g′ .blocks ≡ g .blocks
 
 -- The edges that ways ws want first are added and their flags set, over the hops in h, whichever leaps were seen before.
-pub record EdgesWanted (h g : List ℕ) (done : List Bool) (ws : List Way) (g′ : List ℕ) (done′ : List Bool) : Type 0 where
+pub record EdgesWanted (h g done : List ℕ) (ws : List Way) (g′ done′ : List ℕ) : Type 0 where
   pub runs : SameRuns (heldIn g .graph) (heldIn g′ .graph)
   pub added : (seen : List Leap) → Flags h done seen → Added g g′ (routeEdges (heldIn g .graph) seen ws) [] []
   pub flags : (seen : List Leap) → Flags h done seen → Flags h done′ (seenWith ws seen)
 
 -- whichever calls they make
-abbrev pub AllWanted : List ℕ → List ℕ → List Bool → (RouteImage → List ℕ → List Way) → List ℕ → List Bool → Type 0
+abbrev pub AllWanted : List ℕ → List ℕ → List ℕ → (RouteImage → List ℕ → List Way) → List ℕ → List ℕ → Type 0
 AllWanted h g done f g′ done′ = (m : RouteImage) (ends : List ℕ) → EdgesWanted h g done (f m ends) g′ done′
 
 -- ---- the blocks of a node

@@ -1,19 +1,23 @@
 // The route edges of an addition, in the order in which routes first want them. Each pair is that of one hop, whose flag
 // says whether it was wanted before.
+mod find;
+mod flags;
+
 use crate::blocks::first_of;
 use crate::blocks::last_of;
 use crate::emit::entries::LEAVE;
 use crate::emit::gather::end_number;
-use crate::hops::HopRow;
 use crate::hops::Hops;
-use crate::hops::hop_at;
-use crate::hops::hop_count;
 use crate::part::EXCEPTION_UNWIND;
 use crate::slots::set_at;
 use crate::tries::store::Counts;
 use crate::tries::store::branch_at;
 use crate::tries::store::node_at;
 use crate::tries::store::number_at;
+use crate::wants::find::find_hop;
+use crate::wants::flags::Flags;
+use crate::wants::flags::likely_hop;
+use crate::wants::flags::mark_wanted;
 use graph::blockset::Lowest;
 use graph::blockset::lowest_in;
 use graph::blockset::rank_in;
@@ -31,16 +35,12 @@ ghost use Rattle.image.specs.Image.{RouteImage, routesIn};
 ghost use Rattle.graph.specs.Words.{heldIn};
 ghost use Rattle.graph.specs.Fold.{flat};
 ghost use Rattle.graph.specs.Adding.{Added};
-ghost use Rattle.unwind.specs.Interning.{isLt};
 ghost use Rattle.unwind.specs.Nodes.{branchIn, recordIn};
-ghost use Rattle.addition.specs.Ways.{compareLeaps, hopsOf, routeEdge, routeEdges};
+ghost use Rattle.addition.specs.Ways.{hopsOf, routeEdge, routeEdges};
 ghost use Rattle.unwind.specs.Gather.{edgeExits, endNumber, endExits};
 ghost use Rattle.unwind.specs.HopWords.{hopsIn};
 ghost use Rattle.unwind.specs.Wanted.{wayOf, recordWays, guardWays, returnWays, lentWays, RunsFit};
-ghost use Rattle.unwind.specs.Flags.{pair, leapTo, wayTo, rowLeap, HopsRise, HopIs, HopStands, SomeStand, EdgesWanted, AllWanted, placeOf, setWays};
-
-// A flag for each hop.
-type Flags = [bool; 2048];
+ghost use Rattle.unwind.specs.Flags.{leapTo, wayTo, HopsRise, HopStands, SomeStand, EdgesWanted, AllWanted, placeOf, setWays};
 
 const ROUTE: u64 = 10;
 
@@ -65,7 +65,7 @@ pub fn add_route_edges(
     requires { ⌜ RunsFit (heldIn (now g) .graph) × (16 * length (routesIn (now s) y .routes) ≤ length (now guards)) × (16 * stored .nodes ≤ length (now parts)) × (16 * stored .nodes ≤ length (now returns)) × ((i : ℕ) → i < stored .nodes → getD (now bases) i 0 ≤ 1024) × (hopsIn (routesIn (now s) y) (now h) ≡ hopsOf (lentWays (routesIn (now s) y) (now nodes) (now edges) (now ends) (now heads) (now landings) (now roots) (now guards) (now bases) (now parts) (now returns) (length (routesIn (now s) y .routes)) (stored .nodes))) ⌝ }
     ensures { λ _. ⌜ Added (now (g .entry)) (now (g .exit)) (routeEdges (heldIn (now (g .entry)) .graph) [] (lentWays (routesIn (now (s .entry)) y) (now (nodes .entry)) (now (edges .entry)) (now (ends .entry)) (now (heads .entry)) (now (landings .entry)) (now (roots .entry)) (now (guards .entry)) (now (bases .entry)) (now (parts .entry)) (now (returns .entry)) (length (routesIn (now (s .entry)) y .routes)) (stored .nodes))) [] [] ⌝ }
 {
-    let mut done = [false; 2048];
+    let mut done = [0u64; 33];
     let routes = y.routes.count as usize;
     want_guarded(
         g,
@@ -282,11 +282,11 @@ fn want(g: &mut Words, h: &Hops, r: usize, b: usize, t: usize, done: &mut Flags)
     if t == LEAVE {
         return;
     }
-    let k = find_hop(h, b, t);
-    if done[k] {
+    let near = likely_hop(done);
+    let k = find_hop(h, near, b, t);
+    if mark_wanted(done, k) {
         return;
     }
-    done[k] = true;
     let e = route_edge(g, r, b, t);
     add_edge(g, e);
 }
@@ -306,32 +306,4 @@ fn route_edge(g: &Words, r: usize, b: usize, t: usize) -> Edge
         source_address: last_of(g, b).address,
         target_address: first_of(g, t).address,
     }
-}
-
-// The hop from block b to block t, which there is.
-fn find_hop(h: &Hops, b: usize, t: usize) -> usize
-    requires { ⌜ HopsRise (now h) × HopStands (now h) (pair b t) ⌝ }
-    ensures { λ k. ⌜ HopIs (now (h .entry)) (pair b t) k × (k < 2048) ⌝ }
-{
-    let mut lo = 0;
-    let mut hi = hop_count(h);
-    while lo < hi {
-        let mid = lo + (hi - lo) / 2;
-        if comes_before(hop_at(h, mid), b as u64, t as u64) {
-            lo = mid + 1;
-        } else {
-            hi = mid;
-        }
-    }
-    lo
-}
-
-// Whether a hop stands before the one from block b to block t.
-fn comes_before(x: HopRow, b: u64, t: u64) -> bool
-    ensures { λ r. ⌜ r ≡ isLt (compareLeaps (rowLeap x) (pair b t)) ⌝ }
-{
-    if x.source != b {
-        return x.source < b;
-    }
-    (x.has_end != 0) & (x.end < t)
 }

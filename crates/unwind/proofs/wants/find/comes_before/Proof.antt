@@ -1,7 +1,7 @@
 -- `comes_before` meets its contract: by the sources, then by the ends. Assumes nothing.
 use Rattle.unwind.proofs.FindLaws.{less-apart, less-equal}
-use Rattle.unwind.proofs.wants.comes_before.Statement.{statement}
-use Rattle.unwind.proofs.wants.comes_before.Tie as tie
+use Rattle.unwind.proofs.wants.find.comes_before.Statement.{statement}
+use Rattle.unwind.proofs.wants.find.comes_before.Tie as tie
 
 returns : tie.Need-returns
 returns c = let a = c .before .before .before .args in less-apart (a .x) (a .b) (a .t) (c .before .if1 .taken)

@@ -1,4 +1,4 @@
--- `find_hop` meets its contract. The loop's invariant: the hop is one of lo .. hi. Assumes nothing.
+-- `search` meets its contract. The loop's invariant: the hop is one of lo .. hi. Assumes nothing.
 use mathlib.Core.Path.{_≡_, sym, ap, _∙_}
 use mathlib.Core.Bool.{true, false}
 use Prim.Native.Nat.{_+_, _-_, _/_}
@@ -9,8 +9,8 @@ use Rattle.unwind.specs.Interning.{isLt}
 use Rattle.addition.specs.Ways.{compareLeaps}
 use Rattle.unwind.specs.Flags.{pair, rowLeap, leapAt}
 use Rattle.unwind.proofs.FindLaws.{Between, between-all, between-right, between-left, between-end}
-use Rattle.unwind.proofs.wants.find_hop.Statement.{statement}
-use Rattle.unwind.proofs.wants.find_hop.Tie as tie
+use Rattle.unwind.proofs.wants.find.search.Statement.{statement}
+use Rattle.unwind.proofs.wants.find.search.Tie as tie
 
 abbrev Inv-loop : tie.InvT-loop
 Inv-loop h b t lo₀ hi₀ lo hi = Between h (pair b t) lo hi
@@ -49,8 +49,8 @@ returns c =
     let found = between-end (start .args .h .now) (start .pre .0) (pair (start .args .b) (start .args .t)) (end .lo) (end .hi) (end .inv) (omega arith) (there .hop) (there .makes) in
     (found, omega (arith, found .stands, c .before .before .hop-count .ensures))
 
-pub find-hop-spec : {M : Type 1} → statement M
-find-hop-spec =
+pub search-spec : {M : Type 1} → statement M
+search-spec =
     tie.close
     (tie.spec
     Inv-loop
