@@ -3,7 +3,7 @@
 --     marks-none, marks-more, marks-turning    the words, one by one
 --     held-on                      what holds the ways out of one block holds those of the next
 use mathlib.Core.Path.{_≡_, refl, sym, ap, _∙_, subst}
-use mathlib.Core.Bool.{Bool, true, false, cond}
+use mathlib.Core.Bool.{Bool, true, false, cond, _&&_}
 use mathlib.Core.List.{List, [], _++_, map, map-append, Memᴰ·cast}
 use Prim.Native.Nat.{ℕ, zero, suc, _+_, _*_, _/_, _%_, _^_, _≤_, _<_}
 use native.Mathlib.Nat.{not-suc-le-zero}
@@ -29,9 +29,8 @@ use Rattle.unwind.specs.Nodes.{branchIn, recordIn}
 use Rattle.unwind.specs.Routed.{TriesIn}
 use Rattle.unwind.specs.Sources.{Exit, compareExits}
 use Rattle.unwind.specs.Entries.{exitIn, exitsIn}
-use Rattle.unwind.specs.Gather.{exitTo, edgeExits, endNumber, endExits, recordExits, inSet, routeRecords, returnRecords, nodeRecords}
+use Rattle.unwind.specs.Gather.{exitTo, edgeExits, endNumber, endExits, recordExits, inSet, routeRecords, nodeRecords}
 use Rattle.unwind.specs.Lent.{blockRecords, Holds}
-use Rattle.unwind.specs.Members.{Originals}
 use Rattle.unwind.specs.Alike.{Moves, Steady, Turning, GoesOn}
 use Rattle.unwind.proofs.Rising.{rising-is, total-exits}
 use Rattle.unwind.proofs.EntryLaws.{table-rising}
@@ -39,7 +38,6 @@ use Rattle.unwind.proofs.GatherLaws.{number-lands}
 use Rattle.unwind.proofs.PoolLaws.{set-in}
 use Rattle.unwind.proofs.Leaving.{map-flat}
 use Rattle.unwind.proofs.LentLaws.{map-table}
-use Rattle.unwind.proofs.MemberLaws.{originals-records}
 
 -- ---- bits
 
@@ -73,69 +71,68 @@ no-mark t b e = let ne = eqb-false (getD t (b / 64) 0 / 2 ^ (b % 64) % 2) 1 e in
 
 -- ---- sets
 
-module _ (sets : List ℕ) (f : ℕ → ℕ) where
-  pub steady-none : (k t : ℕ) → Steady sets f 0 k t
+module _ (sets : List ℕ) where
+  pub steady-none : (k t : ℕ) → Steady sets 0 k t
   steady-none k t = record { same = λ i j h. absurd (not-suc-le-zero h) }
 
-  pub steady-more : (n k t : ℕ) {w : ℕ} → w ≡ bitXor (getD sets (16 * f n + k) 0) (getD sets (16 * f n + k) 0 / 2) → Steady sets f n k t → Steady sets f (n + 1) k (bitOr t w)
+  pub steady-more : (n k t : ℕ) {w : ℕ} → w ≡ bitXor (getD sets (16 * n + k) 0) (getD sets (16 * n + k) 0 / 2) → Steady sets n k t → Steady sets (n + 1) k (bitOr t w)
   steady-more n k t {w} is old =
       record {
         same = λ i j h e.
             let none = or-none t w j e in
             elim (ℕ-discrete i n) [
-              | yes at ↦ rw at (turn-none (getD sets (16 * f n + k) 0) j (ap (λ (x : ℕ). x / 2 ^ j % 2) (sym is) ∙ none .1))
+              | yes at ↦ rw at (turn-none (getD sets (16 * n + k) 0) j (ap (λ (x : ℕ). x / 2 ^ j % 2) (sym is) ∙ none .1))
               | no ne ↦ old .same i j (omega arith) (none .0)
             ];
       }
 
   -- fewer marks say more
-  steady-left : (n k t u : ℕ) → Steady sets f n k t → Steady sets f n k (bitOr t u)
+  steady-left : (n k t u : ℕ) → Steady sets n k t → Steady sets n k (bitOr t u)
   steady-left n k t u p = record { same = λ i j h e. p .same i j h (or-none t u j e .0) }
 
-  steady-right : (n k t u : ℕ) → Steady sets f n k u → Steady sets f n k (bitOr t u)
+  steady-right : (n k t u : ℕ) → Steady sets n k u → Steady sets n k (bitOr t u)
   steady-right n k t u p = record { same = λ i j h e. p .same i j h (or-none t u j e .1) }
 
   -- two blocks in a row
-  steady-in : (n b : ℕ) (t : List ℕ) → b < 1023 → b % 64 < 63 → member t b ≡ false → Steady sets f n (b / 64) (getD t (b / 64) 0) → (i : ℕ) → i < n → inSet sets (f i) b ≡ inSet sets (f i) (b + 1)
+  steady-in : (n b : ℕ) (t : List ℕ) → b < 1023 → b % 64 < 63 → member t b ≡ false → Steady sets n (b / 64) (getD t (b / 64) 0) → (i : ℕ) → i < n → inSet sets i b ≡ inSet sets i (b + 1)
   steady-in n b t low in-word out p i h =
       let word : (b + 1) / 64 ≡ b / 64 = omega arith in
       let place : (b + 1) % 64 ≡ b % 64 + 1 = omega arith in
-      let w : ℕ = getD sets (16 * f i + b / 64) 0 in
-      sym (set-in sets (f i) b (omega arith))
+      sym (set-in sets i b (omega arith))
       ∙ ap (λ (x : ℕ). eqb x 1) (p .same i (b % 64) h (no-mark t b out))
-      ∙ (λ u. eqb (getD sets (16 * f i + sym word u) 0 / 2 ^ sym place u % 2) 1)
-      ∙ set-in sets (f i) (b + 1) (omega arith)
+      ∙ (λ u. eqb (getD sets (16 * i + sym word u) 0 / 2 ^ sym place u % 2) 1)
+      ∙ set-in sets i (b + 1) (omega arith)
 
 -- ---- words
 
 -- the first w words are marked
-pub record Marked (guards : List ℕ) (routes : ℕ) (returns originals : List ℕ) (listed : ℕ) (t : List ℕ) (w : ℕ) : Type 0 where
-  pub guards-steady : (k : ℕ) → k < w → Steady guards (λ r. r) routes k (getD t k 0)
-  pub returns-steady : (k : ℕ) → k < w → Steady returns (λ j. getD originals j 0) listed k (getD t k 0)
+pub record Marked (guards : List ℕ) (routes : ℕ) (returns : List ℕ) (nodes : ℕ) (t : List ℕ) (w : ℕ) : Type 0 where
+  pub guards-steady : (k : ℕ) → k < w → Steady guards routes k (getD t k 0)
+  pub returns-steady : (k : ℕ) → k < w → Steady returns nodes k (getD t k 0)
 
-module _ (guards : List ℕ) (routes : ℕ) (returns originals : List ℕ) (listed : ℕ) where
-  pub marks-none : (t : List ℕ) → Marked guards routes returns originals listed t 0
+module _ (guards : List ℕ) (routes : ℕ) (returns : List ℕ) (nodes : ℕ) where
+  pub marks-none : (t : List ℕ) → Marked guards routes returns nodes t 0
   marks-none t = record { guards-steady = λ k h. absurd (not-suc-le-zero h); returns-steady = λ k h. absurd (not-suc-le-zero h) }
 
-  pub marks-more : (t : List ℕ) (w g u : ℕ) → w < length t → Steady guards (λ r. r) routes w g → Steady returns (λ j. getD originals j 0) listed w u → Marked guards routes returns originals listed t w → Marked guards routes returns originals listed (set t w (bitOr g u)) (w + 1)
+  pub marks-more : (t : List ℕ) (w g u : ℕ) → w < length t → Steady guards routes w g → Steady returns nodes w u → Marked guards routes returns nodes t w → Marked guards routes returns nodes (set t w (bitOr g u)) (w + 1)
   marks-more t w g u fit p q old =
       let here : getD (set t w (bitOr g u)) w 0 ≡ bitOr g u = getD-set-same t w (bitOr g u) 0 fit in
       record {
         guards-steady = λ k h. elim (ℕ-discrete k w) [
-          | yes e ↦ rw (e, here) (steady-left guards (λ r. r) routes w g u p)
+          | yes e ↦ rw (e, here) (steady-left guards routes w g u p)
           | no ne ↦ rw (getD-set-other t w k (bitOr g u) 0 ne) (old .guards-steady k (omega arith))
         ];
         returns-steady = λ k h. elim (ℕ-discrete k w) [
-          | yes e ↦ rw (e, here) (steady-right returns (λ j. getD originals j 0) listed w g u q)
+          | yes e ↦ rw (e, here) (steady-right returns nodes w g u q)
           | no ne ↦ rw (getD-set-other t w k (bitOr g u) 0 ne) (old .returns-steady k (omega arith))
         ];
       }
 
-  pub marks-turning : (blocks : ℕ) (t : List ℕ) (w : ℕ) → blocks ≤ 1024 → (blocks + 63) / 64 ≤ w → Marked guards routes returns originals listed t w → Turning guards routes returns originals listed blocks t
+  pub marks-turning : (blocks : ℕ) (t : List ℕ) (w : ℕ) → blocks ≤ 1024 → (blocks + 63) / 64 ≤ w → Marked guards routes returns nodes t w → Turning guards routes returns nodes blocks t
   marks-turning blocks t w few all p =
       record {
-        guards-same = λ r b h low in-word out. steady-in guards (λ r. r) routes b t (omega arith) in-word out (p .guards-steady (b / 64) (omega arith)) r h;
-        returns-same = λ k b h low in-word out. steady-in returns (λ j. getD originals j 0) listed b t (omega arith) in-word out (p .returns-steady (b / 64) (omega arith)) k h;
+        guards-same = λ r b h low in-word out. steady-in guards routes b t (omega arith) in-word out (p .guards-steady (b / 64) (omega arith)) r h;
+        returns-same = λ i b h low in-word out. steady-in returns nodes b t (omega arith) in-word out (p .returns-steady (b / 64) (omega arith)) i h;
       }
 
 -- ---- the same exits out of another block
@@ -169,7 +166,7 @@ holds-alike m a b xs l n p =
         subst (λ (k : List Exit). x ∈ k) (sym moved)
         (Memᴰ·cast (y .2) (mem-map (from b) (subst (λ (k : List Exit). y .0 ∈ k) (sym (p .is)) (mem-sorted compareExits (total-exits .exact) (y .1)))))
 
-module _ (m : RouteImage) (nodes edges ends heads landings roots guards bases returns originals : List ℕ) (c : Counts) (listed : ℕ) (t : TriesIn m nodes edges ends roots c) (o : Originals bases originals (c .nodes) listed) (moves : Moves landings (c .ends)) (a b : ℕ) where
+module _ (m : RouteImage) (nodes edges ends heads landings roots guards bases returns : List ℕ) (c : Counts) (t : TriesIn m nodes edges ends roots c) (moves : Moves landings (c .ends)) (a b : ℕ) where
   number-same : (k : ℕ) → k < c .ends → endNumber b landings k ≡ endNumber a landings k
   number-same k h = sym (number-lands b landings k (moves .moves k h)) ∙ number-lands a landings k (moves .moves k h)
 
@@ -192,11 +189,12 @@ module _ (m : RouteImage) (nodes edges ends heads landings roots guards bases re
   unfolding routeRecords
   route-alike r h same = (λ u. cond (sym same u) (record-alike (getD roots r 0) (t .roots-in r h) u) []) ∙ sym (map-if (from b) (inSet guards r a) (out a (recordIn nodes (getD roots r 0))))
 
-  return-alike : (i : ℕ) → i < c .nodes → inSet returns i a ≡ inSet returns i b → returnRecords m b edges ends heads landings nodes returns i ≡ map (from b) (returnRecords m a edges ends heads landings nodes returns i)
-  unfolding returnRecords
-  return-alike i h same = (λ u. cond (sym same u) (record-alike i h u) []) ∙ sym (map-if (from b) (inSet returns i a) (out a (recordIn nodes i)))
+  node-alike : (i : ℕ) → i < c .nodes → inSet returns i a ≡ inSet returns i b → nodeRecords m b edges ends heads landings nodes bases returns i ≡ map (from b) (nodeRecords m a edges ends heads landings nodes bases returns i)
+  unfolding nodeRecords
+  node-alike i h same =
+      (λ u. cond (eqb (getD bases i 0) 0 && sym same u) (record-alike i h u) []) ∙ sym (map-if (from b) (eqb (getD bases i 0) 0 && inSet returns i a) (out a (recordIn nodes i)))
 
-  module _ (routed : (r : ℕ) → r < length (m .routes) → inSet guards r a ≡ inSet guards r b) (returned : (k : ℕ) → k < listed → inSet returns (getD originals k 0) a ≡ inSet returns (getD originals k 0) b) where
+  module _ (routed : (r : ℕ) → r < length (m .routes) → inSet guards r a ≡ inSet guards r b) (returned : (i : ℕ) → i < c .nodes → inSet returns i a ≡ inSet returns i b) where
     records-alike : blockRecords m b nodes edges ends heads landings roots guards bases returns c ≡ map (from b) (blockRecords m a nodes edges ends heads landings roots guards bases returns c)
     unfolding blockRecords
     records-alike =
@@ -205,17 +203,14 @@ module _ (m : RouteImage) (nodes edges ends heads landings roots guards bases re
         let p : flat (routeRecords m b edges ends heads landings nodes roots guards) (length (m .routes)) ≡ map (from b) (flat routes (length (m .routes))) =
         flat-same _ _ (length (m .routes)) (λ r h. route-alike r h (routed r h)) ∙ sym (map-flat (from b) routes (length (m .routes))) in
         let q : flat (nodeRecords m b edges ends heads landings nodes bases returns) (c .nodes) ≡ map (from b) (flat others (c .nodes)) =
-        sym (originals-records m b nodes edges ends heads landings bases returns originals (c .nodes) listed o)
-        ∙ flat-same _ _ listed (λ k h. return-alike (getD originals k 0) (o .within k h) (returned k h))
-        ∙ sym (map-flat (from b) (λ k. returnRecords m a edges ends heads landings nodes returns (getD originals k 0)) listed)
-        ∙ ap (map (from b)) (originals-records m a nodes edges ends heads landings bases returns originals (c .nodes) listed o) in
+        flat-same _ _ (c .nodes) (λ i h. node-alike i h (returned i h)) ∙ sym (map-flat (from b) others (c .nodes)) in
         (λ u. p u ++ q u) ∙ sym (map-append (from b) (flat routes (length (m .routes))) (flat others (c .nodes)))
 
-  pub held-on : {worth : Bool} (routes blocks : ℕ) (turns : List ℕ) → length (m .routes) ≡ routes → Turning guards routes returns originals listed blocks turns → GoesOn worth turns a b → b < blocks → {l : List ℕ} {n : ℕ} → Holds m a (blockRecords m a nodes edges ends heads landings roots guards bases returns c) l n → Holds m b (blockRecords m b nodes edges ends heads landings roots guards bases returns c) l n
+  pub held-on : {worth : Bool} (routes blocks : ℕ) (turns : List ℕ) → length (m .routes) ≡ routes → Turning guards routes returns (c .nodes) blocks turns → GoesOn worth turns a b → b < blocks → {l : List ℕ} {n : ℕ} → Holds m a (blockRecords m a nodes edges ends heads landings roots guards bases returns c) l n → Holds m b (blockRecords m b nodes edges ends heads landings roots guards bases returns c) l n
   held-on routes blocks turns count p g low {l} {n} old =
       let next = g .next in
       subst (λ (xs : List Exit). Holds m b xs l n)
       (sym (records-alike
       (λ r h. p .guards-same r a (omega (arith, count)) (omega arith) (g .low) (g .steady) ∙ ap (inSet guards r) (sym next))
-      (λ k h. p .returns-same k a h (omega arith) (g .low) (g .steady) ∙ ap (inSet returns (getD originals k 0)) (sym next))))
+      (λ i h. p .returns-same i a h (omega arith) (g .low) (g .steady) ∙ ap (inSet returns i) (sym next))))
       (holds-alike m a b (blockRecords m a nodes edges ends heads landings roots guards bases returns c) l n old)

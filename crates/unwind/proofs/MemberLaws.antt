@@ -19,7 +19,7 @@ use mathlib.Core.Path.{_≡_, refl, sym, ap, _∙_, subst}
 use mathlib.Core.Logic.{_⊎_, inl, inr, ⊎-elim}
 use mathlib.Core.Bool.{Bool, true, false, cond, _||_, or-false, false≢true}
 use mathlib.Core.List.{List, [], _++_, append-nil}
-use Prim.Native.Nat.{ℕ, zero, suc, _+_, _*_, _≤_, _<_}
+use Prim.Native.Nat.{ℕ, zero, suc, _+_, _*_, _/_, _≤_, _<_}
 use native.Mathlib.Nat.{not-suc-le-zero}
 use native.Mathlib.Numerals.{add-one}
 use native.Mathlib.Decide.{ℕ-discrete, decLt}
@@ -57,7 +57,7 @@ use Rattle.addition.proofs.Instance.{blocks-lt}
 use Rattle.unwind.proofs.SizeLaws.{Summed, summed-none, summed-more}
 use Rattle.unwind.proofs.SlotLaws.{set-run}
 use Rattle.unwind.proofs.PlaceLaws.{rank-most}
-use Rattle.unwind.proofs.PoolLaws.{node-own, node-copy}
+use Rattle.unwind.proofs.PoolLaws.{node-own, node-copy, node-off, set-none}
 use Rattle.unwind.proofs.HeldLaws.{held-up, step-is, fit-step}
 
 pub flat-quiet : {A : Type 0} (f : ℕ → List A) (k n : ℕ) → k ≤ n → ((c : ℕ) → k ≤ c → c < n → f c ≡ []) → flat f n ≡ flat f k
@@ -337,12 +337,12 @@ module _ (m : RouteImage) (nodes edges ends heads landings roots guards bases re
 
 -- ---- nodes on the original blocks
 
-pub originals-none : (bases l : List ℕ) → Originals bases l 0 0
+pub originals-none : (bases returns l : List ℕ) (w : ℕ) → Originals bases returns l 0 w 0
 unfolding flat
-originals-none bases l = record { few = omega arith; within = λ k h. absurd (not-suc-le-zero h); original = λ k h. absurd (not-suc-le-zero h); all = λ f quiet. refl }
+originals-none bases returns l w = record { few = omega arith; within = λ k h. absurd (not-suc-le-zero h); original = λ k h. absurd (not-suc-le-zero h); all = λ f quiet. refl }
 
-module _ (bases l : List ℕ) (n c : ℕ) (p : Originals bases l n c) where
-  pub originals-more : c < length l → getD bases n 0 ≡ 0 → Originals bases (set l c n) (n + 1) (c + 1)
+module _ (bases returns l : List ℕ) (n w c : ℕ) (p : Originals bases returns l n w c) where
+  pub originals-more : c < length l → getD bases n 0 ≡ 0 → Originals bases returns (set l c n) (n + 1) w (c + 1)
   originals-more fit own =
       let here : getD (set l c n) c 0 ≡ n = getD-set-same l c n 0 fit in
       record {
@@ -361,23 +361,26 @@ module _ (bases l : List ℕ) (n c : ℕ) (p : Originals bases l n c) where
             ∙ sym (flat-more (λ k. f (getD (set l c n) k 0)) c);
       }
 
-  pub originals-skip : (getD bases n 0 ≡ 0 → ⊥) → Originals bases l (n + 1) c
-  originals-skip copies =
+  pub originals-skip : (getD bases n 0 ≡ 0 → ⊥) ⊎ (getD returns (16 * n + w) 0 ≡ 0) → Originals bases returns l (n + 1) w c
+  originals-skip other =
       record {
         few = omega (arith, p .few);
         within = λ k h. omega (arith, p .within k h);
         original = p .original;
         all = λ f quiet.
             flat-more f n
-            ∙ ap (λ (t : List Exit). flat f n ++ t) (quiet n (omega arith) copies)
+            ∙ ap (λ (t : List Exit). flat f n ++ t) (quiet n (omega arith) other)
             ∙ append-nil (flat f n)
             ∙ p .all f (λ i h. quiet i (omega arith));
       }
 
-pub originals-records : (m : RouteImage) (b : ℕ) (nodes edges ends heads landings bases returns originals : List ℕ) (n c : ℕ) → Originals bases originals n c → flat (λ k. returnRecords m b edges ends heads landings nodes returns (getD originals k 0)) c ≡ flat (nodeRecords m b edges ends heads landings nodes bases returns) n
+pub originals-records : (m : RouteImage) (b : ℕ) (nodes edges ends heads landings bases returns originals : List ℕ) (n c : ℕ) → Originals bases returns originals n (b / 64) c → flat (λ k. returnRecords m b edges ends heads landings nodes returns (getD originals k 0)) c ≡ flat (nodeRecords m b edges ends heads landings nodes bases returns) n
 originals-records m b nodes edges ends heads landings bases returns originals n c p =
     flat-same _ _ c (λ k h. node-own m b edges ends heads landings nodes bases returns (getD originals k 0) (p .original k h))
-    ∙ sym (p .all (nodeRecords m b edges ends heads landings nodes bases returns) (λ i h copies. sym (node-copy m b edges ends heads landings nodes bases returns i copies)))
+    ∙ sym (p .all (nodeRecords m b edges ends heads landings nodes bases returns)
+    (λ i h. ⊎-elim
+    (λ copies. sym (node-copy m b edges ends heads landings nodes bases returns i copies))
+    (λ none. sym (node-off m b edges ends heads landings nodes bases returns i (set-none returns i b none)))))
 
 -- ---- nodes that are placed
 

@@ -3,15 +3,16 @@
 --     pool-length, pooled-most     there are no more entries than edges and ends
 --     node-room                    room for a node's
 --     adds-none, adds-some, adds-record, adds-next, adds-both     nothing, a node's, one more, and more behind others
---     set-in, set-past, set-outside    a set among many
+--     set-in, set-past, set-outside, set-none      a set among many
 --     route-in, route-out, node-in, node-out       whose are gathered
---     node-own, node-copy          of a node with the original blocks, and of one with copies
+--     node-own, node-copy, node-off    of a node with the original blocks, of one with copies, and of one that does not return
 use mathlib.Core.Path.{_≡_, sym, _∙_, ap, subst}
 use mathlib.Core.Logic.{_⊎_, inl, inr}
-use mathlib.Core.Bool.{true, false}
+use mathlib.Core.Bool.{true, false, and-false}
 use mathlib.Core.List.{List, [], _∷_, _++_, List·Memᴰ·head, List·Memᴰ·tail, List·Memᴰ·append-cases, Memᴰ·append-left, Memᴰ·append-right, Memᴰ·cast}
 use Prim.Native.Nat.{ℕ, _+_, _*_, _/_, _%_, _^_, _≤_, _<_, Ordering}
 use native.Mathlib.Nat.{zero-div}
+use native.Mathlib.Decide.{decLt}
 use native.Mathlib.Omega.{arith}
 use borrow.Author.Tests.{eq-eqb, ne-eqb}
 use lib.Dec.{eqb}
@@ -157,6 +158,10 @@ module _ (m : RouteImage) (b : ℕ) (edges ends heads landings : List ℕ) where
     unfolding nodeRecords
     node-copy z = rw (ne-eqb (getD bases i 0) 0 z)
 
+    pub node-off : false ≡ inSet returns i b → [] ≡ nodeRecords m b edges ends heads landings nodes bases returns i
+    unfolding nodeRecords
+    node-off e = rw (sym e, and-false (eqb (getD bases i 0) 0))
+
 -- ---- sets
 
 module _ (l : List ℕ) (i b : ℕ) where
@@ -175,3 +180,10 @@ module _ (l : List ℕ) (i b : ℕ) where
   pub set-outside : 1024 ≤ b → false ≡ inSet l i b
   unfolding member
   set-outside h = zero-word (getD (take 16 (drop (16 * i) l)) (b / 64) 0) (List·getD-eq-default (take 16 (drop (16 * i) l)) 0 (rw (length-take 16 (drop (16 * i) l)) (omega arith)))
+
+  pub set-none : getD l (16 * i + b / 64) 0 ≡ 0 → false ≡ inSet l i b
+  set-none e =
+      elim (decLt b 1024) [
+        | yes low ↦ zero-word (getD l (16 * i + b / 64) 0) e ∙ set-in low
+        | no high ↦ set-outside (omega arith)
+      ]

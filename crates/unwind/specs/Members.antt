@@ -1,5 +1,6 @@
 -- The sets of blocks that hops are gathered from, read as sixteen words each.
 use mathlib.Core.Path.{_≡_}
+use mathlib.Core.Logic.{_⊎_}
 use mathlib.Core.Bool.{Bool, true, _&&_, _||_}
 use mathlib.Core.List.{List, []}
 use Prim.Native.Nat.{ℕ, _+_, _*_, _≤_, _<_}
@@ -44,9 +45,10 @@ pub record BlockSets (guards returns : List ℕ) (blocks routes n : ℕ) : Type 
 
 -- ---- the nodes on the original blocks
 
--- `count` of the first n nodes are listed: where those that have copies give nothing, the listed give all
-pub record Originals (bases originals : List ℕ) (n count : ℕ) : Type 0 where
+-- `count` of the first n nodes are listed: where those give nothing that have copies or return from no block of word w, the
+-- listed give all
+pub record Originals (bases returns originals : List ℕ) (n w count : ℕ) : Type 0 where
   pub few : count ≤ n
   pub within : (k : ℕ) → k < count → getD originals k 0 < n
   pub original : (k : ℕ) → k < count → getD bases (getD originals k 0) 0 ≡ 0
-  pub all : (f : ℕ → List Exit) → ((i : ℕ) → i < n → (getD bases i 0 ≡ 0 → ⊥) → f i ≡ []) → flat f n ≡ flat (λ k. f (getD originals k 0)) count
+  pub all : (f : ℕ → List Exit) → ((i : ℕ) → i < n → (getD bases i 0 ≡ 0 → ⊥) ⊎ (getD returns (16 * i + w) 0 ≡ 0) → f i ≡ []) → flat f n ≡ flat (λ k. f (getD originals k 0)) count

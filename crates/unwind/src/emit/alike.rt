@@ -7,17 +7,16 @@ use graph::blockset::sixteen;
 ghost use mathlib.Core.Path.{_≡_};
 ghost use mathlib.Core.Bool.{true};
 ghost use Prim.Native.Nat.{_≤_, _<_};
-ghost use lib.ListN.{getD};
 ghost use Rattle.unwind.specs.Alike.{Moves, Steady, Turning, GoesOn};
 
 // With fewer nodes it costs less to gather than to look.
 const WORTH: usize = 16;
 
 // Whether to look for such blocks: there are nodes enough, and no end resumes, so that no way out names its own block.
-pub fn is_worth(listed: usize, landings: &[u16], ends: usize) -> bool
+pub fn is_worth(nodes: usize, landings: &[u16], ends: usize) -> bool
     ensures { λ r. ⌜ (r ≡ true → Moves (now (landings .entry)) ends) ⌝ }
 {
-    if listed < WORTH {
+    if nodes < WORTH {
         return false;
     }
     for k in 0..ends {
@@ -50,44 +49,30 @@ pub fn mark_turns(
     guards: &[u64],
     routes: usize,
     returns: &[u64],
-    originals: &[u16],
-    listed: usize,
+    nodes: usize,
     blocks: usize,
     turns: &mut [u64; 16],
 )
-    requires { ⌜ (routes ≤ 65536) × (blocks ≤ 1024) ⌝ }
-    ensures { λ _. ⌜ Turning (now (guards .entry)) routes (now (returns .entry)) (now (originals .entry)) listed blocks (now (turns .exit)) ⌝ }
+    requires { ⌜ (routes ≤ 65536) × (nodes ≤ 65536) × (blocks ≤ 1024) ⌝ }
+    ensures { λ _. ⌜ Turning (now (guards .entry)) routes (now (returns .entry)) nodes blocks (now (turns .exit)) ⌝ }
 {
     sixteen(turns);
     let words = (blocks + 63) / 64;
     for k in 0..words {
-        let guarded = guards_turn(guards, routes, k);
-        let returned = returns_turn(returns, originals, listed, k);
+        let guarded = sets_turn(guards, routes, k);
+        let returned = sets_turn(returns, nodes, k);
         turns[k] = guarded | returned;
     }
 }
 
-// The places of word k at which one of the n routes guards one of two blocks in a row alone.
-fn guards_turn(guards: &[u64], n: usize, k: usize) -> u64
+// The places of word k at which one of the n sets has one of two blocks in a row alone.
+fn sets_turn(sets: &[u64], n: usize, k: usize) -> u64
     requires { ⌜ (n ≤ 65536) × (k < 16) ⌝ }
-    ensures { λ t. ⌜ Steady (now (guards .entry)) (λ r. r) n k t ⌝ }
+    ensures { λ t. ⌜ Steady (now (sets .entry)) n k t ⌝ }
 {
     let mut t = 0;
-    for r in 0..n {
-        t = t | turns_at(guards, 16 * r + k);
-    }
-    t
-}
-
-// Those at which one of the n nodes listed returns from one alone.
-fn returns_turn(returns: &[u64], originals: &[u16], n: usize, k: usize) -> u64
-    requires { ⌜ k < 16 ⌝ }
-    ensures { λ t. ⌜ Steady (now (returns .entry)) (λ j. getD (now (originals .entry)) j 0) n k t ⌝ }
-{
-    let mut t = 0;
-    for j in 0..n {
-        let i = number_at(originals, j);
-        t = t | turns_at(returns, 16 * i + k);
+    for i in 0..n {
+        t = t | turns_at(sets, 16 * i + k);
     }
     t
 }

@@ -4,7 +4,7 @@ use crate::slots::in_set;
 use crate::tries::store::Counts;
 use crate::tries::store::number_at;
 use image::section::RouteLayout;
-ghost use Prim.Native.Nat.{_+_, _*_, _≤_, _<_};
+ghost use Prim.Native.Nat.{_+_, _*_, _/_, _≤_, _<_};
 ghost use lib.ListN.{length, getD};
 ghost use Rattle.image.specs.Image.{routesIn};
 ghost use Rattle.image.specs.Accepted.{AcceptedRoutes};
@@ -15,7 +15,7 @@ ghost use Rattle.unwind.specs.Routed.{TriesIn};
 ghost use Rattle.unwind.specs.Lent.{blockRecords, BlockHeld};
 ghost use Rattle.unwind.specs.Members.{Originals};
 
-// All of them, and how many there are. `originals` are the nodes on the original blocks.
+// All of them, and how many there are. `originals` are the nodes on the original blocks that return from a block of its word.
 pub fn gather_block(
     s: &[u8],
     y: RouteLayout,
@@ -34,7 +34,7 @@ pub fn gather_block(
     b: usize,
     exits: &mut [u16],
 ) -> usize
-    requires { ⌜ AcceptedRoutes (routesIn (now s) y) × TriesIn (routesIn (now s) y) (now nodes) (now edges) (now ends) (now roots) stored × (b < 65536) × (2 * (length (now edges) + length (now ends)) ≤ length (now exits)) × Originals (now bases) (now originals) (stored .nodes) listed ⌝ }
+    requires { ⌜ AcceptedRoutes (routesIn (now s) y) × TriesIn (routesIn (now s) y) (now nodes) (now edges) (now ends) (now roots) stored × (b < 65536) × (2 * (length (now edges) + length (now ends)) ≤ length (now exits)) × Originals (now bases) (now returns) (now originals) (stored .nodes) (b / 64) listed ⌝ }
     ensures { λ r. ⌜ BlockHeld (routesIn (now (s .entry)) y) b (blockRecords (routesIn (now (s .entry)) y) b (now (nodes .entry)) (now (edges .entry)) (now (ends .entry)) (now (heads .entry)) (now (landings .entry)) (now (roots .entry)) (now (guards .entry)) (now (bases .entry)) (now (returns .entry)) stored) (now (edges .entry)) (now (ends .entry)) (now (exits .entry)) (now (exits .exit)) r ⌝ }
 {
     let count = y.routes.count as usize;

@@ -1,9 +1,9 @@
-// The blocks that have a way out: the others need not be looked at.
+// The blocks that have a way out, and the nodes that return from some of them: the others need not be looked at.
 use crate::slots::set_at;
 use crate::tries::store::number_at;
 use graph::blockset::add_all;
 use graph::blockset::sixteen;
-ghost use Prim.Native.Nat.{_*_, _≤_};
+ghost use Prim.Native.Nat.{_*_, _≤_, _<_};
 ghost use lib.ListN.{length};
 ghost use Rattle.unwind.specs.Gather.{inSet};
 ghost use Rattle.unwind.specs.Members.{originalReturns, Joins, Busy, Originals};
@@ -54,16 +54,19 @@ fn returned_blocks(bases: &[u16], returns: &[u64], n: usize) -> [u64; 16]
     all
 }
 
-// The nodes on the original blocks: those of the first n whose base is 0, and how many there are.
-pub fn original_nodes(bases: &[u16], n: usize, list: &mut [u16]) -> usize
-    requires { ⌜ (n ≤ length (now list)) × (n ≤ 544) ⌝ }
-    ensures { λ r. ⌜ Originals (now (bases .entry)) (now (list .exit)) n r ⌝ }
+// The nodes on the original blocks that return from one of the 64 blocks of word w: those of the first n, and how many there
+// are.
+pub fn original_nodes(bases: &[u16], returns: &[u64], n: usize, w: usize, list: &mut [u16]) -> usize
+    requires { ⌜ (n ≤ length (now list)) × (n ≤ 544) × (16 * n ≤ length (now returns)) × (w < 16) ⌝ }
+    ensures { λ r. ⌜ Originals (now (bases .entry)) (now (returns .entry)) (now (list .exit)) n w r ⌝ }
 {
     let mut count = 0;
     for i in 0..n {
         if number_at(bases, i) == 0 {
-            list[count] = i as u16;
-            count += 1;
+            if returns[16 * i + w] != 0 {
+                list[count] = i as u16;
+                count += 1;
+            }
         }
     }
     count

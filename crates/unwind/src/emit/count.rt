@@ -56,26 +56,18 @@ pub fn count_blocks(
 {
     let routes = y.routes.count as usize;
     let mut left = busy_blocks(guards, routes, bases, returns, stored.nodes);
-    let mut originals = [0u16; 544];
-    let listed = original_nodes(bases, stored.nodes, &mut originals);
     let mut sizes = Sizes {
         hops: 0,
         lists: 0,
         blocks: 0,
     };
-    let worth = is_worth(listed, landings, stored.ends);
+    let worth = is_worth(stored.nodes, landings, stored.ends);
     let mut turns = [0u64; 16];
     if worth {
-        mark_turns(
-            guards,
-            routes,
-            returns,
-            &originals,
-            listed,
-            blocks,
-            &mut turns,
-        );
+        mark_turns(guards, routes, returns, stored.nodes, blocks, &mut turns);
     }
+    let mut originals = [0u16; 544];
+    let mut listed = 0;
     let mut last = 1024;
     let mut n = 0;
     loop {
@@ -83,6 +75,9 @@ pub fn count_blocks(
             return sizes;
         };
         take_from(&mut left, b);
+        if b / 64 != last / 64 {
+            listed = original_nodes(bases, returns, stored.nodes, b / 64, &mut originals);
+        }
         if !goes_on(worth, &turns, last, b) {
             n = gather_block(
                 s,

@@ -12,10 +12,10 @@ use Rattle.unwind.proofs.emit.alike.is_worth.Statement.{statement}
 use Rattle.unwind.proofs.emit.alike.is_worth.Tie as tie
 
 abbrev Inv-loop : tie.InvT-loop
-Inv-loop listed landings ends k₀ k = (k ≤ ends) × Moves landings k
+Inv-loop nodes landings ends k₀ k = (k ≤ ends) × Moves landings k
 
 abbrev μ-loop : tie.MeasureT-loop
-μ-loop listed landings ends k₀ k = ends - k
+μ-loop nodes landings ends k₀ k = ends - k
 
 returns : tie.Need-returns Inv-loop μ-loop
 returns c = λ e. absurd (false≢true e)

@@ -1,6 +1,6 @@
 -- `original_nodes` meets its contract. The invariant: those of the nodes passed are listed. Assumes nothing.
 use mathlib.Core.Path.{_≡_, refl, sym, _∙_}
-use mathlib.Core.Logic.{⊎-elim}
+use mathlib.Core.Logic.{inl, inr, ⊎-elim}
 use Prim.Native.Nat.{_-_, _≤_, _<_}
 use native.Mathlib.Omega.{arith}
 use lib.ListN.{length, length-set}
@@ -11,38 +11,60 @@ use Rattle.unwind.proofs.emit.busy.original_nodes.Statement.{statement}
 use Rattle.unwind.proofs.emit.busy.original_nodes.Tie as tie
 
 abbrev Inv-loop : tie.InvT-loop
-Inv-loop bases n list₀ count₀ i₀ list count i = (i ≤ n) × (length list ≡ length list₀) × Originals bases list i count
+Inv-loop bases returns n w list₀ count₀ i₀ list count i = (i ≤ n) × (length list ≡ length list₀) × Originals bases returns list i w count
 
 abbrev μ-loop : tie.MeasureT-loop
-μ-loop bases n list₀ count₀ i₀ list count i = n - i
+μ-loop bases returns n w list₀ count₀ i₀ list count i = n - i
 
 loop-holds : tie.Need-loop-holds Inv-loop μ-loop
-loop-holds c = let a = c .before .before .args in (omega arith, refl, originals-none (a .bases .now) (a .list .now))
+loop-holds c = let a = c .before .before .before .args in (omega arith, refl, originals-none (a .bases .now) (a .returns .now) (a .list .now) (a .w))
+
+mul-if2 : tie.Need-mul-if2 Inv-loop μ-loop
+mul-if2 c = omega (arith, c .before .before .before .before .before .before .before .pre .1, c .before .before .loop-test .taken)
+
+add-if2 : tie.Need-add-if2 Inv-loop μ-loop
+add-if2 c =
+    let pre = c .before .before .before .before .before .before .before .pre in
+    omega (arith, pre .1, pre .3, c .before .before .loop-test .taken)
+
+mul-if2-2 : tie.Need-mul-if2-2 Inv-loop μ-loop
+mul-if2-2 c =
+    let pre = c .before .before .before .before .before .before .before .pre in
+    omega (arith, pre .1, pre .3, c .before .before .loop-test .taken)
+
+shared-slice-read-if2 : tie.Need-shared-slice-read-if2 Inv-loop μ-loop
+shared-slice-read-if2 c =
+    let pre = c .before .before .before .before .before .before .before .before .pre in
+    omega (arith, pre .2, pre .3, c .before .before .before .loop-test .taken)
 
 cast-list : tie.Need-cast-list Inv-loop μ-loop
-cast-list c = omega (arith, c .before .before .before .before .before .before .pre .1, c .before .before .loop-test .taken)
+cast-list c = omega (arith, c .before .before .before .before .before .before .before .before .before .pre .1, c .before .before .before .before .loop-test .taken)
 
 mul-list : tie.Need-mul-list Inv-loop μ-loop
-mul-list c = omega (arith, c .before .before .before .before .before .before .pre .1, c .before .before .loop-test .taken, c .before .before .before .loop .inv .2 .few)
+mul-list c = omega (arith, c .before .before .before .before .before .before .before .before .before .pre .1, c .before .before .before .before .loop-test .taken, c .before .before .before .before .before .loop .inv .2 .few)
 
 slice-write-list : tie.Need-slice-write-list Inv-loop μ-loop
 slice-write-list c =
-    let top = c .before .before .before .loop in
-    omega (arith, c .before .before .before .before .before .before .pre .0, c .before .before .loop-test .taken, top .inv .1, top .inv .2 .few)
+    let top = c .before .before .before .before .before .loop in
+    omega (arith, c .before .before .before .before .before .before .before .before .before .pre .0, c .before .before .before .before .loop-test .taken, top .inv .1, top .inv .2 .few)
 
 add-count : tie.Need-add-count Inv-loop μ-loop
-add-count c = omega (arith, c .before .before .before .before .before .before .pre .1, c .before .before .loop-test .taken, c .before .before .before .loop .inv .2 .few)
+add-count c = omega (arith, c .before .before .before .before .before .before .before .before .before .pre .1, c .before .before .before .before .loop-test .taken, c .before .before .before .before .before .loop .inv .2 .few)
 
 loop-again : tie.Need-loop-again Inv-loop μ-loop
 loop-again c =
-    let start = c .before .before .before .before .before .before in
+    let start = c .before .before .before .before .before .before .before in
     let bases = start .args .bases .now in
+    let returns = start .args .returns .now in
     let top = c .before .before .before .loop in
     let test = c .before .before .loop-test .taken in
+    let base = c .before .number-at .ensures .0 in
     let fit : top .count < length (top .list) = omega (arith, start .pre .0, test, top .inv .1, top .inv .2 .few) in
     ⊎-elim
-    (λ w. rw (w .1, w .2) (omega (arith, test), length-set (top .list) (top .count) (top .i) ∙ top .inv .1, originals-more bases (top .list) (top .i) (top .count) (top .inv .2) fit (sym (c .before .number-at .ensures .0) ∙ w .0 .taken)))
-    (λ w. rw (w .1, w .2) (omega (arith, test), top .inv .1, originals-skip bases (top .list) (top .i) (top .count) (top .inv .2) (λ e. w .0 .left (c .before .number-at .ensures .0 ∙ e))))
+    (λ v. rw (v .3, v .4) (omega (arith, test), length-set (top .list) (top .count) (top .i) ∙ top .inv .1, originals-more bases returns (top .list) (top .i) (start .args .w) (top .count) (top .inv .2) fit (sym base ∙ v .0 .taken)))
+    (⊎-elim
+    (λ v. rw (v .3, v .4) (omega (arith, test), top .inv .1, originals-skip bases returns (top .list) (top .i) (start .args .w) (top .count) (top .inv .2) (inr (v .2 .left))))
+    (λ v. rw (v .1, v .2) (omega (arith, test), top .inv .1, originals-skip bases returns (top .list) (top .i) (start .args .w) (top .count) (top .inv .2) (inl (λ e. v .0 .left (base ∙ e))))))
     (c .if1 .came)
 
 same-length : tie.Need-same-length Inv-loop μ-loop
@@ -50,7 +72,7 @@ same-length c = c .before .loop .inv .1
 
 returns : tie.Need-returns Inv-loop μ-loop
 returns c =
-    let all : c .before .loop .i ≡ c .before .before .before .before .args .n = omega (arith, c .before .loop .inv .0) in
+    let all : c .before .loop .i ≡ c .before .before .before .before .before .args .n = omega (arith, c .before .loop .inv .0) in
     rw all at (c .before .loop .inv .2)
 
 pub original-nodes-spec : {M : Type 1} → statement M
@@ -61,6 +83,10 @@ original-nodes-spec =
     μ-loop
     loop-holds
     (λ c κs. search needs)
+    mul-if2
+    add-if2
+    mul-if2-2
+    shared-slice-read-if2
     cast-list
     mul-list
     slice-write-list

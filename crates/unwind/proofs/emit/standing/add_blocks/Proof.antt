@@ -1,10 +1,10 @@
--- `add_blocks` meets its contract. The invariant: the hops of the blocks taken out are stored, and the ways out of the last of
--- them stand in scratch. Assumes nothing.
+-- `add_blocks` meets its contract. The invariant: the hops of the blocks taken out are stored, the ways out of the last of them
+-- stand in scratch, and the nodes of its word are listed. Assumes nothing.
 use mathlib.Core.Path.{_≡_, refl, sym, _∙_}
 use mathlib.Core.Bool.{false≢true}
 use mathlib.Core.Logic.{⊎-elim}
 use mathlib.Core.List.{[]}
-use Prim.Native.Nat.{_≤_, _<_}
+use Prim.Native.Nat.{_/_, _≤_, _<_}
 use native.Mathlib.Omega.{arith}
 use borrow.Author.Needs.{needs}
 use borrow.Author.Tests.{not-false}
@@ -15,6 +15,7 @@ use Rattle.image.proofs.Tables.{length-records}
 use Rattle.graph.specs.BlockSet.{sizeOf}
 use Rattle.graph.proofs.BlockLaws.{size-excluding}
 use Rattle.unwind.specs.Lent.{blockRecords, BlockHeld, blockHops}
+use Rattle.unwind.specs.Members.{Originals}
 use Rattle.unwind.proofs.AlikeLaws.{held-on}
 use Rattle.unwind.proofs.HeldLaws.{held-none, held-room, held-more, block-own}
 use Rattle.unwind.proofs.MemberLaws.{walked-below, SetHolding, holding-start, holding-here, holding-fit, holding-next, holding-end, busy-quiet, busy-below}
@@ -22,14 +23,16 @@ use Rattle.unwind.proofs.emit.standing.add_blocks.Statement.{statement}
 use Rattle.unwind.proofs.emit.standing.add_blocks.Tie as tie
 
 abbrev Inv-loop : tie.InvT-loop
-Inv-loop h₀ s y nodes edges ends heads landings roots guards bases returns stored blocks exits₀ routes left₀ originals listed worth turns last₀ n₀ h exits left last n =
+Inv-loop h₀ s y nodes edges ends heads landings roots guards bases returns stored blocks exits₀ routes left₀ worth turns originals₀ listed₀ last₀ n₀ h exits left originals listed last n =
     (length exits ≡ length exits₀)
     × SetHolding (routesIn s y) (blockHops (routesIn s y) nodes edges ends heads landings roots guards bases returns stored) (λ k. k) [] left₀ blocks left h₀ h
     × (last ≤ 1024)
     × (last < 1024 → BlockHeld (routesIn s y) last (blockRecords (routesIn s y) last nodes edges ends heads landings roots guards bases returns stored) edges ends exits exits n)
+    × (length originals ≡ 544)
+    × (last < 1024 → Originals bases returns originals (stored .nodes) (last / 64) listed)
 
 abbrev μ-loop : tie.MeasureT-loop
-μ-loop h₀ s y nodes edges ends heads landings roots guards bases returns stored blocks exits₀ routes left₀ originals listed worth turns last₀ n₀ h exits left last n = sizeOf left
+μ-loop h₀ s y nodes edges ends heads landings roots guards bases returns stored blocks exits₀ routes left₀ worth turns originals₀ listed₀ last₀ n₀ h exits left originals listed last n = sizeOf left
 
 busy-blocks-requires : tie.Need-busy-blocks-requires Inv-loop μ-loop
 busy-blocks-requires c κs =
@@ -37,109 +40,131 @@ busy-blocks-requires c κs =
     let count = length-records routeFrom (start .args .s .now) (start .args .y .routes) in
     (omega (arith, count, start .pre .6 .guards-fit), start .pre .6 .returns-fit)
 
+slice-aggregate-original-nodes : tie.Need-slice-aggregate-original-nodes Inv-loop μ-loop
+slice-aggregate-original-nodes c = sym (c .before .before .before .before .before .before .before .before .before .loop .inv .4)
+
 original-nodes-requires : tie.Need-original-nodes-requires Inv-loop μ-loop
 original-nodes-requires c κs =
-    let most = c .before .before .before .before .before .before .before .before .before .before .before .before .before .before .pre .1 .nodes-most in
-    (most, most)
+    let start = c .before .before .before .before .before .before .before .before .before .before .before .before .before .before .before .before .before .before .before .before .before .before .before .before .before in
+    let low = rw (c .before .before .before .before .before .b .given .1) at (c .before .before .before .before .before .before .before .lowest-in .ensures) in
+    let most = start .pre .1 .nodes-most in
+    (omega (arith, most, c .before .before .before .before .before .before .before .before .before .loop .inv .4), most, start .pre .6 .returns-fit, omega (arith, low .0))
 
 mark-turns-requires : tie.Need-mark-turns-requires Inv-loop μ-loop
 mark-turns-requires c κs =
-    let start = c .before .before .before .before .before .before .before .before .before .before .before .before .before .before .before .before .before .before .before .before in
-    (omega (arith, length-records routeFrom (start .args .s .now) (start .args .y .routes), start .pre .0 .routes-most), start .pre .2)
+    let start = c .before .before .before .before .before .before .before .before .before .before .before .before .before .before .before .before in
+    (omega (arith, length-records routeFrom (start .args .s .now) (start .args .y .routes), start .pre .0 .routes-most), omega (arith, start .pre .1 .nodes-most), start .pre .2)
+
+-- the nodes of the block's word are listed, now or for the last block
+listed : (c : tie.Joined2 Inv-loop μ-loop) → let a = c .before .before .before .before .before .before .before .before .before .before .before .before .before .before .before .before .before .before .before .before .before .before .before .before .args in (length (c .if2 .originals) ≡ 544) × Originals (a .bases .now) (a .returns .now) (c .if2 .originals) (a .stored .nodes) (c .before .before .before .before .b .given .0 .0 / 64) (c .if2 .listed)
+listed c =
+    let top = c .before .before .before .before .before .before .before .before .loop in
+    let low = rw (c .before .before .before .before .b .given .1) at (c .before .before .before .before .before .before .lowest-in .ensures) in
+    ⊎-elim
+    (λ w. rw (w .4, w .5) (w .2 .kept .1 .1 .1 .1 .0 ∙ top .inv .4, w .2 .ensures))
+    (λ w. rw (w .1, w .2, w .0 .left) (top .inv .4, top .inv .5 (omega (arith, low .0, w .0 .left))))
+    (c .if2 .came)
 
 -- what stands in scratch is gathered of this block, or of the last and the same
-gathered : (c : tie.Joined2 Inv-loop μ-loop) → let a = c .before .before .before .before .before .before .before .before .before .before .before .before .before .before .before .before .before .before .before .before .before .before .before .before .before .before .before .before .before .args in let m = routesIn (a .s .now) (a .y) in BlockHeld m (c .before .before .before .before .before .before .b .given .0 .0) (blockRecords m (c .before .before .before .before .before .before .b .given .0 .0) (a .nodes .now) (a .edges .now) (a .ends .now) (a .heads .now) (a .landings .now) (a .roots .now) (a .guards .now) (a .bases .now) (a .returns .now) (a .stored)) (a .edges .now) (a .ends .now) (c .before .before .before .before .before .before .before .before .before .before .loop .exits) (c .if2 .exits) (c .if2 .n)
+gathered : (c : tie.Joined3 Inv-loop μ-loop) → let a = c .before .before .before .before .before .before .before .before .before .before .before .before .before .before .before .before .before .before .before .before .before .before .before .before .before .before .before .args in let m = routesIn (a .s .now) (a .y) in BlockHeld m (c .before .before .before .before .before .before .before .b .given .0 .0) (blockRecords m (c .before .before .before .before .before .before .before .b .given .0 .0) (a .nodes .now) (a .edges .now) (a .ends .now) (a .heads .now) (a .landings .now) (a .roots .now) (a .guards .now) (a .bases .now) (a .returns .now) (a .stored)) (a .edges .now) (a .ends .now) (c .before .before .before .before .before .before .before .before .before .before .before .loop .exits) (c .if3 .exits) (c .if3 .n)
 gathered c =
     ⊎-elim
     (λ w. rw (w .6, w .7) (w .3 .ensures))
     (λ w.
-    let start = c .before .before .before .before .before .before .before .before .before .before .before .before .before .before .before .before .before .before .before .before .before .before .before .before .before .before .before .before .before in
+    let start = c .before .before .before .before .before .before .before .before .before .before .before .before .before .before .before .before .before .before .before .before .before .before .before .before .before .before .before in
     let a = start .args in
     let m = routesIn (a .s .now) (a .y) in
-    let top = c .before .before .before .before .before .before .before .before .before .before .loop in
-    let low = rw (c .before .before .before .before .before .before .b .given .1) at (c .before .before .before .before .before .before .before .before .lowest-in .ensures) in
+    let top = c .before .before .before .before .before .before .before .before .before .before .before .loop in
+    let low = rw (c .before .before .before .before .before .before .before .b .given .1) at (c .before .before .before .before .before .before .before .before .before .lowest-in .ensures) in
     let on = c .before .goes-on .ensures (not-false _ (w .0 .left)) in
     let next = on .next in
     let was = top .inv .3 (omega (arith, low .0)) in
     rw (w .1, w .2)
     record {
       long = refl;
-      holds = held-on m (a .nodes .now) (a .edges .now) (a .ends .now) (a .heads .now) (a .landings .now) (a .roots .now) (a .guards .now) (a .bases .now) (a .returns .now) _ (a .stored) _ (start .pre .1) (c .before .before .before .before .before .before .before .before .before .before .before .before .before .before .original-nodes .ensures) (c .before .before .before .before .before .before .before .before .before .before .before .before .is-worth .ensures (on .sought)) (top .last) _ (a .y .routes .count) (a .blocks) (c .before .before .before .before .before .before .before .before .before .before .before .if1 .turns) (length-records routeFrom (a .s .now) (a .y .routes)) (⊎-elim (λ v. rw (v .4) (v .3 .ensures)) (λ v. absurd (false≢true (sym (v .0 .left) ∙ on .sought))) (c .before .before .before .before .before .before .before .before .before .before .before .if1 .came)) on (walked-below (top .inv .1 .walked) _ low) (was .holds);
+      holds = held-on m (a .nodes .now) (a .edges .now) (a .ends .now) (a .heads .now) (a .landings .now) (a .roots .now) (a .guards .now) (a .bases .now) (a .returns .now) (a .stored) (start .pre .1) (c .before .before .before .before .before .before .before .before .before .before .before .before .before .is-worth .ensures (on .sought)) (top .last) _ (a .y .routes .count) (a .blocks) (c .before .before .before .before .before .before .before .before .before .before .before .before .if1 .turns) (length-records routeFrom (a .s .now) (a .y .routes)) (⊎-elim (λ v. rw (v .3) (v .2 .ensures)) (λ v. absurd (false≢true (sym (v .0 .left) ∙ on .sought))) (c .before .before .before .before .before .before .before .before .before .before .before .before .if1 .came)) on (walked-below (top .inv .1 .walked) _ low) (was .holds);
       most = was .most;
     })
-    (c .if2 .came)
+    (c .if3 .came)
 
 same-length : tie.Need-same-length Inv-loop μ-loop
 same-length c = c .before .before .before .before .loop .inv .0
 
 goes-on-requires : tie.Need-goes-on-requires Inv-loop μ-loop
-goes-on-requires c κs = c .before .before .before .before .before .before .before .before .loop .inv .2
+goes-on-requires c κs = c .before .before .before .before .before .before .before .before .before .loop .inv .2
+
+slice-aggregate-gather-block : tie.Need-slice-aggregate-gather-block Inv-loop μ-loop
+slice-aggregate-gather-block c = sym (listed (c .before .before .before .before) .0)
 
 gather-block-requires : tie.Need-gather-block-requires Inv-loop μ-loop
 gather-block-requires c κs =
-    let start = c .before .before .before .before .before .before .before .before .before .before .before .before .before .before .before .before .before .before .before .before .before .before .before .before .before .before .before .before .before .before .before in
-    let top = c .before .before .before .before .before .before .before .before .before .before .before .before .loop in
-    let low = rw (c .before .before .before .before .before .before .before .before .b .given .1) at (c .before .before .before .before .before .before .before .before .before .before .lowest-in .ensures) in
-    (start .pre .0, start .pre .1, omega (arith, low .0), omega (arith, start .pre .3 .room, top .inv .0), c .before .before .before .before .before .before .before .before .before .before .before .before .before .before .before .before .original-nodes .ensures)
+    let start = c .before .before .before .before .before .before .before .before .before .before .before .before .before .before .before .before .before .before .before .before .before .before .before .before .before .before .before .before .before in
+    let top = c .before .before .before .before .before .before .before .before .before .before .before .before .before .loop in
+    let low = rw (c .before .before .before .before .before .before .before .before .before .b .given .1) at (c .before .before .before .before .before .before .before .before .before .before .before .lowest-in .ensures) in
+    (start .pre .0, start .pre .1, omega (arith, low .0), omega (arith, start .pre .3 .room, top .inv .0), listed (c .before .before .before .before .before) .1)
 
 loop-less : tie.Need-loop-less Inv-loop μ-loop
 loop-less c =
-    let top = c .before .before .before .before .before .before .before .before .before .before .before .before .before .loop in
-    let low = rw (c .before .before .before .before .before .before .before .before .before .b .given .1) at (c .before .before .before .before .before .before .before .before .before .before .before .lowest-in .ensures) in
-    rw (c .before .before .before .before .before .before .take-from .ensures) (omega (arith, size-excluding (top .left) (top .inv .1 .walked .long) _ (low .0) (low .1)))
+    let top = c .before .before .before .before .before .before .before .before .before .before .before .before .before .before .loop in
+    let low = rw (c .before .before .before .before .before .before .before .before .before .before .b .given .1) at (c .before .before .before .before .before .before .before .before .before .before .before .before .lowest-in .ensures) in
+    rw (c .before .before .before .before .before .before .before .take-from .ensures) (omega (arith, size-excluding (top .left) (top .inv .1 .walked .long) _ (low .0) (low .1)))
 
 loop-holds : tie.Need-loop-holds Inv-loop μ-loop
 loop-holds c =
-    let start = c .before .before .before .before .before .before .before .before .before .before .before .before .before .before .before .before .before .before in
+    let start = c .before .before .before .before .before .before .before .before .before .before .before .before .before .before .before in
     let a = start .args in
     let m = routesIn (a .s .now) (a .y) in
-    let busy = c .before .before .before .before .before .busy-blocks in (
+    let busy = c .before .before .busy-blocks in (
       refl,
       holding-start m (blockHops m (a .nodes .now) (a .edges .now) (a .ends .now) (a .heads .now) (a .landings .now) (a .roots .now) (a .guards .now) (a .bases .now) (a .returns .now) (a .stored)) (λ k. k) [] (busy .result) (a .blocks) (a .h .now) (busy .ensures .long) (busy-below m (a .nodes .now) (a .edges .now) (a .ends .now) (a .heads .now) (a .landings .now) (a .roots .now) (a .guards .now) (a .bases .now) (a .returns .now) (a .stored) (a .y .routes .count) (length-records routeFrom (a .s .now) (a .y .routes)) (busy .result) (busy .ensures) (a .blocks) (start .pre .6)) (held-none m (a .h .now) (start .pre .4)),
       omega arith,
+      λ h. absurd (omega arith),
+      refl,
       λ h. absurd (omega arith),
     )
 
 returns : tie.Need-returns Inv-loop μ-loop
 returns c =
-    let start = c .before .before .before .before .before .before .before .before .before .before .before .before .before .before .before .before .before .before .before .before .before .before .before in
+    let start = c .before .before .before .before .before .before .before .before .before .before .before .before .before .before .before .before .before .before .before .before in
     let a = start .args in
     let m = routesIn (a .s .now) (a .y) in
-    let busy = c .before .before .before .before .before .before .before .before .before .before .busy-blocks in
+    let busy = c .before .before .before .before .before .before .before .busy-blocks in
     let top = c .before .before .before .before .loop in
     (holding-end m (blockHops m (a .nodes .now) (a .edges .now) (a .ends .now) (a .heads .now) (a .landings .now) (a .roots .now) (a .guards .now) (a .bases .now) (a .returns .now) (a .stored)) (λ k. k) [] (busy .result) (a .blocks) (busy-quiet m (a .nodes .now) (a .edges .now) (a .ends .now) (a .heads .now) (a .landings .now) (a .roots .now) (a .guards .now) (a .bases .now) (a .returns .now) (a .stored) (a .y .routes .count) (length-records routeFrom (a .s .now) (a .y .routes)) (busy .result) (busy .ensures)) (λ k n h. h) (top .inv .1) (rw (c .enum-told .given .1) at (c .before .before .lowest-in .ensures)), top .inv .0)
 
 add-exits-requires : tie.Need-add-exits-requires Inv-loop μ-loop
 add-exits-requires c κs =
-    let start = c .before .before .before .before .before .before .before .before .before .before .before .before .before .before .before .before .before .before .before .before .before .before .before .before .before .before .before .before .before .before .before in
+    let start = c .before .before .before .before .before .before .before .before .before .before .before .before .before .before .before .before .before .before .before .before .before .before .before .before .before .before .before .before .before in
     let a = start .args in
     let m = routesIn (a .s .now) (a .y) in
-    let busy = c .before .before .before .before .before .before .before .before .before .before .before .before .before .before .before .before .before .before .busy-blocks in
-    let top = c .before .before .before .before .before .before .before .before .before .before .before .before .loop in
-    let low = rw (c .before .before .before .before .before .before .before .before .b .given .1) at (c .before .before .before .before .before .before .before .before .before .before .lowest-in .ensures) in
+    let busy = c .before .before .before .before .before .before .before .before .before .before .before .before .before .before .before .before .busy-blocks in
+    let top = c .before .before .before .before .before .before .before .before .before .before .before .before .before .loop in
+    let low = rw (c .before .before .before .before .before .before .before .before .before .b .given .1) at (c .before .before .before .before .before .before .before .before .before .before .before .lowest-in .ensures) in
     let joined = c .before .before in
     let held = gathered joined in
-    let own = block-own m _ (a .nodes .now) (a .edges .now) (a .ends .now) (a .heads .now) (a .landings .now) (a .roots .now) (a .guards .now) (a .bases .now) (a .returns .now) (a .stored) _ (joined .if2 .n) (held .holds) in
+    let own = block-own m _ (a .nodes .now) (a .edges .now) (a .ends .now) (a .heads .now) (a .landings .now) (a .roots .now) (a .guards .now) (a .bases .now) (a .returns .now) (a .stored) _ (joined .if3 .n) (held .holds) in
     let here = holding-here m (blockHops m (a .nodes .now) (a .edges .now) (a .ends .now) (a .heads .now) (a .landings .now) (a .roots .now) (a .guards .now) (a .bases .now) (a .returns .now) (a .stored)) (λ k. k) [] (busy .result) (a .blocks) (busy-quiet m (a .nodes .now) (a .edges .now) (a .ends .now) (a .heads .now) (a .landings .now) (a .roots .now) (a .guards .now) (a .bases .now) (a .returns .now) (a .stored) (a .y .routes .count) (length-records routeFrom (a .s .now) (a .y .routes)) (busy .result) (busy .ensures)) (λ k n h. h) (top .inv .1) _ low in
-    held-room m _ here _ (joined .if2 .n) (holding-fit m (blockHops m (a .nodes .now) (a .edges .now) (a .ends .now) (a .heads .now) (a .landings .now) (a .roots .now) (a .guards .now) (a .bases .now) (a .returns .now) (a .stored)) (λ k. k) [] (busy .result) (a .blocks) (busy-quiet m (a .nodes .now) (a .edges .now) (a .ends .now) (a .heads .now) (a .landings .now) (a .roots .now) (a .guards .now) (a .bases .now) (a .returns .now) (a .stored) (a .y .routes .count) (length-records routeFrom (a .s .now) (a .y .routes)) (busy .result) (busy .ensures)) (λ k n h. h) (top .inv .1) _ low _ own (start .pre .5))
+    held-room m _ here _ (joined .if3 .n) (holding-fit m (blockHops m (a .nodes .now) (a .edges .now) (a .ends .now) (a .heads .now) (a .landings .now) (a .roots .now) (a .guards .now) (a .bases .now) (a .returns .now) (a .stored)) (λ k. k) [] (busy .result) (a .blocks) (busy-quiet m (a .nodes .now) (a .edges .now) (a .ends .now) (a .heads .now) (a .landings .now) (a .roots .now) (a .guards .now) (a .bases .now) (a .returns .now) (a .stored) (a .y .routes .count) (length-records routeFrom (a .s .now) (a .y .routes)) (busy .result) (busy .ensures)) (λ k n h. h) (top .inv .1) _ low _ own (start .pre .5))
 
 loop-again : tie.Need-loop-again Inv-loop μ-loop
 loop-again c =
-    let start = c .before .before .before .before .before .before .before .before .before .before .before .before .before .before .before .before .before .before .before .before .before .before .before .before .before .before .before .before .before .before .before .before in
+    let start = c .before .before .before .before .before .before .before .before .before .before .before .before .before .before .before .before .before .before .before .before .before .before .before .before .before .before .before .before .before .before in
     let a = start .args in
     let m = routesIn (a .s .now) (a .y) in
-    let busy = c .before .before .before .before .before .before .before .before .before .before .before .before .before .before .before .before .before .before .before .busy-blocks in
-    let top = c .before .before .before .before .before .before .before .before .before .before .before .before .before .loop in
-    let low = rw (c .before .before .before .before .before .before .before .before .before .b .given .1) at (c .before .before .before .before .before .before .before .before .before .before .before .lowest-in .ensures) in
+    let busy = c .before .before .before .before .before .before .before .before .before .before .before .before .before .before .before .before .before .busy-blocks in
+    let top = c .before .before .before .before .before .before .before .before .before .before .before .before .before .before .loop in
+    let low = rw (c .before .before .before .before .before .before .before .before .before .before .b .given .1) at (c .before .before .before .before .before .before .before .before .before .before .before .before .lowest-in .ensures) in
     let joined = c .before .before .before in
     let held = gathered joined in
-    let own = block-own m _ (a .nodes .now) (a .edges .now) (a .ends .now) (a .heads .now) (a .landings .now) (a .roots .now) (a .guards .now) (a .bases .now) (a .returns .now) (a .stored) _ (joined .if2 .n) (held .holds) in
+    let own = block-own m _ (a .nodes .now) (a .edges .now) (a .ends .now) (a .heads .now) (a .landings .now) (a .roots .now) (a .guards .now) (a .bases .now) (a .returns .now) (a .stored) _ (joined .if3 .n) (held .holds) in
     let here = holding-here m (blockHops m (a .nodes .now) (a .edges .now) (a .ends .now) (a .heads .now) (a .landings .now) (a .roots .now) (a .guards .now) (a .bases .now) (a .returns .now) (a .stored)) (λ k. k) [] (busy .result) (a .blocks) (busy-quiet m (a .nodes .now) (a .edges .now) (a .ends .now) (a .heads .now) (a .landings .now) (a .roots .now) (a .guards .now) (a .bases .now) (a .returns .now) (a .stored) (a .y .routes .count) (length-records routeFrom (a .s .now) (a .y .routes)) (busy .result) (busy .ensures)) (λ k n h. h) (top .inv .1) _ low in
-    rw (c .before .before .before .before .before .before .take-from .ensures) (
+    rw (c .before .before .before .before .before .before .before .take-from .ensures) (
       held .long ∙ top .inv .0,
-      holding-next m (blockHops m (a .nodes .now) (a .edges .now) (a .ends .now) (a .heads .now) (a .landings .now) (a .roots .now) (a .guards .now) (a .bases .now) (a .returns .now) (a .stored)) (λ k. k) [] (busy .result) (a .blocks) (busy-quiet m (a .nodes .now) (a .edges .now) (a .ends .now) (a .heads .now) (a .landings .now) (a .roots .now) (a .guards .now) (a .bases .now) (a .returns .now) (a .stored) (a .y .routes .count) (length-records routeFrom (a .s .now) (a .y .routes)) (busy .result) (busy .ensures)) (λ k n h. h) (top .inv .1) _ low _ own _ (omega arith) (held-more m _ here _ (joined .if2 .n) (c .add-exits .ensures)),
+      holding-next m (blockHops m (a .nodes .now) (a .edges .now) (a .ends .now) (a .heads .now) (a .landings .now) (a .roots .now) (a .guards .now) (a .bases .now) (a .returns .now) (a .stored)) (λ k. k) [] (busy .result) (a .blocks) (busy-quiet m (a .nodes .now) (a .edges .now) (a .ends .now) (a .heads .now) (a .landings .now) (a .roots .now) (a .guards .now) (a .bases .now) (a .returns .now) (a .stored) (a .y .routes .count) (length-records routeFrom (a .s .now) (a .y .routes)) (busy .result) (busy .ensures)) (λ k n h. h) (top .inv .1) _ low _ own _ (omega arith) (held-more m _ here _ (joined .if3 .n) (c .add-exits .ensures)),
       omega (arith, low .0),
       λ h. record { long = refl; holds = held .holds; most = held .most },
+      listed (c .before .before .before .before .before .before) .0,
+      λ h. listed (c .before .before .before .before .before .before) .1,
     )
 
 pub add-blocks-spec : {M : Type 1} → statement M
@@ -150,10 +175,7 @@ add-blocks-spec =
     μ-loop
     (λ c. search needs)
     busy-blocks-requires
-    (λ c. search needs)
-    original-nodes-requires
     (λ c κs. search needs)
-    (λ c. search needs)
     mark-turns-requires
     loop-holds
     (λ c κs. search needs)
@@ -162,8 +184,10 @@ add-blocks-spec =
     same-length
     returns
     (λ c κs. search needs)
+    slice-aggregate-original-nodes
+    original-nodes-requires
     goes-on-requires
-    (λ c. search needs)
+    slice-aggregate-gather-block
     gather-block-requires
     add-exits-requires
     loop-less
