@@ -1,6 +1,6 @@
 // The build of a graph, and its reached blocks: a refusal in document 01's numbers, and number 0 where there is none.
-use graph::build::Built;
-use graph::build::build;
+use builder::build::Built;
+use builder::build::build;
 use graph::error::AddressBuildError;
 use graph::error::Checked;
 use graph::reach::reached;

@@ -1,14 +1,13 @@
 -- The routes of an image, taken from the flat lists of paths and steps. `AcceptedRoutes` says that the counts add up.
+--     route, path, step                         the records as they stand in the image
 --     length-routes, route-is                   how many, and the route at r, with a run of the paths; length-paths
 --     paths-of, path-of, paths-in               its paths: how many, which, and that they stand among all
---     path-is, steps-of, step-of, steps-in      the same of a path's steps
+--     path-is, end-of                           a path, and its end
+--     steps-of, step-of, steps-in               its steps: how many, which, and that they stand among all
 --     paths-next, steps-next                    where the children of the next one start
 --     resumes-late, path-resumes, path-goes-on  15, path by path and step by step
---     route-check                               10 to 12, 15 and 14, path by path
---     path-entries                              14 of a path, step by step
---     step-names, step-calls                    14 of a step; end-names, end-leaves: of an end
 -- Assumes nothing.
-use mathlib.Core.Bool.{Bool, true, false, cond, not, _||_}
+use mathlib.Core.Bool.{Bool, true, false, cond, _||_}
 use mathlib.Core.Path.{_≡_, refl, sym, ap, _∙_}
 use mathlib.Core.List.{List, [], _∷_, _++_, map}
 use Prim.Native.Nat.{ℕ, zero, suc, _+_, _<_, _≤_}
@@ -20,20 +19,15 @@ use lib.Dec.{eqb}
 use lib.ListN.{length, getD, length-map}
 use Rattle.image.specs.Record.{routeFrom, pathFrom, stepFrom}
 use Rattle.image.specs.Image.{RouteImage}
-use Rattle.image.specs.Refusal.{Check, clear, refused, refusal, _then_, unless}
-use Rattle.image.specs.Deal.{total, deal, UnwindStep, funclet, call, propagate, resume, UnwindPath, UnwindRoute, stepOf, endOf, pathsOf, routesOf}
+use Rattle.image.specs.Deal.{total, deal, UnwindStep, funclet, call, resume, UnwindPath, UnwindRoute, stepOf, endOf, pathsOf, routesOf}
 use Rattle.image.specs.Accepted.{AcceptedRoutes}
 use Rattle.image.specs.declared.record.Route.{Route}
 use Rattle.image.specs.declared.record.Path.{Path}
 use Rattle.image.specs.declared.record.Step.{Step}
 use Rattle.image.proofs.Deals.{length-zip, zip-at, length-deal, dealt-at, dealt-in, length-dealt}
-use Rattle.graph.specs.declared.record.TableEntry.{TableEntry}
-use Rattle.graph.specs.Fold.{flat, some, checks, checkEach}
-use Rattle.graph.specs.Table.{rangeCheck}
-use Rattle.graph.specs.Route.{routeAt, pathAt, funcletOf, funclets, resumesAfter, resumesLate, handlerOf, entries, routeCheck, pathsBefore, stepsBefore, pathIn}
-use Rattle.graph.specs.Ranges.{namedCheck, pathCheck}
+use Rattle.graph.specs.Fold.{flat, some}
+use Rattle.graph.specs.Route.{routeAt, pathAt, funcletOf, funclets, resumesAfter, resumesLate, pathsBefore, stepsBefore, pathIn}
 use Rattle.graph.proofs.FoldLaws.{some-same}
-use Rattle.graph.proofs.CheckLaws.{checks-same, each-append, each-flat}
 
 map-at : {A B : Type 0} (f : A → B) (l : List A) (i : ℕ) (a : A) (b : B) → i < length l → getD (map f l) i b ≡ f (getD l i a)
 map-at f [] i a b h = absurd (omega arith)
@@ -43,38 +37,6 @@ map-at f (x ∷ l) (suc i) a b h = map-at f l i a b (omega arith)
 -- 15 of one path
 abbrev pub resumesIn : RouteImage → ℕ → Bool
 resumesIn m p = resumesAfter (funclets (pathIn m p)) (pathIn m p .end)
-
--- 14 of one step, and of a path's end
-abbrev pub stepCheck : List TableEntry → Step → Check
-stepCheck t s = checkEach (namedCheck t) (funcletOf (stepOf s))
-
-abbrev pub endCheck : List TableEntry → Path → Check
-endCheck t p = checkEach (namedCheck t) (handlerOf (endOf p))
-
-then-clear : (c : Check) → (c then clear) ≡ c
-then-clear clear = refl
-then-clear (refused r) = refl
-
-module _ (t : List TableEntry) where
-  pub step-names : (s : Step) → s .code ≡ 0 → stepCheck t s ≡ namedCheck t (s .value)
-  unfolding stepOf checkEach
-  step-names s e = rw (eq-eqb (s .code) 0 e) (then-clear (namedCheck t (s .value)))
-
-  pub step-calls : (s : Step) → (s .code ≡ 0 → ⊥) → stepCheck t s ≡ clear
-  unfolding stepOf checkEach
-  step-calls s other = rw (ne-eqb (s .code) 0 other)
-
-  pub end-names : (p : Path) → p .end ≡ 0 → endCheck t p ≡ namedCheck t (p .handler)
-  unfolding endOf checkEach
-  end-names p e = rw (eq-eqb (p .end) 0 e) (then-clear (namedCheck t (p .handler)))
-
-  pub end-leaves : (p : Path) → (p .end ≡ 0 → ⊥) → endCheck t p ≡ clear
-  unfolding endOf checkEach
-  end-leaves p other = rw (ne-eqb (p .end) 0 other) (go (eqb (p .end) 1))
-    where
-      go : (b : Bool) → checkEach (namedCheck t) (handlerOf (cond b propagate resume)) ≡ clear
-      go true = refl
-      go false = refl
 
 -- whether a list of steps enters a funclet, step by step
 enters-append : (l k : List ℕ) → resumesAfter (l ++ k) resume ≡ (resumesAfter l resume || resumesAfter k resume)
@@ -104,13 +66,13 @@ goes-on p l most other =
 
 module _ (m : RouteImage) where
   -- the records as they stand in the image, and the children dealt to them
-  abbrev route : ℕ → Route
+  abbrev pub route : ℕ → Route
   route r = getD (m .routes) r (routeFrom [] 0)
 
-  abbrev path : ℕ → Path
+  abbrev pub path : ℕ → Path
   path p = getD (m .paths) p (pathFrom [] 0)
 
-  abbrev step : ℕ → Step
+  abbrev pub step : ℕ → Step
   step j = getD (m .steps) j (stepFrom [] 0)
 
   abbrev dealtPaths : List (List UnwindPath)
@@ -167,14 +129,6 @@ module _ (m : RouteImage) where
       unfolding resumesLate
       resumes-late = rw paths-of (some-same _ _ (route r .paths) (λ k hk. ap (λ (x : UnwindPath). resumesAfter (funclets x) (x .end)) (path-of k hk)))
 
-      entries-of : (t : List TableEntry) → checkEach (namedCheck t) (entries (routeAt (routesOf m) r)) ≡ checks (λ (k : ℕ). pathCheck t (pathIn m (pathsBefore m r + k))) (route r .paths)
-      unfolding entries
-      entries-of t = each-flat _ _ _ ∙ rw paths-of (checks-same _ _ (route r .paths) (λ k hk. ap (pathCheck t) (path-of k hk)))
-
-      pub route-check : (t : List TableEntry) → routeCheck t (routesOf m) r ≡ (rangeCheck t (route r .start) (route r .end) then unless (not (resumesLate (routeAt (routesOf m) r))) (refusal 15 r 0) then checks (λ (k : ℕ). pathCheck t (pathIn m (pathsBefore m r + k))) (route r .paths))
-      unfolding routeCheck
-      route-check t = rw (ap (λ (x : UnwindRoute). x .start) (route-is r h), ap (λ (x : UnwindRoute). x .end) (route-is r h), entries-of t)
-
     module _ (p : ℕ) (h : p < length (m .paths)) where
       dealt : length (getD dealtSteps p []) ≡ path p .steps
       dealt = length-dealt (λ (p : Path). p .steps) (pathFrom [] 0) refl (m .paths) (m .steps) (ok .steps-add) p h
@@ -193,7 +147,7 @@ module _ (m : RouteImage) where
       unfolding stepsBefore
       steps-in = dealt-in (λ (p : Path). p .steps) (pathFrom [] 0) refl (m .paths) (m .steps) (ok .steps-add) p h
 
-      end-of : pathIn m p .end ≡ endOf (path p)
+      pub end-of : pathIn m p .end ≡ endOf (path p)
       end-of = ap (λ (x : UnwindPath). x .end) (path-is p h)
 
       -- Resume after any funclet, and any other end
@@ -207,9 +161,3 @@ module _ (m : RouteImage) where
       pub path-goes-on : (path p .end ≡ 2 → ⊥) → resumesIn m p ≡ false
       unfolding endOf
       path-goes-on other = rw end-of (goes-on (path p) (funclets (pathIn m p)) (ok .ends p) other)
-
-      pub path-entries : (t : List TableEntry) → pathCheck t (pathIn m p) ≡ (checks (λ (j : ℕ). stepCheck t (step (stepsBefore m p + j))) (path p .steps) then endCheck t (path p))
-      unfolding funclets
-      path-entries t =
-          each-append _ (funclets (pathIn m p)) (handlerOf (pathIn m p .end))
-          ∙ rw (end-of, each-flat, steps-of) (ap (λ (c : Check). c then endCheck t (path p)) (checks-same _ _ (path p .steps) (λ j hj. ap (λ (x : UnwindStep). checkEach (namedCheck t) (funcletOf x)) (step-of j hj))))

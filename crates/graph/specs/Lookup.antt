@@ -8,8 +8,8 @@ use Rattle.image.specs.Record.{instructionFrom}
 use Rattle.image.specs.Image.{recordsIn}
 use Rattle.image.specs.declared.section.Section.{Section}
 use Rattle.graph.specs.declared.record.TableEntry.{TableEntry}
-use Rattle.graph.specs.declared.lookup.Found.{Found}
-use Rattle.graph.specs.declared.lookup.Found.the-variants.{At, Nothing}
+use Rattle.graph.specs.declared.found.Found.{Found}
+use Rattle.graph.specs.declared.found.Found.the-variants.{At, Nothing}
 use Rattle.graph.specs.Table.{entryAt, isStart, below}
 use Rattle.graph.specs.Transfer.{entriesOf}
 

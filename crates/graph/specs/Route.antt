@@ -1,11 +1,13 @@
 -- Routes: what they name, and which are refused. `route.rs`.
 use mathlib.Core.Bool.{Bool, true, false, not, _&&_}
+use mathlib.Core.Path.{_≡_}
 use mathlib.Core.List.{List, [], _∷_, _++_}
-use Prim.Native.Nat.{ℕ}
+use Prim.Native.Nat.{ℕ, _<_}
 use lib.ListN.{length, getD}
 use Rattle.image.specs.Record.{routeFrom, pathFrom}
 use Rattle.image.specs.Image.{RouteImage}
 use Rattle.image.specs.Deal.{total, UnwindStep, funclet, call, UnwindEnd, handler, propagate, resume, UnwindPath, UnwindRoute, pathsOf}
+use Rattle.image.specs.Accepted.{AcceptedRoutes}
 use Rattle.image.specs.Refusal.{Check, refusal, _then_, unless}
 use Rattle.graph.specs.declared.record.TableEntry.{TableEntry}
 use Rattle.graph.specs.Fold.{flat, some, checkEach}
@@ -61,3 +63,7 @@ stepsBefore m p = total (λ q. getD (m .paths) q (pathFrom [] 0) .steps) p
 -- the path at a place among all
 abbrev pub pathIn : RouteImage → ℕ → UnwindPath
 pathIn m p = getD (pathsOf m) p (record { steps = []; end = propagate })
+
+-- the paths of route r start at `path` among all, and their steps at `step`
+abbrev pub Placed : RouteImage → ℕ → ℕ → ℕ → Type 0
+Placed m r path step = AcceptedRoutes m × (r < length (m .routes)) × (path ≡ pathsBefore m r) × (step ≡ stepsBefore m path)

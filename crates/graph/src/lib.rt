@@ -1,25 +1,9 @@
-// The control flow graph of a sequence: its store, the three builds, its own rule (21) and what is reached.
-mod blocks;
+// The control flow graph of a sequence: its store, its own rule (21) and what is reached; what a build gives is defined here too.
 pub mod blockset;
-pub mod build;
-mod calls;
-mod checks;
-mod continuations;
-mod cursor;
-mod drafts;
-mod edge_count;
-mod edges;
 pub mod error;
-mod exceptions;
-mod leaders;
-pub mod lookup;
-mod marks;
-mod ranges;
+pub mod found;
 pub mod reach;
 pub mod record;
-mod regions;
 pub mod resume;
-mod route;
 pub mod rule;
 pub mod store;
-mod transfer;

@@ -6,8 +6,7 @@ use image::section::RouteLayout;
 ghost use mathlib.Core.Path.{_≡_};
 ghost use Rattle.image.specs.Image.{routesIn};
 ghost use Rattle.image.specs.Deal.{routesOf};
-ghost use Rattle.graph.specs.Route.{routeAt, resumesLate};
-ghost use Rattle.graph.specs.Ranges.{Placed};
+ghost use Rattle.graph.specs.Route.{routeAt, resumesLate, Placed};
 
 // 'path end and step code count from 0 in their enums' order'
 pub const HANDLER: u64 = 0;

@@ -1,6 +1,6 @@
 // The graph and the hops that a chart shows: the build of an image and, in modes 1 and 2, the addition of its routes.
-use graph::build::Built;
-use graph::build::build;
+use builder::build::Built;
+use builder::build::build;
 use graph::error::AddressBuildError;
 use graph::store::Words;
 use image::little::byte_at;

@@ -20,8 +20,7 @@ use Rattle.graph.proofs.SectionLaws.{size-most}
 use Rattle.graph.proofs.RecordLaws.{unresolved-count, call-count}
 use Rattle.graph.proofs.RuleLaws as rule
 use Rattle.graph.proofs.StoredLaws.{stored-then, all-held}
-use Rattle.graph.proofs.AddingLaws.{adding-held}
-use Rattle.graph.proofs.LaidLaws.{blocks-held}
+use Rattle.graph.proofs.AddingLaws.{adding-held, blocks-held}
 use Rattle.addition.specs.Add.{extended}
 
 -- a graph with more edges

@@ -29,8 +29,7 @@ use Rattle.graph.specs.Stored.{more, edgesIn, blocksIn, withBlock, withEdge, St
 use Rattle.graph.specs.Adding.{mores, adding, withBlocks, Added}
 use Rattle.graph.proofs.FoldLaws.{flat-more}
 use Rattle.graph.proofs.BlockLaws.{member-excluding, length-excluding}
-use Rattle.graph.proofs.AddingLaws.{added-none, added-then, edge-added}
-use Rattle.graph.proofs.LaidLaws.{blocks-none, blocks-then, block-one}
+use Rattle.graph.proofs.AddingLaws.{added-none, added-then, edge-added, blocks-none, blocks-then, block-one}
 use Rattle.addition.specs.Lists.{joined, upto}
 use Rattle.addition.specs.Part.{outgoing}
 use Rattle.unwind.specs.Placed.{setAt}

@@ -1,7 +1,7 @@
 // Look-up in a graph's own table and among its built blocks, which stand in the table's order.
 use crate::tries::store::number_at;
 use graph::blockset::put_in;
-use graph::lookup::Found;
+use graph::found::Found;
 use graph::record::TableEntry;
 use graph::store::Words;
 use graph::store::blocks::block_at;

@@ -1,0 +1,17 @@
+pub mod DraftLaws
+pub mod RegionLaws
+pub mod ExceptionLaws
+pub mod CursorLaws
+pub mod ScanLaws
+pub mod TransferLaws
+pub mod GivenLaws
+pub mod RouteChecks
+pub mod EdgeLaws
+pub mod CountLaws
+pub mod MarkLaws
+pub mod FlowLaws
+pub mod RouteMarks
+pub mod LaidLaws
+pub mod BoundLaws
+pub mod BuildLaws
+pub mod ContinuationLaws

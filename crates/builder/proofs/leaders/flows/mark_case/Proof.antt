@@ -1,0 +1,26 @@
+-- The start that it names. Assumes nothing.
+use mathlib.Core.Path.{ap}
+use lib.Dec.{eqb}
+use Rattle.image.specs.Image.{imageIn}
+use Rattle.image.specs.declared.record.Case.{Case}
+use Rattle.graph.specs.Transfer.{addressAt}
+use Rattle.builder.specs.Marks.{caseTarget}
+use Rattle.builder.proofs.MarkLaws.{few, mark-as, mark-lead}
+use borrow.Author.Needs.{needs}
+use Rattle.builder.proofs.leaders.flows.mark_case.Statement.{statement}
+use Rattle.builder.proofs.leaders.flows.mark_case.Tie as tie
+
+case-at-requires : tie.Need-case-at-requires
+case-at-requires c κs = search needs
+
+mark-target-requires : tie.Need-mark-target-requires
+mark-target-requires c κs = let start = c .before .before .before .before .before .before in (start .pre .sourced .rising, few _ _ (start .pre))
+
+returns : tie.Need-returns
+returns c =
+    let a = c .before .before .before .before .before .before .before .args in
+    let m = imageIn (a .s .now) (a .y) in
+    mark-as (caseTarget m (a .k)) (λ p h. ap (λ (x : Case). eqb (x .target) (addressAt m p)) (c .before .before .case-at .ensures)) (mark-lead m _ (c .mark-target .ensures))
+
+pub mark-case-spec : {M : Type 1} → statement M
+mark-case-spec = tie.close (tie.spec case-at-requires mark-target-requires returns)

@@ -1,0 +1,45 @@
+-- One collector after the other, from no mark on; without a handler or a route those have nothing to mark. Assumes nothing.
+use Rattle.builder.proofs.MarkLaws.{leading, no-handlers, no-routes}
+use Rattle.builder.proofs.leaders.leaders.Statement.{statement}
+use Rattle.builder.proofs.leaders.leaders.Tie as tie
+
+mark-code-requires : tie.Need-mark-code-requires
+mark-code-requires c κs = c .before .before .before .before .pre .0
+
+returns : tie.Need-returns
+returns c =
+    let start = c .before .before .before .before .before .before .before .before .before in
+    leading (start .args .s .now) (start .args .y) (start .pre .0) (c .before .before .before .before .mark-code .ensures)
+    (no-handlers (start .args .s .now) (start .args .y) (c .if2 .taken)) (no-routes (start .args .s .now) (start .args .y) (c .before .before .if1 .taken))
+
+mark-handlers-requires : tie.Need-mark-handlers-requires
+mark-handlers-requires c κs = let start = c .before .before .before .before .before .before .before .before .before in (start .pre .0, start .pre .1)
+
+returns-2 : tie.Need-returns-2
+returns-2 c =
+    let start = c .before .before .before .before .before .before .before .before .before .before in
+    leading (start .args .s .now) (start .args .y) (start .pre .0) (c .before .before .before .before .before .mark-code .ensures) (c .mark-handlers .ensures)
+    (no-routes (start .args .s .now) (start .args .y) (c .before .before .before .if1 .taken))
+
+mark-handlers-requires-2 : tie.Need-mark-handlers-requires-2
+mark-handlers-requires-2 c κs = let start = c .before .before .before .before .before .before .before in (start .pre .0, start .pre .1)
+
+mark-routes-requires : tie.Need-mark-routes-requires
+mark-routes-requires c κs = let start = c .before .before .before .before .before .before .before .before in (start .pre .0, start .pre .1)
+
+returns-3 : tie.Need-returns-3
+returns-3 c =
+    let start = c .before .before .before .before .before .before .before .before .before in
+    leading (start .args .s .now) (start .args .y) (start .pre .0) (c .before .before .before .before .mark-code .ensures) (c .before .mark-handlers2 .ensures) (c .mark-routes .ensures)
+
+pub leaders-spec : {M : Type 1} → statement M
+leaders-spec =
+    tie.close
+    (tie.spec
+    mark-code-requires
+    returns
+    mark-handlers-requires
+    returns-2
+    mark-handlers-requires-2
+    mark-routes-requires
+    returns-3)

@@ -1,0 +1,82 @@
+-- The entry first. The invariant: the cursor stands at q, and the marks are those of the instructions before. Assumes nothing.
+use mathlib.Core.Path.{_≡_, sym, ap, _∙_}
+use Prim.Native.Nat.{ℕ, _≤_, _-_}
+use Rattle.image.specs.Record.{instructionFrom}
+use Rattle.image.specs.Image.{imageIn}
+use Rattle.image.proofs.Tables.{length-records}
+use Rattle.graph.specs.Fold.{some}
+use Rattle.graph.specs.Transfer.{size}
+use Rattle.builder.specs.declared.cursor.Cursor.{Cursor}
+use Rattle.builder.specs.Cursor.{cursorAt}
+use Rattle.builder.specs.Marks.{Marked, visitMark}
+use Rattle.builder.proofs.MarkLaws.{marks-none, marks-more, mark-then, any-routes}
+use Rattle.builder.proofs.FlowLaws.{visits-all}
+use native.Mathlib.Omega.{arith}
+use borrow.Author.Needs.{needs}
+use Rattle.builder.proofs.leaders.mark_code.Statement.{statement}
+use Rattle.builder.proofs.leaders.mark_code.Tie as tie
+
+abbrev Inv-loop : tie.InvT-loop
+Inv-loop s y hints marks₀ n routed c₀ q₀ marks c q =
+    (q ≤ n) × (c ≡ cursorAt (imageIn s y) q) × Marked (y .code .instructions .count) (λ p. some (λ i. visitMark (imageIn s y) i p) q) marks₀ marks
+
+abbrev μ-loop : tie.MeasureT-loop
+μ-loop s y hints marks₀ n routed c₀ q₀ marks c q = n - q
+
+mark-entry-requires : tie.Need-mark-entry-requires Inv-loop μ-loop
+mark-entry-requires c κs = c .before .before .before .pre
+
+cast-n : tie.Need-cast-n Inv-loop μ-loop
+cast-n c = search needs
+
+cursor-start-requires : tie.Need-cursor-start-requires Inv-loop μ-loop
+cursor-start-requires c κs = search needs
+
+loop-holds : tie.Need-loop-holds Inv-loop μ-loop
+loop-holds c = (search needs, c .cursor-start .ensures (imageIn _ _), marks-none (visitMark (imageIn _ _)))
+
+mark-visit-requires : tie.Need-mark-visit-requires Inv-loop μ-loop
+mark-visit-requires c κs =
+    let start = c .before .before .before .before .before .before .before .before .before .before in
+    let a = start .args in
+    let top = c .before .before .loop in
+    let at = ap (λ (x : Cursor). x .at) (top .inv .1) in
+    (start .pre, top .inv .1 ∙ ap (λ (q : ℕ). cursorAt (imageIn (a .s .now) (a .y)) q) (sym at), omega (arith, at, c .before .loop-test .taken), rw (any-routes (a .s .now) (a .y)))
+
+add-q : tie.Need-add-q Inv-loop μ-loop
+add-q c = omega (arith, c .before .before, c .before .before .before .before .before .before .struct-known)
+
+loop-less : tie.Need-loop-less Inv-loop μ-loop
+loop-less c = search needs
+
+loop-again : tie.Need-loop-again Inv-loop μ-loop
+loop-again c =
+    let top = c .before .before .before .loop in
+    let at = ap (λ (x : Cursor). x .at) (top .inv .1) in
+    let visited = rw at at (c .mark-visit .ensures) in
+    (search needs, visited .0, marks-more (visitMark (imageIn _ _)) (top .q) (top .inv .2) (visited .1))
+
+returns : tie.Need-returns Inv-loop μ-loop
+returns c =
+    let end = c .before .loop in
+    let a = c .before .before .before .before .before .before .before .before .before .args in
+    let m = imageIn (a .s .now) (a .y) in
+    let size-is = length-records instructionFrom (a .s .now) (a .y .code .instructions) in
+    let all : end .q ≡ size m = omega (arith, size-is) in
+    mark-then (c .before .before .before .before .before .mark-entry .ensures) (visits-all m (end .q) all (sym size-is) (end .inv .2))
+
+pub mark-code-spec : {M : Type 1} → statement M
+mark-code-spec =
+    tie.close
+    (tie.spec
+    Inv-loop
+    μ-loop
+    mark-entry-requires
+    cast-n
+    cursor-start-requires
+    loop-holds
+    mark-visit-requires
+    add-q
+    loop-less
+    loop-again
+    returns)

@@ -1,0 +1,120 @@
+// A scan of the table: each instruction with what is given for it, and where its cases and given edges stand.
+//
+// The cursor is carried along, so that no position is counted anew.
+use crate::lookup::record_at;
+use image::access::source_at;
+use image::little::octet;
+use image::little::quad;
+use image::record::GivenSource;
+use image::record::Instruction;
+use image::section::Layout;
+use image::section::Section;
+use image::section::place;
+ghost use mathlib.Core.List.{[]};
+ghost use mathlib.Core.Path.{_≡_};
+ghost use Prim.Native.Nat.{_+_, _<_, _≤_};
+ghost use lib.ListN.{getD};
+ghost use Rattle.image.specs.Image.{Image, recordsIn, imageIn};
+ghost use Rattle.image.specs.Record.{sourceFrom};
+ghost use Rattle.builder.specs.Cursor.{Sourced, cursorAt, givenHere, visitAt, after};
+
+// Position `at` of the table. The cases of its instruction stand from `case` on. `source` is the first given source that
+// does not stand before it, and that one's edges stand from `edge` on.
+pub struct Cursor {
+    pub at: usize,
+    pub case: usize,
+    pub source: usize,
+    pub edge: usize,
+}
+
+// Where an instruction leads: along so many given edges, or as its flow says.
+pub enum Given {
+    Edges(usize),
+    Flow,
+}
+
+// The instruction at a cursor, and the cursor behind it.
+pub struct Visit {
+    pub instruction: Instruction,
+    pub given: Given,
+    pub next: Cursor,
+}
+
+pub fn cursor_start() -> Cursor
+    ensures { λ r. ⌜ ((m : Image) → r ≡ cursorAt m 0) ⌝ }
+{
+    Cursor {
+        at: 0,
+        case: 0,
+        source: 0,
+        edge: 0,
+    }
+}
+
+// A scan that every build makes does these three steps in its own loop instead: a `Visit` that is handed over costs more than
+// what is done with it.
+pub fn visit_at(s: &[u8], y: Layout, c: Cursor) -> Visit
+    requires { ⌜ Sourced (imageIn (now s) y) × (c ≡ cursorAt (imageIn (now s) y) (c .at)) × (c .at < y .code .instructions .count) ⌝ }
+    ensures { λ r. ⌜ r ≡ visitAt (imageIn (now (s .entry)) y) (c .at) ⌝ }
+{
+    let code = y.code;
+    let at = c.at;
+    let instruction = record_at(s, code.instructions, at);
+    let given = given_at(s, code.sources, c.source, instruction.address);
+    let next = cursor_after(c, instruction.cases, given);
+    Visit {
+        instruction,
+        given,
+        next,
+    }
+}
+
+pub fn given_at(s: &[u8], sources: Section, i: usize, address: u64) -> Given
+    ensures { λ r. ⌜ r ≡ givenHere (recordsIn sourceFrom (now (s .entry)) sources) i address ⌝ }
+{
+    let count = sources.count as usize;
+    if i < count {
+        let source = given_source(s, sources, i);
+        if source.address == address {
+            return Given::Edges(source.edges);
+        }
+    }
+    Given::Flow
+}
+
+// Source i: each field is one load, where all its bytes are there.
+fn given_source(s: &[u8], sources: Section, i: usize) -> GivenSource
+    requires { ⌜ i < sources .count ⌝ }
+    ensures { λ r. ⌜ r ≡ getD (recordsIn sourceFrom (now (s .entry)) sources) i (sourceFrom [] 0) ⌝ }
+{
+    let at = place(sources, i);
+    if s.len() < at + 12 {
+        return source_at(s, sources, i);
+    }
+    GivenSource {
+        address: octet(s, at),
+        edges: quad(s, at + 8) as usize,
+    }
+}
+
+pub fn cursor_after(c: Cursor, cases: usize, given: Given) -> Cursor
+    requires { ⌜ (c .at < 512) × (c .case + cases ≤ 512) × (after c cases given .source ≤ 512) × (after c cases given .edge ≤ 512) ⌝ }
+    ensures { λ r. ⌜ r ≡ after c cases given ⌝ }
+{
+    let at = c.at + 1;
+    let case = c.case + cases;
+    match given {
+        Given::Edges(edges) => Cursor {
+            at,
+            case,
+            source: c.source + 1,
+            edge: c.edge + edges,
+        },
+        Given::Flow => Cursor {
+            at,
+            case,
+            source: c.source,
+            edge: c.edge,
+        },
+    }
+}

@@ -1,0 +1,127 @@
+// Marks of the routes: what they protect, and the funclets and handlers that their paths name.
+use crate::marks::mark_range;
+use crate::marks::mark_target_if;
+use image::access::path_at;
+use image::access::route_at;
+use image::access::step_at;
+use image::section::Layout;
+ghost use mathlib.Core.Path.{_≡_};
+ghost use Prim.Native.Nat.{_<_};
+ghost use Rattle.image.specs.Image.{imageIn};
+ghost use Rattle.graph.specs.Table.{codeEnd};
+ghost use Rattle.graph.specs.Transfer.{tableOf};
+ghost use Rattle.graph.specs.Leaders.{routeMark};
+ghost use Rattle.builder.specs.Marks.{Marked, Passed, routeRange, routeRangeMark, stepMark, funcletMark, pathMark, pathEndMark};
+
+const FUNCLET: u64 = 0;
+
+const HANDLER: u64 = 0;
+
+pub fn mark_routes(
+    marks: [bool; 512],
+    s: &[u8],
+    y: Layout,
+    hints: &[u16],
+    code_end: u64,
+) -> [bool; 512]
+    requires { ⌜ Passed (imageIn (now s) y) × («code_end» ≡ codeEnd (tableOf (imageIn (now s) y))) ⌝ }
+    ensures { λ r. ⌜ Marked (y .code .instructions .count) (routeMark (imageIn (now (s .entry)) y)) marks r ⌝ }
+{
+    let marks = mark_route_ranges(marks, s, y, hints, code_end);
+    let marks = mark_funclets(marks, s, y, hints);
+    mark_path_ends(marks, s, y, hints)
+}
+
+fn mark_route_ranges(
+    mut marks: [bool; 512],
+    s: &[u8],
+    y: Layout,
+    hints: &[u16],
+    code_end: u64,
+) -> [bool; 512]
+    requires { ⌜ Passed (imageIn (now s) y) × («code_end» ≡ codeEnd (tableOf (imageIn (now s) y))) ⌝ }
+    ensures { λ r. ⌜ Marked (y .code .instructions .count) (routeRangeMark (imageIn (now (s .entry)) y)) marks r ⌝ }
+{
+    let n = y.routes.routes.count as usize;
+    for r in 0..n {
+        mark_route_range(&mut marks, s, y, hints, code_end, r);
+    }
+    marks
+}
+
+fn mark_route_range(
+    marks: &mut [bool; 512],
+    s: &[u8],
+    y: Layout,
+    hints: &[u16],
+    code_end: u64,
+    r: usize,
+)
+    requires { ⌜ Passed (imageIn (now s) y) × («code_end» ≡ codeEnd (tableOf (imageIn (now s) y))) × (r < y .routes .routes .count) ⌝ }
+    ensures { λ _. ⌜ Marked (y .code .instructions .count) (routeRange (imageIn (now (s .entry)) y) r) (now (marks .entry)) (now (marks .exit)) ⌝ }
+{
+    let route = route_at(s, y.routes.routes, r);
+    mark_range(
+        marks,
+        s,
+        y.code.instructions,
+        hints,
+        code_end,
+        route.start,
+        route.end,
+    );
+}
+
+// The funclets that the routes' paths enter.
+fn mark_funclets(mut marks: [bool; 512], s: &[u8], y: Layout, hints: &[u16]) -> [bool; 512]
+    requires { ⌜ Passed (imageIn (now s) y) ⌝ }
+    ensures { λ r. ⌜ Marked (y .code .instructions .count) (funcletMark (imageIn (now (s .entry)) y)) marks r ⌝ }
+{
+    let n = y.routes.steps.count as usize;
+    for k in 0..n {
+        mark_funclet(&mut marks, s, y, hints, k);
+    }
+    marks
+}
+
+fn mark_funclet(marks: &mut [bool; 512], s: &[u8], y: Layout, hints: &[u16], k: usize)
+    requires { ⌜ Passed (imageIn (now s) y) ⌝ }
+    ensures { λ _. ⌜ Marked (y .code .instructions .count) (stepMark (imageIn (now (s .entry)) y) k) (now (marks .entry)) (now (marks .exit)) ⌝ }
+{
+    let step = step_at(s, y.routes.steps, k);
+    mark_target_if(
+        marks,
+        s,
+        y.code.instructions,
+        hints,
+        step.code == FUNCLET,
+        step.value,
+    );
+}
+
+// The handlers at which they end.
+fn mark_path_ends(mut marks: [bool; 512], s: &[u8], y: Layout, hints: &[u16]) -> [bool; 512]
+    requires { ⌜ Passed (imageIn (now s) y) ⌝ }
+    ensures { λ r. ⌜ Marked (y .code .instructions .count) (pathEndMark (imageIn (now (s .entry)) y)) marks r ⌝ }
+{
+    let n = y.routes.paths.count as usize;
+    for k in 0..n {
+        mark_path_end(&mut marks, s, y, hints, k);
+    }
+    marks
+}
+
+fn mark_path_end(marks: &mut [bool; 512], s: &[u8], y: Layout, hints: &[u16], k: usize)
+    requires { ⌜ Passed (imageIn (now s) y) ⌝ }
+    ensures { λ _. ⌜ Marked (y .code .instructions .count) (pathMark (imageIn (now (s .entry)) y) k) (now (marks .entry)) (now (marks .exit)) ⌝ }
+{
+    let path = path_at(s, y.routes.paths, k);
+    mark_target_if(
+        marks,
+        s,
+        y.code.instructions,
+        hints,
+        path.end == HANDLER,
+        path.handler,
+    );
+}

@@ -1,0 +1,95 @@
+// Marks of positions, lent to be set: `[bool; 512]`, as many as a table may have.
+use crate::lookup::find;
+use crate::ranges::Ranged;
+use crate::ranges::range_check;
+use graph::found::Found;
+use image::section::Section;
+ghost use mathlib.Core.Bool.{_&&_};
+ghost use mathlib.Core.Path.{_≡_};
+ghost use Prim.Native.Nat.{_≤_};
+ghost use lib.Dec.{eqb, leb};
+ghost use lib.ListN.{length};
+ghost use Rattle.image.specs.Refusal.{clear};
+ghost use Rattle.graph.specs.Table.{below, codeEnd, rangeCheck};
+ghost use Rattle.graph.specs.Lookup.{Rising, entriesIn};
+ghost use Rattle.graph.specs.Build.{tableCheck};
+ghost use Rattle.builder.specs.Marks.{Marked, startMark};
+
+// The positions from the start of a range up to its end, the end with them.
+pub fn mark_range(
+    marks: &mut [bool; 512],
+    s: &[u8],
+    y: Section,
+    hints: &[u16],
+    code_end: u64,
+    start: u64,
+    end: u64,
+)
+    requires { ⌜ (tableCheck (entriesIn (now s) y) ≡ clear) × («code_end» ≡ codeEnd (entriesIn (now s) y)) ⌝ }
+    requires { ⌜ (rangeCheck (entriesIn (now s) y) start end ≡ clear) × (y .count ≤ 512) ⌝ }
+    ensures { λ _. ⌜ Marked (y .count) (λ p. leb (below (entriesIn (now (s .entry)) y) start) p && leb p (below (entriesIn (now (s .entry)) y) end)) (now (marks .entry)) (now (marks .exit)) ⌝ }
+{
+    let Ranged::Positions { first, past } = range_check(s, y, hints, code_end, start, end) else {
+        return;
+    };
+    let behind = past + 1;
+    for p in first..behind {
+        mark_at(marks, p);
+    }
+}
+
+// The start at a, where `leads` holds.
+pub fn mark_target_if(
+    marks: &mut [bool; 512],
+    s: &[u8],
+    y: Section,
+    hints: &[u16],
+    leads: bool,
+    a: u64,
+)
+    requires { ⌜ Rising (entriesIn (now s) y) ⌝ }
+    requires { ⌜ y .count ≤ 512 ⌝ }
+    ensures { λ _. ⌜ Marked (y .count) (λ p. leads && startMark (entriesIn (now (s .entry)) y) a p) (now (marks .entry)) (now (marks .exit)) ⌝ }
+{
+    if leads {
+        mark_target(marks, s, y, hints, a);
+    }
+}
+
+// The instruction at p, where `leads` holds.
+pub fn mark_if(marks: &mut [bool; 512], leads: bool, p: usize)
+    ensures { λ _. ⌜ Marked 512 (λ q. leads && eqb q p) (now (marks .entry)) (now (marks .exit)) ⌝ }
+{
+    if leads {
+        mark_at(marks, p);
+    }
+}
+
+// The start at a, if there is one.
+pub fn mark_target(marks: &mut [bool; 512], s: &[u8], y: Section, hints: &[u16], a: u64)
+    requires { ⌜ Rising (entriesIn (now s) y) ⌝ }
+    requires { ⌜ y .count ≤ 512 ⌝ }
+    ensures { λ _. ⌜ Marked (y .count) (startMark (entriesIn (now (s .entry)) y) a) (now (marks .entry)) (now (marks .exit)) ⌝ }
+{
+    let Found::At(k) = find(s, y, hints, a) else {
+        return;
+    };
+    mark_at(marks, k);
+}
+
+// The instruction at p, where the marks reach it.
+pub fn mark_at(marks: &mut [bool; 512], p: usize)
+    ensures { λ _. ⌜ Marked 512 (λ q. eqb q p) (now (marks .entry)) (now (marks .exit)) ⌝ }
+{
+    whole(marks);
+    if p < 512 {
+        marks[p] = true;
+    }
+}
+
+// What the type says and a list does not: how many marks there are. A caller learns it by the call.
+fn whole(marks: &[bool; 512])
+    ensures { λ _. ⌜ length (now (marks .entry)) ≡ 512 ⌝ }
+{
+    let _all: &[bool] = marks;
+}

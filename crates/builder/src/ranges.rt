@@ -1,0 +1,100 @@
+// Protected ranges: their positions in the table, and the handlers that name them (10 to 13).
+use crate::lookup::end_at;
+use crate::lookup::find;
+use graph::error::AddressBuildError;
+use graph::error::Checked;
+use graph::found::Found;
+use image::access::handler_at;
+use image::section::Layout;
+use image::section::Section;
+ghost use mathlib.Core.Path.{_≡_};
+ghost use Rattle.image.specs.Image.{imageIn};
+ghost use Rattle.graph.specs.Error.{checkOf};
+ghost use Rattle.graph.specs.Table.{codeEnd};
+ghost use Rattle.graph.specs.Lookup.{entriesIn};
+ghost use Rattle.graph.specs.Transfer.{tableOf};
+ghost use Rattle.graph.specs.Build.{handlerCheck};
+ghost use Rattle.builder.specs.Ranges.{Ended, Ranges, handlersCheck};
+
+// The positions of a range's instructions: from `first` up to `past`.
+pub enum Ranged {
+    Positions { first: usize, past: usize },
+    Refused(AddressBuildError),
+}
+
+// The greatest end of all: a range may end there, where no instruction starts.
+pub fn code_end(s: &[u8], y: Section) -> u64
+    ensures { λ r. ⌜ r ≡ codeEnd (entriesIn (now (s .entry)) y) ⌝ }
+{
+    let n = y.count as usize;
+    let mut greatest: u64 = 0;
+    for i in 0..n {
+        let end = end_at(s, y, i);
+        if greatest < end {
+            greatest = end;
+        }
+    }
+    greatest
+}
+
+// The positions of the range from `start` to `end`, in a table that ends at `code_end`.
+pub fn range_check(
+    s: &[u8],
+    y: Section,
+    hints: &[u16],
+    code_end: u64,
+    start: u64,
+    end: u64,
+) -> Ranged
+    requires { ⌜ Ended (entriesIn (now s) y) «code_end» ⌝ }
+    ensures { λ r. ⌜ Ranges (entriesIn (now (s .entry)) y) start end r ⌝ }
+{
+    if end <= start {
+        return Ranged::Refused(AddressBuildError::EmptyProtectedRange { start, end });
+    }
+    let Found::At(first) = find(s, y, hints, start) else {
+        return Ranged::Refused(AddressBuildError::MissingRangeStart { address: start });
+    };
+    if end == code_end {
+        let past = y.count as usize;
+        return Ranged::Positions { first, past };
+    }
+    let Found::At(past) = find(s, y, hints, end) else {
+        return Ranged::Refused(AddressBuildError::MissingRangeEnd { address: end });
+    };
+    Ranged::Positions { first, past }
+}
+
+// The first refusal among those of the handlers.
+pub fn check_handlers(s: &[u8], y: Layout, hints: &[u16], code_end: u64) -> Checked
+    requires { ⌜ Ended (tableOf (imageIn (now s) y)) «code_end» ⌝ }
+    ensures { λ r. ⌜ checkOf r ≡ handlersCheck (imageIn (now (s .entry)) y) ⌝ }
+{
+    let n = y.code.handlers.count as usize;
+    for h in 0..n {
+        let found = check_handler(s, y, hints, code_end, h);
+        let Checked::Clear = found else {
+            return found;
+        };
+    }
+    Checked::Clear
+}
+
+fn check_handler(s: &[u8], y: Layout, hints: &[u16], code_end: u64, h: usize) -> Checked
+    requires { ⌜ Ended (tableOf (imageIn (now s) y)) «code_end» ⌝ }
+    ensures { λ r. ⌜ checkOf r ≡ handlerCheck (imageIn (now (s .entry)) y) h ⌝ }
+{
+    let code = y.code;
+    let instructions = code.instructions;
+    let handler = handler_at(s, code.handlers, h);
+    let start = handler.start;
+    let end = handler.end;
+    if let Ranged::Refused(e) = range_check(s, instructions, hints, code_end, start, end) {
+        return Checked::Refused(e);
+    }
+    let entry = handler.entry;
+    let Found::At(_) = find(s, instructions, hints, entry) else {
+        return Checked::Refused(AddressBuildError::MissingHandlerEntry { address: entry });
+    };
+    Checked::Clear
+}

@@ -1,9 +1,0 @@
--- The three tests are the definition. Assumes nothing.
-use mathlib.Core.Path.{refl}
-use Rattle.graph.specs.Flow.{fallsThrough}
-use Rattle.graph.proofs.transfer.falls_through.Statement.{statement}
-use Rattle.graph.proofs.transfer.falls_through.Tie as tie
-
-pub falls-through-spec : {M : Type 1} → statement M
-unfolding fallsThrough
-falls-through-spec = tie.close (tie.spec (λ c. refl))

@@ -1,8 +1,0 @@
--- By the rule of the table. Assumes nothing.
-use Rattle.graph.proofs.TransferLaws.{slots-at}
-use borrow.Author.Needs.{needs}
-use Rattle.graph.proofs.transfer.slots_of.Statement.{statement}
-use Rattle.graph.proofs.transfer.slots_of.Tie as tie
-
-pub slots-of-spec : {M : Type 1} → statement M
-slots-of-spec = tie.close (tie.spec (λ c. search needs) (λ c. search needs) (λ c. slots-at (c .before .args .flow) _ (c .before .pre)))
