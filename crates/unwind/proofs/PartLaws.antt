@@ -5,40 +5,45 @@
 --     bent-on                      the links of a block, one edge further
 --     part-has                     what is reached is the part
 --     Leaves, leaves-none, leaves-put, leaves-skip, sources-are     the blocks that an ordinary edge goes out of
---     Sifted, sifted-none, sifted-put, sifted-skip, sifted-less, sifted-all     the blocks of a set that return
+--     ReturnersTo, returners-none, returners-put, returners-skip, returners-are     the blocks that return
+--     Anded, anded-none, anded-more, anded-all     those of a set, word by word
 -- Assumes nothing.
-use mathlib.Core.Path.{_≡_, refl, sym, ap, subst, _∙_}
-use mathlib.Core.Bool.{Bool, true, false, cond, not, _&&_, _||_, false≢true, true≢false, and-false, or-false, or-comm}
+use mathlib.Core.Path.{_≡_, refl, sym, ap, _∙_}
+use mathlib.Core.Bool.{Bool, true, false, cond, not, _&&_, _||_, and-false, or-false, or-comm}
 use mathlib.Core.Logic.{_⊎_, inl, inr, ⊎-elim}
 use mathlib.Core.List.{List, [], _∷_, map}
-use Prim.Native.Nat.{ℕ, zero, suc, _+_, _-_, _≤_, _<_}
+use Prim.Native.Nat.{ℕ, zero, suc, _+_, _/_, _%_, _^_, _≤_, _<_, min}
+use native.Mathlib.Nat.{not-suc-le-zero}
 use native.Mathlib.Numerals.{add-one}
-use native.Mathlib.Decide.{ℕ-discrete}
+use native.Mathlib.Decide.{decLt, ℕ-discrete}
 use native.Mathlib.Omega.{arith}
-use borrow.Author.Tests.{eq-eqb, ne-eqb, lt-ltb, ltb-true}
+use borrow.Author.Count.{below-more}
+use borrow.Author.Tests.{eq-eqb, ne-eqb, lt-ltb, le-ltb}
+use lib.Bits.{bitAnd, and-step, and-shr}
 use lib.Dec.{eqb, ltb}
-use lib.ListN.{length, getD, drop, length-map, List·getD-map}
+use lib.ListN.{length, getD, set, drop, length-set, length-map, List·getD-map}
+use lib.Seq.{getD-set-same, getD-set-other}
 use Rattle.image.specs.Deal.{UnwindRoute}
 use Rattle.graph.specs.declared.record.Edge.{Edge}
 use Rattle.graph.specs.Graph.{Graph, edge}
 use Rattle.graph.specs.Words.{edgeOf}
 use Rattle.graph.specs.Fold.{some as any, all, among}
-use Rattle.graph.specs.BlockSet.{member, none, including, excluding, sizeOf}
+use Rattle.graph.specs.BlockSet.{member, none, including}
 use Rattle.graph.specs.Reached.{Reached, start, step}
-use Rattle.graph.specs.Search.{In, Finds, Ends, linkIn, link, Linked, Works, seeing}
+use Rattle.graph.specs.Search.{Finds, Ends, linkIn, link, Linked, Works, seeing}
 use Rattle.graph.specs.WellFormed.{isBlock, edgeEndsExist, isBuilt}
 use Rattle.graph.proofs.FoldLaws.{decided, some-front}
-use Rattle.graph.proofs.BlockLaws.{member-below, member-none, member-including, member-excluding, length-including, length-excluding, size-excluding}
+use Rattle.graph.proofs.BlockLaws.{member-past, member-none, member-including, length-including}
 use Rattle.graph.proofs.SearchLaws as search-laws
 use Rattle.addition.specs.Lists.{keep, isEmpty}
 use Rattle.addition.specs.Blocks.{firstOf}
 use Rattle.addition.specs.Part.{funclets, ordinary, outgoing, part, returning}
 use Rattle.unwind.specs.Stands.{Stands, Has}
-use Rattle.unwind.specs.PartSearch.{Barriers, Sources, Returns, followed, bent, bounded}
-use Rattle.addition.specs.Walk.{_∈_, Built as BuiltBlock, Begins, Other, Reach, start as enter, step as onward}
-use Rattle.addition.proofs.Lists.{both-ways, and-both, and-true, so-not, not-so, mem-getD, mem-at, at-lt, at-getD, mem-among, among-mem}
+use Rattle.unwind.specs.PartSearch.{Barriers, Sources, Returners, Exist, Returns, followed, bent, bounded}
+use Rattle.addition.specs.Walk.{_∈_, Built as BuiltBlock, Other, Reach, start as enter, step as onward}
+use Rattle.addition.proofs.Lists.{both-ways, and-both, and-true, not-so, mem-getD, mem-at, at-lt, at-getD, mem-among, among-mem}
 use Rattle.addition.proofs.Sound.{ends-exist}
-use Rattle.addition.proofs.Closure.{funclets-mem, barred-other, ordinary-kind, kind-ordinary, mem-funclets, part-reach, reach-part}
+use Rattle.addition.proofs.Closure.{funclets-mem, ordinary-kind, kind-ordinary, mem-funclets, part-reach, reach-part}
 use Rattle.unwind.proofs.Standing.{begins-one}
 
 -- ---- edges of the bounded graph
@@ -297,71 +302,99 @@ module _ (g : Graph) where
   pub sources-are : (w : List ℕ) → Leaves g (length (g .edges)) w → Sources g w
   sources-are w x = record { goes = λ b. x .has b ∙ sources-is b g }
 
--- ---- the blocks of a set that return
+-- ---- the blocks that return
 
--- found are those that return of the set but for those left
-pub record Sifted (g : Graph) (w left found : List ℕ) : Type 0 where
-  pub long : (length left ≡ 16) × (length found ≡ 16)
-  pub inside : (b : ℕ) → member left b ≡ true → member w b ≡ true
-  pub those : (b : ℕ) → member found b ≡ ((member w b && not (member left b)) && returning g b)
+-- the set with those below b that return
+pub record ReturnersTo (g : Graph) (b : ℕ) (w : List ℕ) : Type 0 where
+  pub long : length w ≡ 16
+  pub has : (c : ℕ) → member w c ≡ (ltb c b && returning g c)
 
-module _ (g : Graph) (w : List ℕ) where
-  pub sifted-none : length w ≡ 16 → Sifted g w w none
-  sifted-none long = record { long = (long, refl); inside = λ b m. m; those = λ b. member-none b ∙ sym (go (member w b) (returning g b)) }
-    where
-      go : (x y : Bool) → ((x && not x) && y) ≡ false
-      go true y = refl
-      go false y = refl
+module _ (g : Graph) where
+  pub returners-none : ReturnersTo g 0 none
+  returners-none = record { long = refl; has = λ c. member-none c ∙ rw (le-ltb c 0 (omega arith)) }
 
-  module _ (left found : List ℕ) (x : Sifted g w left found) where
-    pub sifted-all : ((b : ℕ) → member left b ≡ false) → Returns g w found
-    sifted-all out = record { those = λ b. x .those b ∙ rw (out b) (ap (λ (t : Bool). t && returning g b) (and-true-right (member w b))) }
-      where
-        and-true-right : (t : Bool) → (t && true) ≡ t
-        and-true-right true = refl
-        and-true-right false = refl
+  module _ (b : ℕ) (w : List ℕ) (x : ReturnersTo g b w) where
+    -- another block than b
+    apart : (c : ℕ) → (b ≡ c → ⊥) → member w c ≡ (ltb c (b + 1) && returning g c)
+    apart c ne =
+        x .has c
+        ∙ elim (decLt c b) [
+          | yes lt ↦ rw (lt-ltb c b lt, lt-ltb c (b + 1) (omega arith))
+          | no ge ↦ rw (le-ltb c b (omega arith), le-ltb c (b + 1) (omega arith))
+        ]
 
-    module _ (b : ℕ) (there : member left b ≡ true) where
-      few : b < 1024
-      few = member-below left b (x .long .0) there
+    pub returners-put : b < 1024 → returning g b ≡ true → ReturnersTo g (b + 1) (including w b)
+    returners-put few is =
+        record {
+          long = length-including w b ∙ x .long;
+          has = λ c.
+              member-including w (x .long) b few c
+              ∙ elim (ℕ-discrete b c) [
+                | yes e ↦ rw (← e, eq-eqb b b refl, lt-ltb b (b + 1) (omega arith), is)
+                | no ne ↦ rw (ne-eqb b c ne) (apart c ne)
+              ];
+        }
 
-      less : (c : ℕ) → member (excluding left b) c ≡ (not (eqb b c) && member left c)
-      less c = member-excluding left (x .long .0) b c
+    pub returners-skip : returning g b ≡ false → ReturnersTo g (b + 1) w
+    returners-skip out =
+        record {
+          long = x .long;
+          has = λ c.
+              elim (ℕ-discrete b c) [
+                | yes e ↦ rw (← e) (x .has b ∙ rw out (and-false (ltb b b) ∙ sym (and-false (ltb b (b + 1)))))
+                | no ne ↦ apart c ne
+              ];
+        }
 
-      still : (c : ℕ) → member (excluding left b) c ≡ true → member w c ≡ true
-      still c m = x .inside c (and-both (not (eqb b c)) (member left c) (sym (less c) ∙ m) .1)
+  pub returners-are : (w : List ℕ) → ReturnersTo g (length (g .blocks)) w → Returners g w
+  returners-are w x = record { which = λ b h. x .has b ∙ rw (lt-ltb b _ h) }
 
-      -- what is left of another block
-      apart : (c : ℕ) → (b ≡ c → ⊥) → member (excluding left b) c ≡ member left c
-      apart c ne = less c ∙ rw (ne-eqb b c ne)
+-- ---- those of a set
 
-      gone : member (excluding left b) b ≡ false
-      gone = less b ∙ rw (eq-eqb b b refl)
+-- the lesser of two digits is 1 where both are
+and-digits : (x y : ℕ) → x < 2 → y < 2 → eqb (min x y) 1 ≡ (eqb x 1 && eqb y 1)
+and-digits zero y hx hy = let least : min 0 y ≡ 0 = omega arith in rw least
+and-digits (suc zero) y hx hy = let least : min 1 y ≡ y = omega arith in rw least
+and-digits (suc (suc x)) y hx hy = absurd (omega arith)
 
-      pub sifted-less : sizeOf left ≡ suc (sizeOf (excluding left b))
-      sifted-less = size-excluding left (x .long .0) b few there
+-- a digit of an and is set where those of both are
+and-bit : (a b j : ℕ) → eqb (bitAnd a b / 2 ^ j % 2) 1 ≡ (eqb (a / 2 ^ j % 2) 1 && eqb (b / 2 ^ j % 2) 1)
+and-bit a b j =
+    let last : bitAnd (a / 2 ^ j) (b / 2 ^ j) % 2 ≡ min (a / 2 ^ j % 2) (b / 2 ^ j % 2) = omega (arith, and-step (a / 2 ^ j) (b / 2 ^ j)) in
+    rw (and-shr a b j, last) (and-digits (a / 2 ^ j % 2) (b / 2 ^ j % 2) (omega arith) (omega arith))
 
-      pub sifted-put : returning g b ≡ true → Sifted g w (excluding left b) (including found b)
-      sifted-put is =
-          record {
-            long = (length-excluding left b ∙ x .long .0, length-including found b ∙ x .long .1);
-            inside = still;
-            those = λ c.
-                member-including found (x .long .1) b few c
-                ∙ elim (ℕ-discrete b c) [
-                  | yes e ↦ rw (← e, eq-eqb b b refl, x .inside b there, gone, is)
-                  | no ne ↦ rw (ne-eqb b c ne, apart c ne) (x .those c)
-                ];
-          }
+-- the words of w below i have what both u and v have
+pub record Anded (u v w : List ℕ) (i : ℕ) : Type 0 where
+  pub long : length w ≡ 16
+  pub done : (k : ℕ) → k < i → getD w k 0 ≡ bitAnd (getD u k 0) (getD v k 0)
 
-      pub sifted-skip : returning g b ≡ false → Sifted g w (excluding left b) found
-      sifted-skip out =
-          record {
-            long = (length-excluding left b ∙ x .long .0, x .long .1);
-            inside = still;
-            those = λ c.
-                elim (ℕ-discrete b c) [
-                  | yes e ↦ rw (← e, gone, out) (x .those b ∙ rw (there, out) (and-false (member w b && false)) ∙ sym (and-false (member w b && true)))
-                  | no ne ↦ rw (apart c ne) (x .those c)
-                ];
-          }
+module _ (u v : List ℕ) where
+  pub anded-none : Anded u v none 0
+  anded-none = record { long = refl; done = λ k h. absurd (not-suc-le-zero h) }
+
+  module _ (w : List ℕ) (i : ℕ) (x : Anded u v w i) where
+    pub anded-more : i < 16 → Anded u v (set w i (bitAnd (getD u i 0) (getD v i 0))) (i + 1)
+    anded-more h =
+        record {
+          long = length-set w i _ ∙ x .long;
+          done =
+              below-more (λ (k : ℕ). getD (set w i (bitAnd (getD u i 0) (getD v i 0))) k 0 ≡ bitAnd (getD u k 0) (getD v k 0)) i
+              (λ k lt. getD-set-other w i k _ 0 (omega arith) ∙ x .done k lt)
+              (getD-set-same w i _ 0 (omega (arith, x .long)));
+        }
+
+    -- all words passed: the blocks of both
+    member-both : length u ≡ 16 → 16 ≤ i → (b : ℕ) → member w b ≡ (member u b && member v b)
+    unfolding member
+    member-both long h b =
+        elim (decLt b 1024) [
+          | yes lt ↦
+              ap (λ (n : ℕ). eqb (n / 2 ^ (b % 64) % 2) 1) (x .done (b / 64) (omega arith))
+              ∙ and-bit (getD u (b / 64) 0) (getD v (b / 64) 0) (b % 64)
+          | no ge ↦ member-past w b (x .long) (omega arith) ∙ sym (ap (λ (t : Bool). t && member v b) (member-past u b long (omega arith)))
+        ]
+
+    -- those of u that return, where v has all that do
+    pub anded-all : length u ≡ 16 → 16 ≤ i → (g : Graph) → Returners g v → Exist g u → Returns g u w
+    anded-all long h g returners exist =
+        record { those = λ b. member-both long h b ∙ ⊎-elim (λ m. rw m (returners .which b (exist b m))) (λ m. rw m) (decided (member u b)) }

@@ -1,6 +1,6 @@
 -- The search for a part, and the sets of blocks that it asks for and gives.
 use mathlib.Core.Path.{_≡_}
-use mathlib.Core.Bool.{Bool, cond, not, _&&_}
+use mathlib.Core.Bool.{Bool, true, cond, not, _&&_}
 use mathlib.Core.List.{List, map}
 use Prim.Native.Nat.{ℕ, _<_}
 use lib.ListN.{length}
@@ -23,6 +23,14 @@ pub record Barriers (g : Graph) (rs : List UnwindRoute) (w : List ℕ) : Type 0 
 -- the blocks that an ordinary edge goes out of
 pub record Sources (g : Graph) (w : List ℕ) : Type 0 where
   pub goes : (b : ℕ) → member w b ≡ not (isEmpty (keep ordinary (outgoing g b)))
+
+-- the blocks that return, of those that there are
+pub record Returners (g : Graph) (w : List ℕ) : Type 0 where
+  pub which : (b : ℕ) → b < length (g .blocks) → member w b ≡ returning g b
+
+-- a set has only blocks that there are
+abbrev pub Exist : Graph → List ℕ → Type 0
+Exist g w = (b : ℕ) → member w b ≡ true → b < length (g .blocks)
 
 -- the blocks of a set that return
 pub record Returns (g : Graph) (w r : List ℕ) : Type 0 where

@@ -16,7 +16,7 @@ use Rattle.addition.specs.Lists.{keep}
 use Rattle.addition.specs.Blocks.{blockOf}
 use Rattle.unwind.specs.Stands.{Stands, Has}
 use Rattle.addition.specs.Part.{funclets, returning}
-use Rattle.unwind.specs.PartSearch.{Barriers, Sources}
+use Rattle.unwind.specs.PartSearch.{Barriers, Returners}
 use Rattle.addition.specs.Trie.{Node, sameFunclet}
 use Rattle.unwind.specs.Nodes.{recordIn, funcletIn, nodesIn}
 use Rattle.addition.specs.Instance.{blocksOf, later, base, entryOf, cloneBlocks}
@@ -62,14 +62,14 @@ funcletAt m nodes i = funcletIn m (recordIn nodes i .funclet)
 abbrev pub like : RouteImage → List ℕ → ℕ → ℕ → Bool
 like m nodes i j = sameFunclet (funcletAt m nodes j) (funcletAt m nodes i)
 
--- what is at hand: the graph's built blocks and links, the entries of funclets, and the blocks that an ordinary edge goes out of
-pub record Ready (g : Graph) (m : RouteImage) (n : ℕ) (head next barriers sources : List ℕ) : Type 0 where
+-- what is at hand: the graph's built blocks and links, the entries of funclets, and the blocks that return
+pub record Ready (g : Graph) (m : RouteImage) (n : ℕ) (head next barriers returners : List ℕ) : Type 0 where
   pub stands : Stands g
   pub built : Built g n
   pub roomy : Roomy g head next
   pub linked : Linked g head next 0
   pub bars : Barriers g (routesOf m) barriers
-  pub goes : Sources g sources
+  pub returns : Returners g returners
 
 -- the slot of a funclet: 0 for the root of a route, and else one more than the block that it begins with
 unfoldable pub slotOf : Graph → Option ℕ → ℕ

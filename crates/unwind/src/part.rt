@@ -11,6 +11,7 @@ use graph::blockset::take_from;
 use graph::reach::see;
 use graph::resume::FUNCLET;
 use graph::store::Words;
+use graph::store::blocks::block_count;
 use graph::store::edges::edge_at;
 use graph::store::edges::edge_count;
 use image::access::step_at;
@@ -23,14 +24,14 @@ ghost use lib.ListN.{length};
 ghost use Rattle.image.specs.Image.{routesIn};
 ghost use Rattle.image.specs.Deal.{routesOf};
 ghost use Rattle.image.specs.Accepted.{AcceptedRoutes};
-ghost use Rattle.graph.specs.Graph.{edge};
+ghost use Rattle.graph.specs.Graph.{Graph, edge};
 ghost use Rattle.graph.specs.Words.{heldIn};
 ghost use Rattle.graph.specs.Search.{Linked, Roomy, Follows};
 ghost use Rattle.graph.specs.WellFormed.{isBuilt, Built};
 ghost use Rattle.addition.specs.Blocks.{leading};
 ghost use Rattle.addition.specs.Part.{returning as isReturning};
 ghost use Rattle.unwind.specs.Stands.{Stands};
-ghost use Rattle.unwind.specs.PartSearch.{Barriers, Sources, Returns, PartFrom, entering, bounded, Takes};
+ghost use Rattle.unwind.specs.PartSearch.{Barriers, Sources, Returners, Exist, Returns, PartFrom, entering, bounded, Takes};
 
 // 'without an ExceptionUnwind or Call edge'
 const CALL: u64 = 5;
@@ -83,7 +84,7 @@ fn put_entry(g: &Words, built: usize, hints: &[u16], a: u64, set: &mut [u64; 16]
 }
 
 // The blocks that an ordinary edge goes out of.
-pub fn ordinary_sources(g: &Words) -> [u64; 16]
+fn ordinary_sources(g: &Words) -> [u64; 16]
     requires { ⌜ Stands (heldIn (now g) .graph) ⌝ }
     ensures { λ r. ⌜ Sources (heldIn (now (g .entry)) .graph) r ⌝ }
 {
@@ -99,7 +100,7 @@ pub fn ordinary_sources(g: &Words) -> [u64; 16]
 }
 
 // Whether block b returns, told which blocks an ordinary edge goes out of.
-pub fn returning(g: &Words, sources: &[u64; 16], b: usize) -> bool
+fn returning(g: &Words, sources: &[u64; 16], b: usize) -> bool
     requires { ⌜ Stands (heldIn (now g) .graph) × Sources (heldIn (now g) .graph) (now sources) ⌝ }
     ensures { λ r. ⌜ r ≡ isReturning (heldIn (now (g .entry)) .graph) b ⌝ }
 {
@@ -110,23 +111,32 @@ pub fn returning(g: &Words, sources: &[u64; 16], b: usize) -> bool
     (flow == JUMP) & !has_in(sources, b)
 }
 
-// The blocks of a set that return.
-pub fn returns_of(g: &Words, sources: &[u64; 16], set: &[u64; 16]) -> [u64; 16]
-    requires { ⌜ Stands (heldIn (now g) .graph) × Sources (heldIn (now g) .graph) (now sources) ⌝ }
-    ensures { λ r. ⌜ Returns (heldIn (now (g .entry)) .graph) (now (set .entry)) r ⌝ }
+// The blocks that return.
+pub fn returning_blocks(g: &Words) -> [u64; 16]
+    requires { ⌜ Stands (heldIn (now g) .graph) ⌝ }
+    ensures { λ r. ⌜ Returners (heldIn (now (g .entry)) .graph) r ⌝ }
 {
-    sixteen(set);
-    let mut left = *set;
-    let mut found = [0u64; 16];
-    loop {
-        let Lowest::At(b) = lowest_in(&left) else {
-            return found;
-        };
-        take_from(&mut left, b);
-        if returning(g, sources, b) {
-            put_in(&mut found, b);
+    let sources = ordinary_sources(g);
+    let n = block_count(g);
+    let mut set = [0u64; 16];
+    for b in 0..n {
+        if returning(g, &sources, b) {
+            put_in(&mut set, b);
         }
     }
+    set
+}
+
+// The blocks of a set that return, told which blocks do.
+pub fn returns_of(returners: &[u64; 16], set: &[u64; 16]) -> [u64; 16]
+    ensures { λ r. ⌜ ((g : Graph) → Returners g (now (returners .entry)) → Exist g (now (set .entry)) → Returns g (now (set .entry)) r) ⌝ }
+{
+    sixteen(set);
+    let mut found = [0u64; 16];
+    for i in 0..16 {
+        found[i] = set[i] & returners[i];
+    }
+    found
 }
 
 // The part of the funclet whose entry is block `start`, along edges that are linked by their source.

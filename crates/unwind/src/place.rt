@@ -49,14 +49,14 @@ pub fn place_nodes(
     head: &[u16],
     next: &[u16],
     barriers: &[u64; 16],
-    sources: &[u64; 16],
+    returners: &[u64; 16],
     bases: &mut [u16],
     entries: &mut [u16],
     parts: &mut [u64],
     returns: &mut [u64],
     firsts: &mut [u16],
 ) -> Checked
-    requires { ⌜ Ready (heldIn (now g) .graph) (routesIn (now s) y) built (now head) (now next) (now barriers) (now sources) × ((i : ℕ) → i < n → funcletCheck (heldIn (now g) .graph) (funcletAt (routesIn (now s) y) (now nodes) i) ≡ clear) × Slots n (now bases) (now entries) (now parts) (now returns) × Firsts (heldIn (now g) .graph) (routesIn (now s) y) (now nodes) (now firsts) 0 × (n ≤ 544) ⌝ }
+    requires { ⌜ Ready (heldIn (now g) .graph) (routesIn (now s) y) built (now head) (now next) (now barriers) (now returners) × ((i : ℕ) → i < n → funcletCheck (heldIn (now g) .graph) (funcletAt (routesIn (now s) y) (now nodes) i) ≡ clear) × Slots n (now bases) (now entries) (now parts) (now returns) × Firsts (heldIn (now g) .graph) (routesIn (now s) y) (now nodes) (now firsts) 0 × (n ≤ 544) ⌝ }
     ensures { λ r. ⌜ PlacedAll (heldIn (now (g .entry)) .graph) (routesIn (now (s .entry)) y) (now (nodes .entry)) n (now (bases .exit)) (now (entries .exit)) (now (parts .exit)) (now (returns .exit)) (checkOf r) ⌝ }
 {
     let mut base = block_count(g);
@@ -71,7 +71,7 @@ pub fn place_nodes(
             head,
             next,
             barriers,
-            sources,
+            returners,
             i,
             base,
             bases,
@@ -98,7 +98,7 @@ fn place_node(
     head: &[u16],
     next: &[u16],
     barriers: &[u64; 16],
-    sources: &[u64; 16],
+    returners: &[u64; 16],
     i: usize,
     base: usize,
     bases: &mut [u16],
@@ -107,7 +107,7 @@ fn place_node(
     returns: &mut [u64],
     firsts: &mut [u16],
 ) -> usize
-    requires { ⌜ Ready (heldIn (now g) .graph) (routesIn (now s) y) built (now head) (now next) (now barriers) (now sources) × ((j : ℕ) → j ≤ i → funcletCheck (heldIn (now g) .graph) (funcletAt (routesIn (now s) y) (now nodes) j) ≡ clear) × Slots (i + 1) (now bases) (now entries) (now parts) (now returns) × Firsts (heldIn (now g) .graph) (routesIn (now s) y) (now nodes) (now firsts) i × (i < 544) × (base ≤ 1024) ⌝ }
+    requires { ⌜ Ready (heldIn (now g) .graph) (routesIn (now s) y) built (now head) (now next) (now barriers) (now returners) × ((j : ℕ) → j ≤ i → funcletCheck (heldIn (now g) .graph) (funcletAt (routesIn (now s) y) (now nodes) j) ≡ clear) × Slots (i + 1) (now bases) (now entries) (now parts) (now returns) × Firsts (heldIn (now g) .graph) (routesIn (now s) y) (now nodes) (now firsts) i × (i < 544) × (base ≤ 1024) ⌝ }
     ensures { λ r. ⌜ Placing (heldIn (now (g .entry)) .graph) (routesIn (now (s .entry)) y) (now (nodes .entry)) i base r (now (bases .entry)) (now (entries .entry)) (now (parts .entry)) (now (returns .entry)) (now (bases .exit)) (now (entries .exit)) (now (parts .exit)) (now (returns .exit)) × Firsts (heldIn (now (g .entry)) .graph) (routesIn (now (s .entry)) y) (now (nodes .entry)) (now (firsts .exit)) (i + 1) ⌝ }
 {
     let f = node_at(nodes, i).funclet;
@@ -119,7 +119,7 @@ fn place_node(
     }
     firsts[slot] = (i + 1) as u16;
     let part = part_at(g, head, next, barriers, f, entry);
-    let ret = returns_of(g, sources, &part);
+    let ret = returns_of(returners, &part);
     store_node(i, 0, entry, &part, &ret, bases, entries, parts, returns);
     0
 }

@@ -5,7 +5,7 @@ use crate::blocks::hint_blocks;
 use crate::hops::Hops;
 use crate::node_checks::check_nodes;
 use crate::part::funclet_entries;
-use crate::part::ordinary_sources;
+use crate::part::returning_blocks;
 use crate::place::place_nodes;
 use crate::sides::guard_routes;
 use crate::sides::land_ends;
@@ -122,7 +122,7 @@ fn place(
     ensures { λ r. ⌜ PlacedAll (heldIn (now (g .entry)) .graph) (routesIn (now (s .entry)) y) (now (nodes .entry)) n (now (bases .exit)) (now (heads .exit)) (now (parts .exit)) (now (returns .exit)) (checkOf r) ⌝ }
 {
     let barriers = funclet_entries(g, built, hints, s, y);
-    let sources = ordinary_sources(g);
+    let returners = returning_blocks(g);
     place_nodes(
         g,
         built,
@@ -134,7 +134,7 @@ fn place(
         head,
         next,
         &barriers,
-        &sources,
+        &returners,
         bases,
         heads,
         parts,

@@ -13,9 +13,9 @@ use Rattle.unwind.specs.declared.tries.store.NodeRecord.{NodeRecord}
 use Rattle.unwind.specs.Nodes.{recordIn, funcletIn}
 use Rattle.addition.specs.Instance.{entryBlock}
 use Rattle.unwind.specs.Placed.{funcletAt, slotOf}
-use Rattle.unwind.proofs.PlaceLaws.{sizes-kept, entry-lt, entry-built, entry-most, part-is, first-next, clone-next}
+use Rattle.unwind.proofs.PlaceLaws.{sizes-kept, entry-lt, entry-built, entry-most, part-is, part-rises, first-next, clone-next}
 use Rattle.unwind.proofs.FirstLaws.{slot-is, slot-in, late-lt, late-none, late-like, firsts-late, none-yet, firsts-more}
-use Rattle.unwind.proofs.Sets.{returns-has}
+use Rattle.unwind.proofs.Sets.{returns-has, has-lt}
 use Rattle.unwind.proofs.place.place_node.Statement.{statement}
 use Rattle.unwind.proofs.place.place_node.Tie as tie
 
@@ -104,9 +104,6 @@ part-at-requires c κs =
     let is = c .before .before .before .before .entry-of .ensures in
     (pre .0 .stands, pre .0 .roomy, pre .0 .linked, λ ne. (rw is (entry-lt g m _ ne lead), rw is (entry-built g m _ ne lead)))
 
-returns-of-requires : tie.Need-returns-of-requires
-returns-of-requires c κs = let ready = c .before .before .before .before .before .before .before .before .before .before .before .before .before .before .before .before .before .before .pre .0 in (ready .stands, ready .goes)
-
 store-node-requires : tie.Need-store-node-requires
 store-node-requires c κs =
     let s = c .before .before .before .before .before .before .before .before .before .before .before .before .before .before .before .before .before .before .before .before .before .before .before .before .before .pre .2 in
@@ -144,7 +141,7 @@ returns-2 c =
             part = part .result;
             ret = ret .result;
             part-has = has;
-            returns-has = returns-has g _ _ _ has (ret .ensures);
+            returns-has = returns-has g _ _ _ has (ret .ensures g (pre .0 .returns) (has-lt (length (g .blocks)) (block-most (a .g .now)) _ (part-rises g _ _) _ has));
             placed = rw (entry (c .before .before .before .before .before .before .before .before .before .before .before .before .before .before .before .before .before .before .before .before .before .before)) at (c .before .before .before .before .before .before .before .before .store-node .ensures);
           }),
       firsts-more g m (a .nodes .now) (a .firsts .now) (a .i) _ _ at v (pre .1) (pre .3) left,
@@ -171,7 +168,7 @@ place-node-spec =
     mul-firsts
     slice-write-firsts
     part-at-requires
-    returns-of-requires
+    (λ c κs. search needs)
     store-node-requires
     same-length-6
     same-length-7

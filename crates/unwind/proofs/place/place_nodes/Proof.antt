@@ -13,12 +13,12 @@ use Rattle.unwind.proofs.place.place_nodes.Statement.{statement}
 use Rattle.unwind.proofs.place.place_nodes.Tie as tie
 
 abbrev Inv-loop : tie.InvT-loop
-Inv-loop g built hints s y nodes n head next barriers sources bases₀ entries₀ parts₀ returns₀ firsts₀ base₀ i₀ bases entries parts returns firsts base i =
+Inv-loop g built hints s y nodes n head next barriers returners bases₀ entries₀ parts₀ returns₀ firsts₀ base₀ i₀ bases entries parts returns firsts base i =
     (i ≤ n) × (base ≤ 1024) × SameSizes bases₀ entries₀ parts₀ returns₀ bases entries parts returns × PlacedTo (heldIn g .graph) (routesIn s y) nodes n bases entries parts returns i base
     × Firsts (heldIn g .graph) (routesIn s y) nodes firsts i × (length firsts ≡ length firsts₀)
 
 abbrev μ-loop : tie.MeasureT-loop
-μ-loop g built hints s y nodes n head next barriers sources bases₀ entries₀ parts₀ returns₀ firsts₀ base₀ i₀ bases entries parts returns firsts base i = n - i
+μ-loop g built hints s y nodes n head next barriers returners bases₀ entries₀ parts₀ returns₀ firsts₀ base₀ i₀ bases entries parts returns firsts base i = n - i
 
 loop-holds : tie.Need-loop-holds Inv-loop μ-loop
 loop-holds c =

@@ -1,4 +1,4 @@
--- The entries of funclets and the sources of ordinary edges, and then the nodes. Assumes nothing.
+-- The entries of funclets and the blocks that return, and then the nodes. Assumes nothing.
 use Rattle.image.specs.Image.{routesIn}
 use Rattle.graph.specs.Words.{heldIn}
 use Rattle.unwind.proofs.Standing.{stands-of}
@@ -14,8 +14,8 @@ funclet-entries-requires c κs =
     let k = start .pre .0 in
     (stands-of (heldIn (a .g .now)) (k .graphed), k .built, table-stepped (heldIn (a .g .now) .graph) (routesIn (a .s .now) (a .y)) (k .accepted) (k .passed), k .accepted)
 
-ordinary-sources-requires : tie.Need-ordinary-sources-requires
-ordinary-sources-requires c κs =
+returning-blocks-requires : tie.Need-returning-blocks-requires
+returning-blocks-requires c κs =
     let start = c .before .before .before .before .before .before .before .before .before .before .before in
     stands-of (heldIn (start .args .g .now)) (start .pre .0 .graphed)
 
@@ -29,7 +29,7 @@ place-nodes-requires c κs =
         roomy = start .pre .1;
         linked = start .pre .2;
         bars = c .before .before .before .before .before .before .before .before .funclet-entries .ensures;
-        goes = c .before .before .before .before .before .before .before .ordinary-sources .ensures;
+        returns = c .before .before .before .before .before .before .before .returning-blocks .ensures;
       },
       start .pre .3,
       start .pre .4,
@@ -42,7 +42,7 @@ place-spec =
     tie.close
     (tie.spec
     funclet-entries-requires
-    ordinary-sources-requires
+    returning-blocks-requires
     place-nodes-requires
     (λ c. search needs)
     (λ c. search needs)
