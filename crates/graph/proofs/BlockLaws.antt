@@ -4,7 +4,7 @@
 --     member-including, -excluding         a block more or less; length-including, length-excluding
 --     size-including, size-excluding       how many blocks there are then; size-le
 --     including-past, excluding-is         what a store writes
---     Ored, size-more, lowest-is, none-more         a word more of a loop
+--     Ored, Anded, size-more, lowest-is, none-more         a word more of a loop
 --     ones-past, rank-more, rank-all       how many blocks are below one
 --     zero-below, shift-below, word-below, below-is     a set's blocks are below n
 -- Assumes nothing.
@@ -17,14 +17,14 @@ use native.Mathlib.Decide.{ℕ-discrete, decLt}
 use native.Mathlib.Omega.{arith}
 use borrow.Author.Count.{below-more}
 use borrow.Author.Tests.{eq-eqb, ne-eqb, eqb-true, lt-ltb, le-ltb}
-use lib.Bits.{bitOr, bitXor, differ}
+use lib.Bits.{bitAnd, bitOr, bitXor, differ, and-step, and-shr}
 use lib.Count.{ones, trailingZeros}
 use lib.Dec.{T, eqb, ltb, ltb→lt}
 use lib.Pow.{pow-pos, pow-mono}
 use lib.ListN.{length, getD, set, length-set, getD-replicate, List·getD-eq-default}
 use lib.Seq.{getD-set-same, getD-set-other, set-out}
 use Rattle.graph.specs.Fold.{count}
-use Rattle.graph.specs.BlockSet.{member, none, including, excluding, Union, sizeOf, LowestOf}
+use Rattle.graph.specs.BlockSet.{member, none, including, excluding, Union, Common, sizeOf, LowestOf}
 use Rattle.graph.specs.WellFormed.{within}
 use Rattle.graph.specs.declared.blockset.Lowest.the-variants.{At}
 use Rattle.graph.proofs.FoldLaws.{all-at, count-same, count-none, count-add, count-one, count-le}
@@ -286,6 +286,51 @@ module _ (u v w : List ℕ) (i : ℕ) (o : Ored u v w i) where
 
   pub ored-all : 16 ≤ i → Union u v w
   ored-all h = union-is u v w (o .long .0) (o .long .1) (o .long .2) (λ k lt. o .done k (omega arith))
+
+-- ---- the blocks of both
+
+-- the lesser of two digits is 1 where both are
+and-digits : (x y : ℕ) → x < 2 → y < 2 → eqb (min x y) 1 ≡ (eqb x 1 && eqb y 1)
+and-digits zero y hx hy = let least : min 0 y ≡ 0 = omega arith in rw least
+and-digits (suc zero) y hx hy = let least : min 1 y ≡ y = omega arith in rw least
+and-digits (suc (suc x)) y hx hy = absurd (omega arith)
+
+-- a digit of an and is set where those of both are
+and-bit : (a b j : ℕ) → eqb (bitAnd a b / 2 ^ j % 2) 1 ≡ (eqb (a / 2 ^ j % 2) 1 && eqb (b / 2 ^ j % 2) 1)
+and-bit a b j =
+    let last : bitAnd (a / 2 ^ j) (b / 2 ^ j) % 2 ≡ min (a / 2 ^ j % 2) (b / 2 ^ j % 2) = omega (arith, and-step (a / 2 ^ j) (b / 2 ^ j)) in
+    rw (and-shr a b j, last) (and-digits (a / 2 ^ j % 2) (b / 2 ^ j % 2) (omega arith) (omega arith))
+
+-- the words of w below i have what both u and v have
+pub record Anded (u v w : List ℕ) (i : ℕ) : Type 0 where
+  pub long : length w ≡ 16
+  pub done : (k : ℕ) → k < i → getD w k 0 ≡ bitAnd (getD u k 0) (getD v k 0)
+
+module _ (u v : List ℕ) where
+  pub anded-none : Anded u v none 0
+  anded-none = record { long = refl; done = λ k h. absurd (not-suc-le-zero h) }
+
+  module _ (w : List ℕ) (i : ℕ) (x : Anded u v w i) where
+    pub anded-more : i < 16 → Anded u v (set w i (bitAnd (getD u i 0) (getD v i 0))) (i + 1)
+    anded-more h =
+        record {
+          long = length-set w i _ ∙ x .long;
+          done =
+              below-more (λ (k : ℕ). getD (set w i (bitAnd (getD u i 0) (getD v i 0))) k 0 ≡ bitAnd (getD u k 0) (getD v k 0)) i
+              (λ k lt. getD-set-other w i k _ 0 (omega arith) ∙ x .done k lt)
+              (getD-set-same w i _ 0 (omega (arith, x .long)));
+        }
+
+    -- all words passed
+    pub anded-all : length u ≡ 16 → 16 ≤ i → Common u v w
+    unfolding member
+    anded-all long h b =
+        elim (decLt b 1024) [
+          | yes lt ↦
+              ap (λ (n : ℕ). eqb (n / 2 ^ (b % 64) % 2) 1) (x .done (b / 64) (omega arith))
+              ∙ and-bit (getD u (b / 64) 0) (getD v (b / 64) 0) (b % 64)
+          | no ge ↦ member-past w b (x .long) (omega arith) ∙ sym (ap (λ (t : Bool). t && member v b) (member-past u b long (omega arith)))
+        ]
 
 -- ---- sets below a block
 

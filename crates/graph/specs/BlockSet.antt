@@ -1,6 +1,6 @@
 -- A set of blocks, of which there are 1,024, as sixteen words: block b is bit b % 64 of word b / 64.
 use mathlib.Core.Path.{_≡_}
-use mathlib.Core.Bool.{Bool, true, false, cond, _||_}
+use mathlib.Core.Bool.{Bool, true, false, cond, _&&_, _||_}
 use mathlib.Core.List.{List}
 use Prim.Native.Nat.{ℕ, _/_, _%_, _^_, _<_}
 use lib.Bits.{bitOr, bitXor}
@@ -26,6 +26,10 @@ excluding w b = cond (member w b) (set w (b / 64) (bitXor (getD w (b / 64) 0) (2
 -- w has the blocks of either
 abbrev pub Union : List ℕ → List ℕ → List ℕ → Type 0
 Union u v w = (b : ℕ) → member w b ≡ (member u b || member v b)
+
+-- w has the blocks of both
+abbrev pub Common : List ℕ → List ℕ → List ℕ → Type 0
+Common u v w = (b : ℕ) → member w b ≡ (member u b && member v b)
 
 -- how many blocks there are
 abbrev pub sizeOf : List ℕ → ℕ

@@ -5,7 +5,7 @@ ghost use lib.Count.{ones, trailingZeros};
 ghost use lib.Dec.{ltb};
 ghost use lib.ListN.{length};
 ghost use Rattle.graph.specs.Fold.{count};
-ghost use Rattle.graph.specs.BlockSet.{member, none, including, excluding, Union, sizeOf, LowestOf};
+ghost use Rattle.graph.specs.BlockSet.{member, none, including, excluding, Union, Common, sizeOf, LowestOf};
 ghost use Rattle.graph.specs.WellFormed.{within};
 
 pub struct BlockSet {
@@ -28,28 +28,6 @@ impl BlockSet {
         ensures { λ r. ⌜ r ≡ member (self .words) b ⌝ }
     {
         has_in(&self.words, b)
-    }
-
-    pub fn with(mut self, b: usize) -> Self
-        ensures { λ r. ⌜ r .words ≡ including (self .words) b ⌝ }
-    {
-        put_in(&mut self.words, b);
-        self
-    }
-
-    pub fn without(mut self, b: usize) -> Self
-        ensures { λ r. ⌜ r .words ≡ excluding (self .words) b ⌝ }
-    {
-        take_from(&mut self.words, b);
-        self
-    }
-
-    pub fn union(mut self, other: BlockSet) -> Self
-        ensures { λ r. ⌜ Union (self .words) (other .words) (r .words) ⌝ }
-    {
-        let words = other.words;
-        add_all(&mut self.words, &words);
-        self
     }
 
     pub fn size(self) -> usize
@@ -112,6 +90,18 @@ pub fn add_all(w: &mut [u64; 16], v: &[u64; 16])
     for i in 0..16 {
         w[i] = w[i] | v[i];
     }
+}
+
+// The blocks of both.
+pub fn common_of(u: &[u64; 16], v: &[u64; 16]) -> [u64; 16]
+    ensures { λ r. ⌜ Common (now (u .entry)) (now (v .entry)) r ⌝ }
+{
+    sixteen(u);
+    let mut w = [0u64; 16];
+    for i in 0..16 {
+        w[i] = u[i] & v[i];
+    }
+    w
 }
 
 // How many blocks there are, by counting ones.

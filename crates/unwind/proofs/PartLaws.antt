@@ -6,7 +6,7 @@
 --     part-has                     what is reached is the part
 --     Leaves, leaves-none, leaves-put, leaves-skip, sources-are     the blocks that an ordinary edge goes out of
 --     ReturnersTo, returners-none, returners-put, returners-skip, returners-are     the blocks that return
---     Anded, anded-none, anded-more, anded-all     those of a set, word by word
+--     common-returns               those of a set
 -- Assumes nothing.
 use mathlib.Core.Path.{_≡_, refl, sym, ap, _∙_}
 use mathlib.Core.Bool.{Bool, true, false, cond, not, _&&_, _||_, and-false, or-false, or-comm}
@@ -19,7 +19,6 @@ use native.Mathlib.Decide.{decLt, ℕ-discrete}
 use native.Mathlib.Omega.{arith}
 use borrow.Author.Count.{below-more}
 use borrow.Author.Tests.{eq-eqb, ne-eqb, lt-ltb, le-ltb}
-use lib.Bits.{bitAnd, and-step, and-shr}
 use lib.Dec.{eqb, ltb}
 use lib.ListN.{length, getD, set, drop, length-set, length-map, List·getD-map}
 use lib.Seq.{getD-set-same, getD-set-other}
@@ -28,7 +27,7 @@ use Rattle.graph.specs.declared.record.Edge.{Edge}
 use Rattle.graph.specs.Graph.{Graph, edge}
 use Rattle.graph.specs.Words.{edgeOf}
 use Rattle.graph.specs.Fold.{some as any, all, among}
-use Rattle.graph.specs.BlockSet.{member, none, including}
+use Rattle.graph.specs.BlockSet.{member, none, including, Common}
 use Rattle.graph.specs.Reached.{Reached, start, step}
 use Rattle.graph.specs.Search.{Finds, Ends, linkIn, link, Linked, Works, seeing}
 use Rattle.graph.specs.WellFormed.{isBlock, edgeEndsExist, isBuilt}
@@ -351,50 +350,7 @@ module _ (g : Graph) where
 
 -- ---- those of a set
 
--- the lesser of two digits is 1 where both are
-and-digits : (x y : ℕ) → x < 2 → y < 2 → eqb (min x y) 1 ≡ (eqb x 1 && eqb y 1)
-and-digits zero y hx hy = let least : min 0 y ≡ 0 = omega arith in rw least
-and-digits (suc zero) y hx hy = let least : min 1 y ≡ y = omega arith in rw least
-and-digits (suc (suc x)) y hx hy = absurd (omega arith)
-
--- a digit of an and is set where those of both are
-and-bit : (a b j : ℕ) → eqb (bitAnd a b / 2 ^ j % 2) 1 ≡ (eqb (a / 2 ^ j % 2) 1 && eqb (b / 2 ^ j % 2) 1)
-and-bit a b j =
-    let last : bitAnd (a / 2 ^ j) (b / 2 ^ j) % 2 ≡ min (a / 2 ^ j % 2) (b / 2 ^ j % 2) = omega (arith, and-step (a / 2 ^ j) (b / 2 ^ j)) in
-    rw (and-shr a b j, last) (and-digits (a / 2 ^ j % 2) (b / 2 ^ j % 2) (omega arith) (omega arith))
-
--- the words of w below i have what both u and v have
-pub record Anded (u v w : List ℕ) (i : ℕ) : Type 0 where
-  pub long : length w ≡ 16
-  pub done : (k : ℕ) → k < i → getD w k 0 ≡ bitAnd (getD u k 0) (getD v k 0)
-
-module _ (u v : List ℕ) where
-  pub anded-none : Anded u v none 0
-  anded-none = record { long = refl; done = λ k h. absurd (not-suc-le-zero h) }
-
-  module _ (w : List ℕ) (i : ℕ) (x : Anded u v w i) where
-    pub anded-more : i < 16 → Anded u v (set w i (bitAnd (getD u i 0) (getD v i 0))) (i + 1)
-    anded-more h =
-        record {
-          long = length-set w i _ ∙ x .long;
-          done =
-              below-more (λ (k : ℕ). getD (set w i (bitAnd (getD u i 0) (getD v i 0))) k 0 ≡ bitAnd (getD u k 0) (getD v k 0)) i
-              (λ k lt. getD-set-other w i k _ 0 (omega arith) ∙ x .done k lt)
-              (getD-set-same w i _ 0 (omega (arith, x .long)));
-        }
-
-    -- all words passed: the blocks of both
-    member-both : length u ≡ 16 → 16 ≤ i → (b : ℕ) → member w b ≡ (member u b && member v b)
-    unfolding member
-    member-both long h b =
-        elim (decLt b 1024) [
-          | yes lt ↦
-              ap (λ (n : ℕ). eqb (n / 2 ^ (b % 64) % 2) 1) (x .done (b / 64) (omega arith))
-              ∙ and-bit (getD u (b / 64) 0) (getD v (b / 64) 0) (b % 64)
-          | no ge ↦ member-past w b (x .long) (omega arith) ∙ sym (ap (λ (t : Bool). t && member v b) (member-past u b long (omega arith)))
-        ]
-
-    -- those of u that return, where v has all that do
-    pub anded-all : length u ≡ 16 → 16 ≤ i → (g : Graph) → Returners g v → Exist g u → Returns g u w
-    anded-all long h g returners exist =
-        record { those = λ b. member-both long h b ∙ ⊎-elim (λ m. rw m (returners .which b (exist b m))) (λ m. rw m) (decided (member u b)) }
+-- those of u that return, where v has all that do
+pub common-returns : (g : Graph) (u v w : List ℕ) → Common u v w → Returners g v → Exist g u → Returns g u w
+common-returns g u v w both returners exist =
+    record { those = λ b. both b ∙ ⊎-elim (λ m. rw m (returners .which b (exist b m))) (λ m. rw m) (decided (member u b)) }

@@ -127,18 +127,6 @@ pub fn returning_blocks(g: &Words) -> [u64; 16]
     set
 }
 
-// The blocks of a set that return, told which blocks do.
-pub fn returns_of(returners: &[u64; 16], set: &[u64; 16]) -> [u64; 16]
-    ensures { λ r. ⌜ ((g : Graph) → Returners g (now (returners .entry)) → Exist g (now (set .entry)) → Returns g (now (set .entry)) r) ⌝ }
-{
-    sixteen(set);
-    let mut found = [0u64; 16];
-    for i in 0..16 {
-        found[i] = set[i] & returners[i];
-    }
-    found
-}
-
 // The part of the funclet whose entry is block `start`, along edges that are linked by their source.
 pub fn part_of(
     g: &Words,

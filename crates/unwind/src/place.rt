@@ -2,11 +2,11 @@
 use crate::blocks::Lead;
 use crate::blocks::leading_block;
 use crate::part::part_of;
-use crate::part::returns_of;
 use crate::slots::put_set;
 use crate::slots::set_at;
 use crate::tries::store::node_at;
 use crate::tries::store::number_at;
+use graph::blockset::common_of;
 use graph::blockset::rank_in;
 use graph::blockset::size_of;
 use graph::error::AddressBuildError;
@@ -119,7 +119,7 @@ fn place_node(
     }
     firsts[slot] = (i + 1) as u16;
     let part = part_at(g, head, next, barriers, f, entry);
-    let ret = returns_of(returners, &part);
+    let ret = common_of(&part, returners);
     store_node(i, 0, entry, &part, &ret, bases, entries, parts, returns);
     0
 }

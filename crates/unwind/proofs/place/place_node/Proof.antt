@@ -13,6 +13,7 @@ use Rattle.unwind.specs.declared.tries.store.NodeRecord.{NodeRecord}
 use Rattle.unwind.specs.Nodes.{recordIn, funcletIn}
 use Rattle.addition.specs.Instance.{entryBlock}
 use Rattle.unwind.specs.Placed.{funcletAt, slotOf}
+use Rattle.unwind.proofs.PartLaws.{common-returns}
 use Rattle.unwind.proofs.PlaceLaws.{sizes-kept, entry-lt, entry-built, entry-most, part-is, part-rises, first-next, clone-next}
 use Rattle.unwind.proofs.FirstLaws.{slot-is, slot-in, late-lt, late-none, late-like, firsts-late, none-yet, firsts-more}
 use Rattle.unwind.proofs.Sets.{returns-has, has-lt}
@@ -129,7 +130,7 @@ returns-2 c =
     let m = routesIn (a .s .now) (a .y) in
     let f = funclet (c .before .before .before .before .before .before .before .before .before .before .before .before .before .before .before .before .before .before .before .before .before .before .before) in
     let part = c .before .before .before .before .before .before .before .before .before .before .before .before .before .before .before .before .before .part-at in
-    let ret = c .before .before .before .before .before .before .before .before .before .before .before .before .before .before .before .returns-of in
+    let ret = c .before .before .before .before .before .before .before .before .before .before .before .before .before .before .before .common-of in
     let lead = rw (sym f) at (leads (c .before .before .before .before .before .before .before .before .before .before .before .before .before .before .before .before .before .before .before .before .before .before .before .before .before .before .before .before .before .before .before .before .before .before)) in
     let has = rw f at (part-is g m _ _ _ _ lead (pre .0 .bars) (c .before .before .before .before .before .before .before .before .before .before .before .before .before .before .before .before .before .before .before .before .before .before .entry-of .ensures) (part .ensures .0) (part .ensures .1)) in
     let left = c .before .before .before .before .before .before .before .before .before .before .before .before .before .before .before .before .before .before .if1 .left in
@@ -141,7 +142,7 @@ returns-2 c =
             part = part .result;
             ret = ret .result;
             part-has = has;
-            returns-has = returns-has g _ _ _ has (ret .ensures g (pre .0 .returns) (has-lt (length (g .blocks)) (block-most (a .g .now)) _ (part-rises g _ _) _ has));
+            returns-has = returns-has g _ _ _ has (common-returns g _ _ _ (ret .ensures) (pre .0 .returns) (has-lt (length (g .blocks)) (block-most (a .g .now)) _ (part-rises g _ _) _ has));
             placed = rw (entry (c .before .before .before .before .before .before .before .before .before .before .before .before .before .before .before .before .before .before .before .before .before .before)) at (c .before .before .before .before .before .before .before .before .store-node .ensures);
           }),
       firsts-more g m (a .nodes .now) (a .firsts .now) (a .i) _ _ at v (pre .1) (pre .3) left,
