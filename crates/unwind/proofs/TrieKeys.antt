@@ -9,7 +9,7 @@
 --     key-small                                a key stands among the 512 steps
 -- Assumes nothing.
 use mathlib.Core.Path.{_≡_, refl, sym, ap, _∙_}
-use mathlib.Core.Bool.{true, false}
+use mathlib.Core.Bool.{Bool, true, false, cond, _&&_}
 use mathlib.Core.List.{List, [], _∷_, _++_, append-nil, append-assoc, List·Memᴰ·eq-of-singleton}
 use mathlib.Core.Option.{Option, none, some}
 use Prim.Native.Nat.{ℕ, zero, suc, _+_, _<_, compare, Ordering}
@@ -62,9 +62,13 @@ module _ {A : Type 0} (c : A → A → Ordering) (last : Option A) where
     unfolding nearest nearer
     nearer-taken p q = rw (one, p, q)
 
-    pub nearer-late : after c last x ≡ true → before c x best ≡ false → nearest c last best l ≡ best
+    pub nearer-late : before c x best ≡ false → nearest c last best l ≡ best
     unfolding nearest nearer
-    nearer-late p q = rw (one, p, q)
+    nearer-late q = rw (one, q) (go (after c last x))
+      where
+        go : (b : Bool) → cond (b && false) (some x) best ≡ best
+        go true = refl
+        go false = refl
 
     pub nearer-early : after c last x ≡ false → nearest c last best l ≡ best
     unfolding nearest nearer

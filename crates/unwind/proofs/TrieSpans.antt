@@ -1,11 +1,12 @@
 -- The next key of the first paths of a group, path by path, and which of them have it.
 --     among-none, among-all     of no path, and of all of them
 --     key-none, key-early       the next path has no key, or one that comes no later than `last`
---     key-merged                it has a later one
+--     key-taken                 it has a later one, which comes before `best`
+--     key-merged                it has one, and so has a path before
 --     key-alone                 the group has one path, whose key is `last`
 -- Assumes nothing.
 use mathlib.Core.Path.{_≡_, refl, sym, ap, _∙_}
-use mathlib.Core.Bool.{true, false, false≢true}
+use mathlib.Core.Bool.{Bool, true, false, false≢true}
 use mathlib.Core.List.{List, [], _∷_, List·Memᴰ·head}
 use mathlib.Core.Option.{Option, none, some}
 use Prim.Native.Nat.{ℕ, _+_, compare, Ordering, Ordering·lt, Ordering·eq, Ordering·gt}
@@ -87,42 +88,41 @@ module _ (m : RouteImage) (g : Group) (last : NextKey) where
             stays (nearer-early order (keyOf m last) (keyOf m best) (keyIn m key) one early)
             (λ b p q. false≢true (sym early ∙ rw (same b q) (next-in order total-key (keyOf m last) (firstKeys m g n) b (sym (so-far .is) ∙ p) .1)))
 
-        module _ (late : after order (keyOf m last) (keyIn m key) ≡ true) where
-          -- it comes before `best`, so that no path before has it
-          taken : before order (keyIn m key) (keyOf m best) ≡ true → NextAmong m g last (n + 1) (At key)
-          unfolding keyOf
-          taken first =
-              record {
-                is = next-is (some (keyIn m key)) (nearer-taken order (keyOf m last) (keyOf m best) (keyIn m key) one late first);
-                stands = found .stands;
-                spans = record {
-                  low = omega (arith, found .here .0);
-                  mid = omega (arith, found .here .0, found .here .1);
-                  high = omega (arith, found .here .1);
-                  all = λ i h e.
-                      elim (decLt i n) [
-                        | yes lt ↦
-                            absurd (next-new order total-key (keyOf m last) (firstKeys m g n) (keyIn m key)
-                            (mem-flat keysAt n i lt (rw e (List·Memᴰ·head refl))) late (rw (← so-far .is) first))
-                        | no ge ↦ (omega (arith, found .here .0), omega (arith, found .here .1))
-                      ];
-                };
-              }
+        -- it comes before `best`, so that no path before has it
+        pub key-taken : after order (keyOf m last) (keyIn m key) ≡ true → before order (keyIn m key) (keyOf m best) ≡ true → NextAmong m g last (n + 1) (At key)
+        unfolding keyOf
+        key-taken late first =
+            record {
+              is = next-is (some (keyIn m key)) (nearer-taken order (keyOf m last) (keyOf m best) (keyIn m key) one late first);
+              stands = found .stands;
+              spans = record {
+                low = omega (arith, found .here .0);
+                mid = omega (arith, found .here .0, found .here .1);
+                high = omega (arith, found .here .1);
+                all = λ i h e.
+                    elim (decLt i n) [
+                      | yes lt ↦
+                          absurd (next-new order total-key (keyOf m last) (firstKeys m g n) (keyIn m key)
+                          (mem-flat keysAt n i lt (rw e (List·Memᴰ·head refl))) late (rw (← so-far .is) first))
+                      | no ge ↦ (omega (arith, found .here .0), omega (arith, found .here .1))
+                    ];
+              };
+            }
 
-          later : (b : Key) → keyOf m best ≡ some (keyIn m b) → isLt (order (keyIn m key) (keyIn m b)) ≡ false → nearest order (keyOf m last) (keyOf m best) (keysAt n) ≡ keyOf m best
-          later b e past = nearer-late order (keyOf m last) (keyOf m best) (keyIn m key) one late (rw e past)
+        later : (b : Key) → keyOf m best ≡ some (keyIn m b) → isLt (order (keyIn m key) (keyIn m b)) ≡ false → nearest order (keyOf m last) (keyOf m best) (keysAt n) ≡ keyOf m best
+        later b e past = nearer-late order (keyOf m last) (keyOf m best) (keyIn m key) one (rw e past)
 
-  pub key-merged : (n : ℕ) (best : NextKey) → NextAmong m g last n best → (key : Key) → KeyOf m g (g .first + n) (At key) → after order (keyOf m last) (keyIn m key) ≡ true → NextAmong m g last (n + 1) (merged m key best)
+  pub key-merged : (n : ℕ) (b : Key) → NextAmong m g last n (At b) → (key : Key) → KeyOf m g (g .first + n) (At key) → NextAmong m g last (n + 1) (At (merged m last key b))
   unfolding merged keyOf keyIn
-  key-merged n Nothing so-far key found late = taken n Nothing so-far key found late refl
-  key-merged n (At b) so-far key found late = go (order (keyIn m key) (keyIn m b)) refl
+  key-merged n b so-far key found = go (order (keyIn m key) (keyIn m b)) (after order (keyOf m last) (keyIn m key)) refl refl
     where
-      go : (o : Ordering) → order (keyIn m key) (keyIn m b) ≡ o → NextAmong m g last (n + 1) (mergedOn o key b)
-      go Ordering·lt e = taken n (At b) so-far key found late (ap isLt e)
-      go Ordering·eq e =
+      go : (o : Ordering) (t : Bool) → order (keyIn m key) (keyIn m b) ≡ o → after order (keyOf m last) (keyIn m key) ≡ t → NextAmong m g last (n + 1) (At (mergedOn o t key b))
+      go Ordering·lt true e late = key-taken n (At b) so-far key found late (ap isLt e)
+      go Ordering·lt false e early = key-early n (At b) so-far key found early
+      go Ordering·eq t e a =
           let s = so-far .spans in
           record {
-            is = next-is n (At b) so-far (some (keyIn m b)) (later n (At b) so-far key found late b refl (ap isLt e));
+            is = next-is n (At b) so-far (some (keyIn m b)) (later n (At b) so-far key found b refl (ap isLt e));
             stands = record {
               within = so-far .stands .within;
               behind = so-far .stands .behind;
@@ -140,8 +140,8 @@ module _ (m : RouteImage) (g : Group) (last : NextKey) where
                   ];
             };
           }
-      go Ordering·gt e =
-          stays n (At b) so-far (later n (At b) so-far key found late b refl (ap isLt e))
+      go Ordering·gt t e a =
+          stays n (At b) so-far (later n (At b) so-far key found b refl (ap isLt e))
           (λ x p q.
           let alike : keyIn m key ≡ keyIn m b = let k = same n (At b) so-far key found x q in cc in
           not-gt-eq (sym e ∙ rw alike (self-eq order total-key (keyIn m b))))

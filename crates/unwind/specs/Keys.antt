@@ -1,5 +1,6 @@
 -- Keys of a group of paths: the calls before the next funclet, and the funclet. What the search for the next one answers.
 use mathlib.Core.Path.{_≡_}
+use mathlib.Core.Bool.{Bool, cond}
 use mathlib.Core.List.{List, [], _∷_, _++_, map}
 use mathlib.Core.Option.{Option, none, some}
 use Prim.Native.Nat.{ℕ, _+_, _-_, _≤_, _<_, compare, Ordering, Ordering·lt, Ordering·eq, Ordering·gt}
@@ -16,7 +17,7 @@ use Rattle.addition.specs.Order.{Tagged, tagged, compareTagged}
 use Rattle.addition.specs.Trie.{cut, groupOn}
 use Rattle.addition.specs.Walk.{_∈_}
 use Rattle.unwind.specs.Nodes.{stepIn, tagsIn}
-use Rattle.unwind.specs.Interning.{nearest, stepsIn, leftAt, pathsOf}
+use Rattle.unwind.specs.Interning.{after, nearest, stepsIn, leftAt, pathsOf}
 
 -- the steps that a key stands for
 abbrev pub keySteps : Tagged ℕ → List UnwindStep
@@ -39,11 +40,12 @@ abbrev pub KeyAt : ℕ → NextKey → Type 0
 KeyAt q (At k) = (k .first ≡ q) × (k .last ≡ q)
 KeyAt q Nothing = Unit {0}
 
--- the one of a later path's key and another that comes first, with the paths that have it
-abbrev pub mergedOn : Ordering → Key → Key → NextKey
-mergedOn Ordering·lt k b = At k
-mergedOn Ordering·eq k b = At (record { step = b .step; calls = b .calls; first = b .first; last = k .last })
-mergedOn Ordering·gt k b = At b
+-- the one of a later path's key and another that comes next, with the paths that have it; `late` says whether the path's key
+-- comes after the last one that was met, as the other does
+abbrev pub mergedOn : Ordering → Bool → Key → Key → Key
+mergedOn Ordering·lt late k b = cond late k b
+mergedOn Ordering·eq late k b = record { step = b .step; calls = b .calls; first = b .first; last = k .last }
+mergedOn Ordering·gt late k b = b
 
 module _ (m : RouteImage) where
   unfoldable pub keyIn : Key → Tagged ℕ
@@ -74,9 +76,8 @@ module _ (m : RouteImage) where
     pub stands : KeyIn g r
     pub here : KeyAt q r
 
-  unfoldable pub merged : Key → NextKey → NextKey
-  merged k (At b) = mergedOn (compareTagged compare (keyIn k) (keyIn b)) k b
-  merged k Nothing = At k
+  unfoldable pub merged : NextKey → Key → Key → Key
+  merged last k b = mergedOn (compareTagged compare (keyIn k) (keyIn b)) (after (compareTagged compare) (keyOf last) (keyIn k)) k b
 
   -- the keys of the n first paths of a group
   abbrev pub firstKeys : Group → ℕ → List (Tagged ℕ)

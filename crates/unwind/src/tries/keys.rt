@@ -65,10 +65,13 @@ fn nearer_key(
     let NextKey::At(key) = key_of(s, y, starts, g, g.first + k) else {
         return best;
     };
-    if is_after(s, y, last, key) {
-        return merge_key(s, y, key, best);
-    }
-    best
+    let NextKey::At(other) = best else {
+        if is_after(s, y, last, key) {
+            return NextKey::At(key);
+        }
+        return best;
+    };
+    NextKey::At(merge_key(s, y, last, key, other))
 }
 
 // The key of path q, if it is one of the group's and enters a funclet.
@@ -105,23 +108,26 @@ fn is_after(s: &[u8], y: RouteLayout, last: NextKey, key: Key) -> bool
     }
 }
 
-// The one of a path's key and `best` that comes first. If they are the same, the path is the last that has it.
-fn merge_key(s: &[u8], y: RouteLayout, key: Key, best: NextKey) -> NextKey
-    requires { ⌜ (key .step + key .calls ≤ 512) × KeySmall best ⌝ }
-    ensures { λ r. ⌜ r ≡ merged (routesIn (now (s .entry)) y) key best ⌝ }
+// Which of a path's key and `best`, which comes after `last`, comes next. If they are the same, the path is the last that
+// has it. Only a key that comes before `best` is compared with `last`.
+fn merge_key(s: &[u8], y: RouteLayout, last: NextKey, key: Key, best: Key) -> Key
+    requires { ⌜ KeySmall last × (key .step + key .calls ≤ 512) × (best .step + best .calls ≤ 512) ⌝ }
+    ensures { λ r. ⌜ r ≡ merged (routesIn (now (s .entry)) y) last key best ⌝ }
 {
-    let NextKey::At(other) = best else {
-        return NextKey::At(key);
-    };
-    match compare_keys(s, y, key, other) {
-        Order::Less => NextKey::At(key),
+    match compare_keys(s, y, key, best) {
         Order::Greater => best,
-        Order::Equal => NextKey::At(Key {
-            step: other.step,
-            calls: other.calls,
-            first: other.first,
+        Order::Equal => Key {
+            step: best.step,
+            calls: best.calls,
+            first: best.first,
             last: key.last,
-        }),
+        },
+        Order::Less => {
+            if is_after(s, y, last, key) {
+                return key;
+            }
+            best
+        }
     }
 }
 
