@@ -1,16 +1,15 @@
 -- Keys of a group of paths, and the next one in order.
 --     less-number                              a comparison of numbers as a test
---     nearest-append, nearest-one              the next among two lists, and among one
+--     nearest-append, nearest-none             the next among two lists, and among none
 --     nearer-taken, nearer-late, nearer-early  one is nearer, or is not
 --     joined-append, joined-flat, keys-flat    the keys of a group's paths, path by path
---     one-key                                  a path has no other key than its own
 --     left-is                                  what is left of a path, as a list of one or none
 --     key-outside, key-over, key-enters        the key of a path: it is none of the group's, ends, or enters a funclet
 --     key-small                                a key stands among the 512 steps
 -- Assumes nothing.
 use mathlib.Core.Path.{_≡_, refl, sym, ap, _∙_}
 use mathlib.Core.Bool.{Bool, true, false, cond, _&&_}
-use mathlib.Core.List.{List, [], _∷_, _++_, append-nil, append-assoc, List·Memᴰ·eq-of-singleton}
+use mathlib.Core.List.{List, [], _∷_, _++_, append-nil, append-assoc}
 use mathlib.Core.Option.{Option, none, some}
 use Prim.Native.Nat.{ℕ, zero, suc, _+_, _<_, compare, Ordering}
 use native.Mathlib.Decide.{decLt}
@@ -18,7 +17,7 @@ use native.Mathlib.Omega.{arith}
 use borrow.Author.Tests.{lt-ltb, le-ltb}
 use lib.Dec.{ltb}
 use Rattle.image.specs.Image.{RouteImage}
-use Rattle.image.specs.Deal.{UnwindStep, UnwindEnd, UnwindPath}
+use Rattle.image.specs.Deal.{UnwindStep, UnwindPath}
 use Rattle.image.specs.Accepted.{AcceptedRoutes}
 use Rattle.graph.specs.Fold.{flat}
 use Rattle.graph.specs.Route.{pathIn}
@@ -28,13 +27,10 @@ use Rattle.unwind.specs.declared.tries.paths.CutAt.the-variants.{Over, E
 use Rattle.unwind.specs.declared.tries.keys.NextKey.{NextKey}
 use Rattle.unwind.specs.declared.tries.keys.NextKey.the-variants.{At, Nothing as NoKey}
 use Rattle.addition.specs.Lists.{joined}
-use Rattle.addition.specs.Order.{Tagged}
-use Rattle.addition.specs.Trie.{Cut, over, enters, cut, groupOn}
-use Rattle.addition.specs.Walk.{_∈_}
+use Rattle.addition.specs.Trie.{Cut, over, cut, groupOn}
 use Rattle.unwind.specs.Nodes.{tagsIn}
 use Rattle.unwind.specs.Interning.{isLt, after, before, nearer, nearest, strip, leftWith, stepsIn, leftAt, pathsOf, leftSteps, LeftOf, cutOf, Cuts}
 use Rattle.unwind.specs.Keys.{KeySmall, keysOf, keyIn, keyOf, KeyIn, KeyOf}
-use Rattle.addition.proofs.Lists.{none-in}
 use Rattle.unwind.proofs.TrieOrder.{number-lt, number-gt, number-eq}
 
 pub less-number : (a b : ℕ) → isLt (compare a b) ≡ ltb a b
@@ -93,16 +89,6 @@ module _ {A B : Type 0} (f : A → List B) where
 
 -- ---- the key of a path
 
-one-on : {x : Tagged ℕ} (k : Cut) → x ∈ groupOn k → groupOn k ≡ x ∷ []
-unfolding groupOn
-one-on (over l) m = absurd (none-in m)
-one-on (enters l f s) m = ap (λ (y : Tagged ℕ). y ∷ []) (sym (List·Memᴰ·eq-of-singleton m))
-
-one-left : {x : Tagged ℕ} (e : UnwindEnd) (o : Option (List UnwindStep)) → x ∈ keysOf (leftWith e o) → keysOf (leftWith e o) ≡ x ∷ []
-unfolding keysOf joined
-one-left e none m = absurd (none-in m)
-one-left e (some s) m = rw append-nil (one-on (cut s) (rw append-nil at m))
-
 module _ (m : RouteImage) (g : Group) where
   pub keys-flat : keysOf (pathsOf m g) ≡ flat (λ k. keysOf (leftAt m g (g .first + k))) (g .count)
   unfolding keysOf pathsOf
@@ -112,10 +98,6 @@ module _ (m : RouteImage) (g : Group) where
     pub left-is : (o : Option (List UnwindStep)) → strip (stepsIn m (g .from) (g .depth)) (pathIn m q .steps) ≡ o → leftAt m g q ≡ leftWith (pathIn m q .end) o
     unfolding leftAt
     left-is o e = ap (leftWith (pathIn m q .end)) e
-
-    pub one-key : {x : Tagged ℕ} → x ∈ keysOf (leftAt m g q) → keysOf (leftAt m g q) ≡ x ∷ []
-    unfolding leftAt
-    one-key = one-left (pathIn m q .end) (strip (stepsIn m (g .from) (g .depth)) (pathIn m q .steps))
 
     pub left-none : LeftOf m g q Nothing → leftAt m g q ≡ []
     unfolding leftSteps
@@ -138,7 +120,7 @@ module _ (m : RouteImage) (g : Group) where
       unfolding groupOn cutOf
       key-over k = key-on (over (tagsIn m a n)) (k .is)
 
-      pub key-enters : {c : ℕ} → Cuts m a n (Enters c) → KeyOf m g q (At (record { step = a; calls = c; first = q; last = q }))
+      pub key-enters : {c : ℕ} → Cuts m a n (Enters c) → KeyOf m g q (At (record { step = a; calls = c; first = q; last = q; more = false }))
       unfolding groupOn cutOf keyOf keyIn
       key-enters {c} k =
           record {

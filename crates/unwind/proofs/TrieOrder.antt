@@ -7,6 +7,8 @@
 --     put-least                    one that comes before all others
 --     next-none, next-in, next-some     the next in order behind `last`: there is none, or it is the least of what is left
 --     next-new                     one that comes before it stands not in the list
+--     not-beyond                   one that does not come after `last` does not come after one that does
+--     next-final                   there is none behind `last`, and so none behind one that comes after it
 use mathlib.Core.Path.{_≡_, refl, sym, _∙_, ap}
 use mathlib.Core.Bool.{Bool, true, false, cond, _&&_, false≢true}
 use mathlib.Core.Option.{Option, none, some, Option·none-ne-some}
@@ -325,6 +327,21 @@ module _ {A : Type 0} (c : A → A → Ordering) (total : Total c) where
       go Ordering·gt b e k = absurd (false≢true (sym (ap isLe e) ∙ p))
 
   module _ (last : Option A) where
+    -- what comes after one that comes after `last`
+    beyond : (x y : A) → after c last x ≡ true → after c (some x) y ≡ true → after c last y ≡ true
+    beyond x y = go last
+      where
+        go : (o : Option A) → after c o x ≡ true → isLt (c x y) ≡ true → after c o y ≡ true
+        go none p q = refl
+        go (some k) p q = ap isLt (total .trans k x y (is-lt (c k x) p) (is-lt (c x y) q))
+
+    pub not-beyond : (x y : A) → after c last x ≡ true → after c last y ≡ false → after c (some x) y ≡ false
+    not-beyond x y p q = go (after c (some x) y) refl
+      where
+        go : (b : Bool) → after c (some x) y ≡ b → b ≡ false
+        go true e = absurd (false≢true (sym q ∙ beyond x y p e))
+        go false e = refl
+
     -- what is found among those of a list, where `best` was found before
     record Near (best : Option A) (l : List A) (x : A) : Type 0 where
       from : (best ≡ some x) ⊎ ((x ∈ l) × (after c last x ≡ true))
@@ -418,11 +435,13 @@ module _ {A : Type 0} (c : A → A → Ordering) (total : Total c) where
         let k = keep (after c last) l in
         sym (put-member c total (mem-keep (after c last) (here .0) (here .1)))
         ∙ put-least c total x k (λ y m. let z = keep-mem (after c last) l m in n .least y (z .0) (z .1))
-        ∙ ap (λ (m : List A). x ∷ sorted c m) (keep-keep (after c last) (after c (some x)) l (λ y. beyond y (here .1)))
-      where
-        beyond : (y : A) → after c last x ≡ true → after c (some x) y ≡ true → after c last y ≡ true
-        beyond y = go last
-          where
-            go : (o : Option A) → after c o x ≡ true → isLt (c x y) ≡ true → after c o y ≡ true
-            go none p q = refl
-            go (some k) p q = ap isLt (total .trans k x y (is-lt (c k x) p) (is-lt (c x y) q))
+        ∙ ap (λ (m : List A). x ∷ sorted c m) (keep-keep (after c last) (after c (some x)) l (λ y. beyond x y (here .1)))
+
+  pub next-final : (last : Option A) (l : List A) → nearest c last none l ≡ none → (x : A) → after c last x ≡ true → nearest c (some x) none l ≡ none
+  next-final last l e x p = go (nearest c (some x) none l) refl
+    where
+      go : (o : Option A) → nearest c (some x) none l ≡ o → o ≡ none
+      go none k = refl
+      go (some y) k =
+          let here = next-in (some x) l y k in
+          absurd (next-new last l y (here .0) (beyond last x y p (here .1)) (rw e))

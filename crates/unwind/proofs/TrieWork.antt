@@ -6,7 +6,7 @@
 --     close-room, work-done        there is none: the node is closed
 -- Assumes nothing.
 use mathlib.Core.Path.{_≡_, refl, sym, ap, ap₂, subst, _∙_}
-use mathlib.Core.Bool.{true}
+use mathlib.Core.Bool.{true, false≢true}
 use mathlib.Core.List.{List, [], _∷_, _++_, map, append-nil, map-append}
 use mathlib.Core.Option.{Option, none, some}
 use Prim.Native.Nat.{ℕ, suc, _+_, _*_, _≤_, _<_, compare, Ordering}
@@ -28,7 +28,7 @@ use Rattle.addition.specs.Trie.{Node, Interned as Made, groups, rest, create, C
 use Rattle.addition.specs.Walk.{_∈_}
 use Rattle.unwind.specs.Nodes.{branchIn, branches, tagsIn, funcletIn, edgeOf, nodesIn, Stored, BranchSmall, BranchPut}
 use Rattle.unwind.specs.Interning.{after, nearest, pathsOf}
-use Rattle.unwind.specs.Keys.{keysOf, keyIn, keyOf, KeyIn, Had, NextOf}
+use Rattle.unwind.specs.Keys.{keysOf, keyIn, keyOf, KeyIn, Final, NextOf}
 use Rattle.unwind.specs.Laid.{endsList}
 use Rattle.unwind.specs.Lower.{Lower}
 use Rattle.unwind.specs.Interns.{interned, weight, groupBehind, funcletOf, Grouped, Room, Closes, Interns}
@@ -120,7 +120,7 @@ module _ (m : RouteImage) (g : Group) where
       pub ends-long : length ends ≡ length ends₀
       pub stack-long : length stack ≡ length stack₀
       pub key : KeyIn m g last
-      pub had : Had m g last
+      pub final : Final m (keysOf (pathsOf m g)) last
       pub stored : Stored nodes edges ends c
       pub lower : Lower (nodesIn m nodes edges ends (c .nodes))
       pub below : (k : ℕ) → k < top → branchIn stack k ≡ branchIn stack₀ k
@@ -140,7 +140,7 @@ module _ (m : RouteImage) (g : Group) where
           ends-long = refl;
           stack-long = refl;
           key = tt;
-          had = tt;
+          final = λ e. absurd (false≢true e);
           stored = stored;
           lower = lower;
           below = λ k h. refl;
@@ -257,7 +257,7 @@ module _ (m : RouteImage) (g : Group) where
                   ends-long = ld ∙ work .ends-long;
                   stack-long = put .long ∙ ls ∙ work .stack-long;
                   key = next .stands;
-                  had = here last key next .0;
+                  final = next .final;
                   stored = done .stored;
                   lower = child-lower;
                   below = λ k h. put .others k (λ e. omega arith) ∙ done .below k (omega arith) ∙ work .below k h;

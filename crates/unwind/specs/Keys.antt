@@ -1,6 +1,6 @@
 -- Keys of a group of paths: the calls before the next funclet, and the funclet. What the search for the next one answers.
 use mathlib.Core.Path.{_≡_}
-use mathlib.Core.Bool.{Bool, cond}
+use mathlib.Core.Bool.{Bool, true, false, cond, not}
 use mathlib.Core.List.{List, [], _∷_, _++_, map}
 use mathlib.Core.Option.{Option, none, some}
 use Prim.Native.Nat.{ℕ, _+_, _-_, _≤_, _<_, compare, Ordering, Ordering·lt, Ordering·eq, Ordering·gt}
@@ -15,7 +15,6 @@ use Rattle.unwind.specs.declared.tries.keys.NextKey.the-variants.{At, No
 use Rattle.addition.specs.Lists.{joined}
 use Rattle.addition.specs.Order.{Tagged, tagged, compareTagged}
 use Rattle.addition.specs.Trie.{cut, groupOn}
-use Rattle.addition.specs.Walk.{_∈_}
 use Rattle.unwind.specs.Nodes.{stepIn, tagsIn}
 use Rattle.unwind.specs.Interning.{after, nearest, stepsIn, leftAt, pathsOf}
 
@@ -40,12 +39,21 @@ abbrev pub KeyAt : ℕ → NextKey → Type 0
 KeyAt q (At k) = (k .first ≡ q) × (k .last ≡ q)
 KeyAt q Nothing = Unit {0}
 
+-- whether a key says that none comes after it
+abbrev pub isFinal : NextKey → Bool
+isFinal (At k) = not (k .more)
+isFinal Nothing = false
+
+-- a key that another comes after
+abbrev pub followedBy : Key → Key
+followedBy k = record { step = k .step; calls = k .calls; first = k .first; last = k .last; more = true }
+
 -- the one of a later path's key and another that comes next, with the paths that have it; `late` says whether the path's key
 -- comes after the last one that was met, as the other does
 abbrev pub mergedOn : Ordering → Bool → Key → Key → Key
-mergedOn Ordering·lt late k b = cond late k b
-mergedOn Ordering·eq late k b = record { step = b .step; calls = b .calls; first = b .first; last = k .last }
-mergedOn Ordering·gt late k b = b
+mergedOn Ordering·lt late k b = cond late (followedBy k) b
+mergedOn Ordering·eq late k b = record { step = b .step; calls = b .calls; first = b .first; last = k .last; more = b .more }
+mergedOn Ordering·gt late k b = followedBy b
 
 module _ (m : RouteImage) where
   unfoldable pub keyIn : Key → Tagged ℕ
@@ -66,10 +74,9 @@ module _ (m : RouteImage) where
   KeyIn g (At k) = Stands g k
   KeyIn g Nothing = Unit {0}
 
-  -- some path of the group has the key
-  abbrev pub Had : Group → NextKey → Type 0
-  Had g (At k) = keyIn k ∈ keysOf (pathsOf m g)
-  Had g Nothing = Unit {0}
+  -- none of a list comes after a key that says so
+  abbrev pub Final : List (Tagged ℕ) → NextKey → Type 0
+  Final l r = isFinal r ≡ true → nearest (compareTagged compare) (keyOf r) none l ≡ none
 
   pub record KeyOf (g : Group) (q : ℕ) (r : NextKey) : Type 0 where
     pub is : keysOf (leftAt m g q) ≡ listOf (keyOf r)
@@ -99,9 +106,11 @@ module _ (m : RouteImage) where
     pub is : keyOf r ≡ nearest (compareTagged compare) (keyOf last) none (firstKeys g n)
     pub stands : KeyIn g r
     pub spans : SpansIn g n r
+    pub final : Final (firstKeys g n) r
 
   -- and of all of them
   pub record NextOf (g : Group) (last r : NextKey) : Type 0 where
     pub is : keyOf r ≡ nearest (compareTagged compare) (keyOf last) none (keysOf (pathsOf m g))
     pub stands : KeyIn g r
     pub spans : SpansIn g (g .count) r
+    pub final : Final (keysOf (pathsOf m g)) r

@@ -15,15 +15,17 @@ ghost use lib.ListN.{length};
 ghost use Rattle.image.specs.Image.{routesIn};
 ghost use Rattle.image.specs.Accepted.{AcceptedRoutes};
 ghost use Rattle.addition.specs.Order.{compareTagged};
-ghost use Rattle.unwind.specs.Interning.{orderingOf, after, Starts, GroupIn};
-ghost use Rattle.unwind.specs.Keys.{keyIn, keyOf, merged, KeySmall, KeyIn, Had, KeyOf, NextAmong, NextOf};
+ghost use Rattle.unwind.specs.Interning.{orderingOf, after, Starts, GroupIn, pathsOf};
+ghost use Rattle.unwind.specs.Keys.{keysOf, keyIn, keyOf, followedBy, merged, KeySmall, KeyIn, isFinal, Final, KeyOf, NextAmong, NextOf};
 
-// The calls, which are consecutive steps, and the funclet behind them; the first and the last path that has them.
+// The calls, which are consecutive steps, and the funclet behind them; of the paths looked at, the first and the last that
+// has them, and whether another has a key that comes after.
 pub struct Key {
     pub step: usize,
     pub calls: usize,
     pub first: usize,
     pub last: usize,
+    pub more: bool,
 }
 
 pub enum NextKey {
@@ -31,22 +33,30 @@ pub enum NextKey {
     Nothing,
 }
 
-// The key that comes next after `last`, or the first one. One path has no other than its own.
+// The key that comes next after `last`, or the first one. Where `last` says that there is none, the paths are not looked at.
 pub fn next_key(s: &[u8], y: RouteLayout, starts: &[u16], g: Group, last: NextKey) -> NextKey
-    requires { ⌜ AcceptedRoutes (routesIn (now s) y) × Starts (routesIn (now s) y) (now starts) × GroupIn (routesIn (now s) y) g × KeyIn (routesIn (now s) y) g last × Had (routesIn (now s) y) g last ⌝ }
+    requires { ⌜ AcceptedRoutes (routesIn (now s) y) × Starts (routesIn (now s) y) (now starts) × GroupIn (routesIn (now s) y) g × KeyIn (routesIn (now s) y) g last × Final (routesIn (now s) y) (keysOf (pathsOf (routesIn (now s) y) g)) last ⌝ }
     ensures { λ r. ⌜ NextOf (routesIn (now (s .entry)) y) g last r ⌝ }
 {
-    let count = g.count;
-    if count == 1 {
-        if let NextKey::At(_) = last {
-            return NextKey::Nothing;
-        }
+    if is_final(last) {
+        return NextKey::Nothing;
     }
+    let count = g.count;
     let mut best = NextKey::Nothing;
     for k in 0..count {
         best = nearer_key(s, y, starts, g, last, best, k);
     }
     best
+}
+
+// Whether a key says that none comes after it.
+fn is_final(last: NextKey) -> bool
+    ensures { λ r. ⌜ r ≡ isFinal last ⌝ }
+{
+    match last {
+        NextKey::At(key) => !key.more,
+        NextKey::Nothing => false,
+    }
 }
 
 // The next key of the group's first k paths is `best`: that of one path more.
@@ -89,6 +99,7 @@ pub fn key_of(s: &[u8], y: RouteLayout, starts: &[u16], g: Group, q: usize) -> N
             calls,
             first: q,
             last: q,
+            more: false,
         }),
     }
 }
@@ -115,19 +126,33 @@ fn merge_key(s: &[u8], y: RouteLayout, last: NextKey, key: Key, best: Key) -> Ke
     ensures { λ r. ⌜ r ≡ merged (routesIn (now (s .entry)) y) last key best ⌝ }
 {
     match compare_keys(s, y, key, best) {
-        Order::Greater => best,
+        Order::Greater => followed(best),
         Order::Equal => Key {
             step: best.step,
             calls: best.calls,
             first: best.first,
             last: key.last,
+            more: best.more,
         },
         Order::Less => {
             if is_after(s, y, last, key) {
-                return key;
+                return followed(key);
             }
             best
         }
+    }
+}
+
+// A key that another comes after.
+fn followed(key: Key) -> Key
+    ensures { λ r. ⌜ r ≡ followedBy key ⌝ }
+{
+    Key {
+        step: key.step,
+        calls: key.calls,
+        first: key.first,
+        last: key.last,
+        more: true,
     }
 }
 

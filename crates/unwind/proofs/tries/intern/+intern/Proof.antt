@@ -76,7 +76,7 @@ intern-next-key-requires : (t : ℕ) → intern-lts.Need-next-key-requires (
   put-branch-reads.Asked,
   put-branch-reads.Learnt,
 ) (intern-at t) intern.Post intern-Inv-loop intern-μ-loop
-intern-next-key-requires t c κs = (c .before .before .before .before .before .before .before .pre .1 .0 .accepted, c .before .before .before .before .before .before .before .pre .1 .0 .starts, c .before .before .before .before .before .before .before .pre .1 .0 .within, c .loop .inv .0 .key, c .loop .inv .0 .had)
+intern-next-key-requires t c κs = (c .before .before .before .before .before .before .before .pre .1 .0 .accepted, c .before .before .before .before .before .before .before .pre .1 .0 .starts, c .before .before .before .before .before .before .before .pre .1 .0 .within, c .loop .inv .0 .key, c .loop .inv .0 .final)
 
 intern-enum-known-next : (t : ℕ) → intern-lts.Need-enum-known-next (
   next-key-reads.Asked,

@@ -8,7 +8,7 @@ use Rattle.unwind.specs.declared.tries.keys.Key.{Key}
 use Rattle.unwind.specs.declared.tries.keys.NextKey.{NextKey}
 use Rattle.addition.specs.Order.{compareTagged}
 use Rattle.unwind.specs.Interning.{orderingOf, after}
-use Rattle.unwind.specs.Keys.{keyIn, keyOf, mergedOn, merged}
+use Rattle.unwind.specs.Keys.{keyIn, keyOf, followedBy, mergedOn, merged}
 use borrow.Author.Needs.{needs}
 use Rattle.unwind.proofs.tries.keys.merge_key.Statement.{statement}
 use Rattle.unwind.proofs.tries.keys.merge_key.Tie as tie
@@ -20,14 +20,16 @@ compared m last k b e p = ap (λ (o : Ordering). mergedOn o (after (compareTagge
 
 returns : tie.Need-returns
 returns c =
-    let a = c .before .before .before .before .before .before .args in
-    ap (λ (late : Bool). cond late (a .key) (a .best)) (sym (c .if1 .taken) ∙ c .before .is-after .ensures)
-    ∙ compared (routesIn (a .s .now) (a .y)) (a .last) (a .key) (a .best) (c .before .before .before .before .compare-keys .ensures) (c .before .before .enum-told3 .given .1)
+    let a = c .before .before .before .before .before .before .before .args in
+    c .followed2 .ensures
+    ∙ ap (λ (late : Bool). cond late (followedBy (a .key)) (a .best)) (sym (c .before .if1 .taken) ∙ c .before .before .is-after .ensures)
+    ∙ compared (routesIn (a .s .now) (a .y)) (a .last) (a .key) (a .best) (c .before .before .before .before .before .compare-keys .ensures) (c .before .before .before .enum-told3 .given .1)
 
 returns-2 : tie.Need-returns-2
 returns-2 c =
-    let a = c .before .before .before .before .args in
-    compared (routesIn (a .s .now) (a .y)) (a .last) (a .key) (a .best) (c .before .before .compare-keys .ensures) (c .enum-told .given .1)
+    let a = c .before .before .before .before .before .args in
+    c .followed .ensures
+    ∙ compared (routesIn (a .s .now) (a .y)) (a .last) (a .key) (a .best) (c .before .before .before .compare-keys .ensures) (c .before .enum-told .given .1)
 
 returns-3 : tie.Need-returns-3
 returns-3 c =
@@ -37,7 +39,7 @@ returns-3 c =
 returns-4 : tie.Need-returns-4
 returns-4 c =
     let a = c .before .before .before .before .before .before .args in
-    ap (λ (late : Bool). cond late (a .key) (a .best)) (sym (c .if1 .left) ∙ c .before .is-after .ensures)
+    ap (λ (late : Bool). cond late (followedBy (a .key)) (a .best)) (sym (c .if1 .left) ∙ c .before .is-after .ensures)
     ∙ compared (routesIn (a .s .now) (a .y)) (a .last) (a .key) (a .best) (c .before .before .before .before .compare-keys .ensures) (c .before .before .enum-told3 .given .1)
 
 pub merge-key-spec : {M : Type 1} → statement M
@@ -46,8 +48,10 @@ merge-key-spec =
     (tie.spec
     (λ c κs. search needs)
     (λ c. search needs)
+    (λ c κs. search needs)
     (λ c. search needs)
     (λ c. search needs)
+    (λ c κs. search needs)
     (λ c κs. search needs)
     returns
     returns-2

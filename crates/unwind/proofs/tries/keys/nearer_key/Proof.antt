@@ -1,11 +1,11 @@
 -- `nearer_key` meets its contract. Assumes nothing.
-use mathlib.Core.Path.{refl, sym, _∙_}
+use mathlib.Core.Path.{sym, _∙_}
 use Prim.Native.Nat.{_+_}
 use Rattle.image.specs.Image.{routesIn}
 use Rattle.unwind.specs.declared.tries.keys.NextKey.the-variants.{At, Nothing}
 use Rattle.unwind.specs.Keys.{keyOf, KeyOf, NextAmong}
 use Rattle.unwind.proofs.TrieKeys.{key-small}
-use Rattle.unwind.proofs.TrieSpans.{key-none, key-early, key-taken, key-merged}
+use Rattle.unwind.proofs.TrieSpans.{key-none, key-early, key-first, key-merged}
 use borrow.Author.Needs.{needs}
 use Rattle.unwind.proofs.tries.keys.nearer_key.Statement.{statement}
 use Rattle.unwind.proofs.tries.keys.nearer_key.Tie as tie
@@ -35,7 +35,7 @@ returns-2 c =
     let m = routesIn (a .s .now) (a .y) in
     let found : KeyOf m (a .g) (a .g .first + a .k) (At (c .before .before .before .before .before .key .given .0 .0)) = rw (c .before .before .before .before .before .key .given .1) at (c .before .before .before .before .before .before .before .key-of .ensures) in
     let so-far : NextAmong m (a .g) (a .last) (a .k) Nothing = rw (c .before .before .enum-told2 .given .1) at (start .pre .4) in
-    key-taken m (a .g) (a .last) (a .k) Nothing so-far _ found (sym (c .before .is-after .ensures) ∙ c .if1 .taken) refl
+    key-first m (a .g) (a .last) (a .k) so-far _ found (sym (c .before .is-after .ensures) ∙ c .if1 .taken)
 
 returns-3 : tie.Need-returns-3
 returns-3 c =
