@@ -16,3 +16,4 @@ pub mod RouteLaws
 pub mod SearchLaws
 pub mod RuleLaws
 pub mod ReachedLaws
+pub mod BuiltRegions
