@@ -17,3 +17,4 @@ pub mod SearchLaws
 pub mod RuleLaws
 pub mod ReachedLaws
 pub mod BuiltRegions
+pub mod BuiltReferences

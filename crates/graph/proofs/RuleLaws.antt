@@ -6,6 +6,7 @@
 --     built-all, built-stop        blocks up to one that is built are; none is behind the one that fills the table
 --     filled-le, filled-more       what is filled grows
 --     some-from, all-from          what holds of none, or each, below k and from k on
+--     both-true                    what holds of both holds of each
 --     inPlace, place-test, place-fits     a built block begins where those before it end, and stays in the table
 --     covers-not, covers-full, covers-end     a block out of place, the one that fills the table, and none does
 --     covers-place, runs, first-is, rises     where the blocks of a graph that passes begin
@@ -103,7 +104,7 @@ all-from f k (suc n) h each rest =
     (λ lt. let before = all-from f k n (le-of-suc-le-suc lt) each (λ i le l. rest i le (omega arith)) in rw (before, rest n (le-of-suc-le-suc lt) (omega arith)) refl)
     (eq-or-lt-of-le h)
 
-both-true : (x y : Bool) → (x && y) ≡ true → (x ≡ true) × (y ≡ true)
+pub both-true : (x y : Bool) → (x && y) ≡ true → (x ≡ true) × (y ≡ true)
 both-true true y h = (refl, h)
 both-true false y h = absurd (false≢true h)
 
