@@ -27,10 +27,10 @@ use Rattle.graph.specs.Edges.{resolved, transferEdges, rangeFirst, rangeSize, u
 use Rattle.graph.specs.Build.{handlerCheck}
 use Rattle.graph.specs.Adding.{Added}
 use Rattle.graph.proofs.AddingLaws.{edges-more}
+use Rattle.graph.proofs.BuiltRegions.{entry-clear}
 use Rattle.builder.specs.declared.ranges.Ranged.the-variants.{Positions}
 use Rattle.builder.specs.Emit.{Numbered, edgeBetween, handlerEdges}
 use Rattle.builder.specs.Ranges.{Ranges}
-use Rattle.builder.proofs.RegionLaws.{entry-clear}
 
 module _ (m : Image) where
   pub edge-to : (x : Transfer) (p : ℕ) (blocks : List ℕ) (i : Instruction) (b c : ℕ) (e : Edge) → Numbered m blocks → p < size m → resolved m x ≡ true

@@ -1,13 +1,11 @@
 -- Regions and handler records, field by field.
 --     contains-is                     what is read of the ranges of two handlers
 --     parent-in, parent-out           one region more: whether it contains region r
---     same-count                      the handlers of a range, counted the other way round
 --     set-none, set-more, set-same    the blocks from a position on: none, one more, and they hang on f alone
 --     block-found                     the block of an address that was looked up
 --     region-here, region-on, region-end     the region of a handler: the first draft that has its range
 --     draft-below                     a draft is a handler
 --     range-known, range-never        the blocks of a range that was checked, and no refusal of one that passed
---     entry-clear                     a handler that passed has an entry
 --     regions-none, handlers-none     a graph with no region, or no handler, before the first store
 --     regions-more, handlers-more     a graph with so many of them, and one more
 --     regions-whole, regions-keep, both             a graph with its regions, and with its handlers behind them
@@ -17,18 +15,15 @@ use mathlib.Core.Path.{_≡_, refl, sym, ap, ap₂, _∙_}
 use mathlib.Core.Bool.{Bool, true, false, cond, not, _&&_}
 use mathlib.Core.List.{List, [], _∷_}
 use Prim.Native.Nat.{ℕ, zero, suc, _+_, _-_, _<_, _≤_}
-use native.Mathlib.Decide.{ℕ-discrete}
 use native.Mathlib.Numerals.{add-one}
 use native.Mathlib.Omega.{arith}
-use borrow.Author.Tests.{eq-eqb, ne-eqb}
-use lib.Dec.{eqb, leb}
+use lib.Dec.{leb}
 use lib.ListN.{length, getD, drop, replicate, drop-of-length-le}
 use lib.Seq.{drop-cons}
 use Rattle.image.specs.Refusal.{clear, refusal, unless}
 use Rattle.image.specs.Image.{Image, table}
 use Rattle.image.specs.declared.record.Handler.{Handler}
-use Rattle.image.proofs.Checks.{then-left, then-right, unless-clear}
-use Rattle.graph.specs.Fold.{count}
+use Rattle.image.proofs.Checks.{then-left}
 use Rattle.graph.specs.Table.{isStart, rangeCheck}
 use Rattle.graph.specs.declared.found.Found.the-variants.{At}
 use Rattle.graph.specs.Lookup.{Finds}
@@ -45,17 +40,13 @@ use Rattle.graph.specs.Stored.{withRegion, withHandler, Stored}
 use Rattle.graph.specs.declared.record.Region.{Region}
 use Rattle.graph.specs.declared.record.HandlerRecord.{HandlerRecord}
 use Rattle.graph.specs.Regions.{sameRange, contains, span, place, isDraft, draftsBelow, drafts, draft, smaller, parentBelow, setBelow, regionsOf, regionIn, handlersOf}
-use Rattle.graph.proofs.FoldLaws.{length-table, count-same}
+use Rattle.graph.proofs.FoldLaws.{length-table}
 use Rattle.graph.proofs.StoredLaws.{stored-then, region-more, handler-more}
 use Rattle.graph.proofs.TableLaws.{length-entries}
 use Rattle.builder.specs.declared.ranges.Ranged.the-variants.{Positions, Refused}
 use Rattle.builder.specs.Emit.{Numbered}
 use Rattle.builder.specs.Ranges.{Ranges}
 use Rattle.builder.specs.Drafts.{Extents, Whole, withRegions, withHandlers}
-
-eqb-sym : (a b : ℕ) → eqb a b ≡ eqb b a
-eqb-sym a b =
-    elim (ℕ-discrete a b) [ yes e ↦ eq-eqb a b e ∙ sym (eq-eqb b a (sym e)) | no n ↦ ne-eqb a b n ∙ sym (ne-eqb b a (λ e. n (sym e))) ]
 
 pub set-same : (f g : ℕ → ℕ) (n : ℕ) → ((i : ℕ) → i < n → f i ≡ g i) → setBelow f n ≡ setBelow g n
 unfolding setBelow
@@ -83,12 +74,6 @@ module _ (m : Image) where
   unfolding blockAt
   block-found blocks a p b numbered found e =
       e ∙ numbered .block p (rw (length-entries (m .instructions)) at (found .2)) ∙ ap (blockOf m) (sym (found .1))
-
-  pub same-count : (h n : ℕ) → count (sameRange m h) n ≡ count (λ g. sameRange m g h) n
-  unfolding sameRange
-  same-count h n =
-      count-same (sameRange m h) (λ g. sameRange m g h) n
-      (λ g _. ap₂ _&&_ (eqb-sym (handlerAt m h .start) (handlerAt m g .start)) (eqb-sym (handlerAt m h .end) (handlerAt m g .end)))
 
   module _ (r k : ℕ) where
     pub parent-in : contains m (draft m k) (draft m r) ≡ true → parentBelow m r (k + 1) ≡ cond (smaller m (parentBelow m r k) k) (k ∷ []) (parentBelow m r k)
@@ -154,10 +139,6 @@ module _ (m : Image) where
     pub range-never : (a : Handler) (e : AddressBuildError) → a ≡ handlerAt m h → Ranges (tableOf m) (a .start) (a .end) (Refused e) → ⊥
     range-never a e is refusal =
         let passes = rw is at refusal in let z : _≡_ {A = ℕ} 0 1 = cc range-clear in omega arith
-
-    pub entry-clear : isStart (tableOf m) (handlerAt m h .entry) ≡ true
-    unfolding handlerCheck
-    entry-clear = unless-clear _ (refusal 13 (handlerAt m h .entry) 0) (then-right (rangeCheck (tableOf m) (handlerAt m h .start) (handlerAt m h .end)) (unless (isStart (tableOf m) (handlerAt m h .entry)) (refusal 13 (handlerAt m h .entry) 0)) passed)
 
 module _ (l : List ℕ) (whole : Whole l) where
   pub regions-none : heldIn l .graph .regions ≡ [] → Stored l l (held (withRegions (heldIn l .graph) []))

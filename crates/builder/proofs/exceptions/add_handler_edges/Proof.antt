@@ -10,7 +10,8 @@ use Rattle.graph.specs.Edges.{unwindEdges}
 use Rattle.graph.specs.Adding.{Added}
 use Rattle.graph.proofs.TableLaws.{length-entries}
 use Rattle.graph.proofs.AddingLaws.{added-none}
-use Rattle.builder.proofs.RegionLaws.{range-never, entry-clear}
+use Rattle.graph.proofs.BuiltRegions.{entry-clear}
+use Rattle.builder.proofs.RegionLaws.{range-never}
 use Rattle.builder.proofs.ExceptionLaws.{entry-resolved, unwind-is, range-first, range-size, edges-from}
 use native.Mathlib.Omega.{arith}
 use borrow.Author.Needs.{needs}

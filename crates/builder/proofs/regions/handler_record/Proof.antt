@@ -4,7 +4,7 @@ use mathlib.Core.List.{List}
 use Prim.Native.Nat.{ℕ}
 use Rattle.image.specs.Image.{imageIn}
 use Rattle.graph.specs.Regions.{regionIn, handlerRecord}
-use Rattle.builder.proofs.RegionLaws.{entry-clear}
+use Rattle.graph.proofs.BuiltRegions.{entry-clear}
 use native.Mathlib.Omega.{arith}
 use borrow.Author.Needs.{needs}
 use Rattle.builder.proofs.regions.handler_record.Statement.{statement}

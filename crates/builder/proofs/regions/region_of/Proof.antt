@@ -13,8 +13,9 @@ use Rattle.graph.specs.Edges.{rangeFirst, rangeSize}
 use Rattle.graph.specs.Build.{handlerCheck}
 use Rattle.graph.specs.Regions.{sameRange, draft, setBelow, regionAt}
 use Rattle.graph.proofs.CheckLaws.{checks-at}
+use Rattle.graph.proofs.BuiltReferences.{same-count}
 use Rattle.builder.proofs.DraftLaws.{drafted-size, drafted-at}
-use Rattle.builder.proofs.RegionLaws.{same-count, draft-below}
+use Rattle.builder.proofs.RegionLaws.{draft-below}
 use native.Mathlib.Omega.{arith}
 use borrow.Author.Needs.{needs}
 use Rattle.builder.proofs.regions.region_of.Statement.{statement}
