@@ -18,3 +18,4 @@ pub mod RuleLaws
 pub mod ReachedLaws
 pub mod BuiltRegions
 pub mod BuiltReferences
+pub mod BuiltBlocks

@@ -1,0 +1,108 @@
+-- The blocks of a build: how many they are, and which one each instruction is in.
+--     no-blocks, all-blocks          the blocks of an image without instructions, and with some
+--     leads-next, last-ends          whether a block ends at an instruction, by the next one
+--     block-one, block-none          the blocks that end up to an instruction, where it ends one and where not
+--     block-exists, start-exists     the block of an instruction, and of a start
+--     blocks-some, blocks-most       there is one, and no more than instructions, but for the empty one
+-- Assumes nothing.
+use mathlib.Core.Bool.{true, false}
+use mathlib.Core.Path.{_≡_, refl, sym, ap, _∙_}
+use mathlib.Core.Logic.{⊎-elim}
+use mathlib.Core.List.{List, [], _∷_, _++_, append-nil}
+use Prim.Native.Nat.{ℕ, zero, suc, _+_, _-_, _≤_, _<_}
+use native.Mathlib.Decide.{ℕ-discrete}
+use native.Mathlib.Omega.{arith}
+use borrow.Author.Tests.{eq-eqb, ne-eqb}
+use lib.Dec.{eqb}
+use lib.ListN.{length, length-append}
+use Rattle.image.specs.Image.{Image}
+use Rattle.graph.specs.declared.record.Block.{Block}
+use Rattle.graph.specs.Fold.{flat, count}
+use Rattle.graph.specs.Table.{isStart, below}
+use Rattle.graph.specs.Transfer.{tableOf, size}
+use Rattle.graph.specs.Leaders.{isLeader}
+use Rattle.graph.specs.Blocks.{isTerminator, firstOf, blockOf, blockAt, blockEnd, blocksOf}
+use Rattle.graph.proofs.FoldLaws.{decided, count-yes, count-no, count-add, count-le}
+use Rattle.graph.proofs.TableLaws.{length-entries, below-most}
+use Rattle.graph.proofs.RangeLaws.{below-less}
+
+module _ (m : Image) where
+  pub no-blocks : size m ≡ 0 → blocksOf m ≡ record { first = 0; count = 0 } ∷ []
+  unfolding blocksOf
+  no-blocks e = rw (eq-eqb (size m) 0 e)
+
+  pub all-blocks : (size m ≡ 0 → ⊥) → blocksOf m ≡ flat (λ p. blockEnd m p) (size m)
+  unfolding blocksOf
+  all-blocks ne = rw (ne-eqb (size m) 0 ne)
+
+  -- ---- the blocks that end up to an instruction
+
+  module _ (p : ℕ) where
+    pub leads-next : suc p < size m → isTerminator m p ≡ isLeader m (suc p)
+    unfolding isTerminator
+    leads-next h = rw (ne-eqb (suc p) (size m) (λ same. omega arith))
+
+    pub last-ends : suc p ≡ size m → isTerminator m p ≡ true
+    unfolding isTerminator
+    last-ends e = rw (eq-eqb (suc p) (size m) e)
+
+    pub block-one : isTerminator m p ≡ true → flat (λ q. blockEnd m q) (suc p) ≡ flat (λ q. blockEnd m q) p ++ (record { first = firstOf m p; count = suc p - firstOf m p } ∷ [])
+    unfolding flat
+    block-one e = rw e
+
+    pub block-none : isTerminator m p ≡ false → flat (λ q. blockEnd m q) (suc p) ≡ flat (λ q. blockEnd m q) p
+    unfolding flat
+    block-none e = rw e (append-nil (flat (λ q. blockEnd m q) p))
+
+    longer : isTerminator m p ≡ true → length (flat (λ q. blockEnd m q) (suc p)) ≡ suc (length (flat (λ q. blockEnd m q) p))
+    longer e = rw (block-one e, length-append) (omega arith)
+
+  -- those that end before p stand before the one that p is in
+  ended : (p : ℕ) → p < size m → length (flat (λ q. blockEnd m q) p) ≡ blockOf m p
+  unfolding flat blockOf count
+  ended zero h = refl
+  ended (suc p) h =
+      ⊎-elim
+      (λ e. longer p (leads-next p h ∙ e) ∙ ap suc (ended p (omega arith)) ∙ sym (count-yes (λ q. isLeader m (suc q)) p e))
+      (λ e. ap length (block-none p (leads-next p h ∙ e)) ∙ ended p (omega arith) ∙ sym (count-no (λ q. isLeader m (suc q)) p e))
+      (decided (isLeader m (suc p)))
+
+  -- ---- how many
+
+  number-le : (p q : ℕ) → p ≤ q → blockOf m p ≤ blockOf m q
+  unfolding blockOf
+  number-le p q h =
+      let more : p + (q - p) ≡ q = omega arith in
+      omega (arith, rw more at (count-add (λ k. isLeader m (suc k)) p (q - p)))
+
+  how-many : (q : ℕ) → suc q ≡ size m → length (blocksOf m) ≡ suc (blockOf m q)
+  how-many q e =
+      ap length (all-blocks (λ none. omega arith))
+      ∙ ap (λ (n : ℕ). length (flat (λ p. blockEnd m p) n)) (sym e)
+      ∙ longer q (last-ends q e)
+      ∙ ap suc (ended q (omega arith))
+
+  pub block-exists : (p : ℕ) → p < size m → blockOf m p < length (blocksOf m)
+  block-exists p h =
+      let last : suc (size m - 1) ≡ size m = omega arith in
+      omega (arith, how-many (size m - 1) last, number-le p (size m - 1) (omega arith))
+
+  pub start-exists : (a : ℕ) → isStart (tableOf m) a ≡ true → blockAt m a < length (blocksOf m)
+  unfolding blockAt
+  start-exists a s =
+      block-exists (below (tableOf m) a)
+      (omega (arith, below-less (tableOf m) a (suc a) s (omega arith), below-most (tableOf m) (suc a), length-entries (m .instructions)))
+
+  pub blocks-some : 1 ≤ length (blocksOf m)
+  blocks-some =
+      elim (ℕ-discrete (size m) 0) [ yes none ↦ rw (no-blocks none) (omega arith) | no ne ↦ omega (arith, block-exists 0 (omega arith)) ]
+
+  pub blocks-most : size m ≤ 512 → length (blocksOf m) ≤ 512
+  unfolding blockOf
+  blocks-most h =
+      elim (ℕ-discrete (size m) 0) [
+        | yes none ↦ rw (no-blocks none) (omega arith)
+        | no ne ↦
+            let last : suc (size m - 1) ≡ size m = omega arith in
+            omega (arith, how-many (size m - 1) last, count-le (λ k. isLeader m (suc k)) (size m - 1))
+      ]
