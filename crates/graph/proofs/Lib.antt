@@ -18,4 +18,6 @@ pub mod RuleLaws
 pub mod ReachedLaws
 pub mod BuiltRegions
 pub mod BuiltReferences
+pub mod EachLaws
 pub mod BuiltBlocks
+pub mod BuiltRuns
