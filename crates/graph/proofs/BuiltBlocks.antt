@@ -4,6 +4,7 @@
 --     block-one, block-none          the blocks that end up to an instruction, where it ends one and where not
 --     block-exists, start-exists     the block of an instruction, and of a start
 --     blocks-some, blocks-most       there is one, and no more than instructions, but for the empty one
+--     entry-is, entry-none, entry-exists     the block at which the sequence is entered
 -- Assumes nothing.
 use mathlib.Core.Bool.{true, false}
 use mathlib.Core.Path.{_≡_, refl, sym, ap, _∙_}
@@ -12,17 +13,21 @@ use mathlib.Core.List.{[], _∷_, _++_, append-nil}
 use Prim.Native.Nat.{ℕ, zero, suc, _+_, _-_, _≤_, _<_}
 use native.Mathlib.Decide.{ℕ-discrete}
 use native.Mathlib.Omega.{arith}
-use borrow.Author.Tests.{eq-eqb, ne-eqb}
+use borrow.Author.Tests.{eq-eqb, ne-eqb, lt-ltb}
 use lib.ListN.{length, length-append}
+use Rattle.image.specs.Refusal.{clear}
 use Rattle.image.specs.Image.{Image}
 use Rattle.graph.specs.Fold.{flat, count}
 use Rattle.graph.specs.Table.{isStart, below}
 use Rattle.graph.specs.Transfer.{tableOf, size}
 use Rattle.graph.specs.Leaders.{isLeader}
-use Rattle.graph.specs.Blocks.{isTerminator, firstOf, blockOf, blockAt, blockEnd, blocksOf}
+use Rattle.graph.specs.Blocks.{isTerminator, firstOf, blockOf, blockAt, blockEnd, blocksOf, entryOf}
+use Rattle.graph.specs.Build.{buildCheck, graphFrom}
+use Rattle.graph.specs.WellFormed.{isBlock}
 use Rattle.graph.proofs.FoldLaws.{decided, count-yes, count-no, count-add, count-le}
 use Rattle.graph.proofs.TableLaws.{length-entries, below-most}
 use Rattle.graph.proofs.RangeLaws.{below-less}
+use Rattle.graph.proofs.BuiltChecks.{parts, input-clear, entry-starts}
 
 module _ (m : Image) where
   pub no-blocks : size m ≡ 0 → blocksOf m ≡ record { first = 0; count = 0 } ∷ []
@@ -104,3 +109,22 @@ module _ (m : Image) where
             let last : suc (size m - 1) ≡ size m = omega arith in
             omega (arith, how-many (size m - 1) last, count-le (λ k. isLeader m (suc k)) (size m - 1))
       ]
+
+  -- ---- the entry
+
+  pub entry-is : m .header .«has_entry» ≡ true → blockAt m (m .header .entry) ≡ entryOf m
+  unfolding entryOf
+  entry-is e = rw e
+
+  pub entry-none : m .header .«has_entry» ≡ false → 0 ≡ entryOf m
+  unfolding entryOf
+  entry-none e = rw e
+
+  pub entry-exists : buildCheck m ≡ clear → isBlock (graphFrom m) (graphFrom m .entry) ≡ true
+  unfolding isBlock graphFrom
+  entry-exists passed =
+      lt-ltb (entryOf m) (length (blocksOf m))
+      (⊎-elim
+      (λ e. rw (← (entry-is e)) (start-exists (m .header .entry) (entry-starts m e (parts m (input-clear m passed) .entry))))
+      (λ e. rw (← (entry-none e)) blocks-some)
+      (decided (m .header .«has_entry»)))

@@ -19,5 +19,6 @@ pub mod ReachedLaws
 pub mod BuiltRegions
 pub mod BuiltReferences
 pub mod EachLaws
+pub mod BuiltChecks
 pub mod BuiltBlocks
 pub mod BuiltRuns
