@@ -1,17 +1,21 @@
 -- What holds of each member of a list.
 --     Each                       P holds of each
 --     each-append, each-flat     of two lists, and of many
---     each-if                    of a list that is there where a test holds
+--     each-table                 of f 0, f 1, .. below n
+--     each-cond                  of one list or the other, as a test says
 --     each-take, each-drop       of a part
 --     each-of, each-in           by their numbers; each-at: past the end too
---     each-all                   a test of all their numbers
+--     each-all, each-most        a test of all their numbers; a bound
 -- Assumes nothing.
 use mathlib.Core.Path.{_≡_, refl}
 use mathlib.Core.Bool.{Bool, true, false, cond}
 use mathlib.Core.List.{List, [], _∷_, _++_}
-use Prim.Native.Nat.{ℕ, zero, suc, _<_}
+use Prim.Native.Nat.{ℕ, zero, suc, _≤_, _<_}
 use native.Mathlib.Omega.{arith}
+use borrow.Author.Tests.{le-leb}
+use lib.Dec.{leb}
 use lib.ListN.{length, getD, take, drop}
+use Rattle.image.specs.Image.{table}
 use Rattle.graph.specs.Fold.{flat, all}
 use Rattle.graph.proofs.RuleLaws.{all-from}
 
@@ -29,9 +33,14 @@ module _ {A : Type 0} (P : A → Type 0) where
   each-flat f zero each = tt
   each-flat f (suc n) each = each-append (flat f n) (f n) (each-flat f n (λ i h. each i (omega arith))) (each n (omega arith))
 
-  pub each-if : (b : Bool) (l : List A) → (b ≡ true → Each P l) → Each P (cond b l [])
-  each-if true l each = each refl
-  each-if false l each = tt
+  pub each-table : (f : ℕ → A) (n : ℕ) → ((i : ℕ) → P (f i)) → Each P (table f n)
+  unfolding table
+  each-table f zero each = tt
+  each-table f (suc n) each = each-append (table f n) (f n ∷ []) (each-table f n each) (each n, tt)
+
+  pub each-cond : (b : Bool) (l k : List A) → (b ≡ true → Each P l) → (b ≡ false → Each P k) → Each P (cond b l k)
+  each-cond true l k yes′ no′ = yes′ refl
+  each-cond false l k yes′ no′ = no′ refl
 
   pub each-take : (n : ℕ) (l : List A) → Each P l → Each P (take n l)
   each-take zero l each = tt
@@ -61,3 +70,6 @@ module _ {A : Type 0} (P : A → Type 0) where
     pub each-all : (f : A → Bool) → ((x : A) → P x → f x ≡ true) → (l : List A) → Each P l → all (λ (i : ℕ). f (getD l i d)) (length l) ≡ true
     unfolding all
     each-all f holds l each = all-from (λ (i : ℕ). f (getD l i d)) 0 (length l) (omega arith) refl (λ i le h. holds (getD l i d) (each-in l i each h))
+
+pub each-most : {A : Type 0} (f : A → ℕ) (n : ℕ) (d : A) (l : List A) → Each (λ (x : A). f x ≤ n) l → all (λ (i : ℕ). leb (f (getD l i d)) n) (length l) ≡ true
+each-most f n d l each = each-all (λ x. f x ≤ n) d (λ x. leb (f x) n) (λ x h. le-leb (f x) n h) l each

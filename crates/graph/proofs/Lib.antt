@@ -22,3 +22,4 @@ pub mod EachLaws
 pub mod BuiltChecks
 pub mod BuiltBlocks
 pub mod BuiltRuns
+pub mod BuiltEdges

@@ -6,7 +6,7 @@
 --     built-all, built-stop        blocks up to one that is built are; none is behind the one that fills the table
 --     filled-le, filled-more       what is filled grows
 --     some-from, all-from          what holds of none, or each, below k and from k on
---     both-true                    what holds of both holds of each
+--     both-true, both-hold         two tests that hold
 --     inPlace, place-test, place-fits     a built block begins where those before it end, and stays in the table
 --     covers-not, covers-full, covers-end     a block out of place, the one that fills the table, and none does
 --     covers-place, runs, first-is, rises     where the blocks of a graph that passes begin
@@ -107,6 +107,9 @@ all-from f k (suc n) h each rest =
 pub both-true : (x y : Bool) → (x && y) ≡ true → (x ≡ true) × (y ≡ true)
 both-true true y h = (refl, h)
 both-true false y h = absurd (false≢true h)
+
+pub both-hold : (x y : Bool) → x ≡ true → y ≡ true → (x && y) ≡ true
+both-hold x y hx hy = rw (hx, hy)
 
 all-each : (f : ℕ → Bool) (n i : ℕ) → all f n ≡ true → i < n → f i ≡ true
 all-each f n i e h = ⊎-elim (λ yes. yes) (λ out. absurd (false≢true (sym (all-fails f n i h out) ∙ e))) (decided (f i))
