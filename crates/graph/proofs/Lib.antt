@@ -23,3 +23,4 @@ pub mod BuiltChecks
 pub mod BuiltBlocks
 pub mod BuiltRuns
 pub mod BuiltEdges
+pub mod BuiltSets
