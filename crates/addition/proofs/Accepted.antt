@@ -1,12 +1,14 @@
--- What an accepted addition tells: every funclet and handler of a node leads a block, and a route's guarded blocks.
+-- What an accepted addition tells: what was checked, that every funclet and handler of a node leads a block, and a route's
+-- guarded blocks.
+--     Accepted, accepted, Passed, passed     the checks that were clear, and the routes that were read
 --     built-mem, mem-built         the built blocks
 --     head-mem                     the first of a list stands in it
---     lead-begins                  an address that leads a block begins the block looked up
---     then-clear, check-at         every check of a clear row is clear
---     funclet-begins, handler-begins      the addresses of a node
+--     lead-begins, lead-starts     an address that leads a block begins the block looked up, and starts an instruction
+--     then-clear, check-at, node-clear     every check of a clear row is clear, and so is that of a node
+--     funclet-begins, funclet-starts, handler-begins      the addresses of a node
 --     mem-guarded, guarded-mem     the guarded blocks of a route
 use mathlib.Core.Path.{_≡_, refl, sym, _∙_, ap}
-use mathlib.Core.Bool.{Bool, true, false, _&&_}
+use mathlib.Core.Bool.{Bool, true, false, cond, _&&_}
 use mathlib.Core.List.{List, [], _∷_, List·Memᴰ·head}
 use mathlib.Core.Option.{Option, none, some}
 use Prim.Native.Nat.{ℕ, zero, suc, _<_}
@@ -16,17 +18,19 @@ use native.Mathlib.Omega.{arith}
 use borrow.Author.Tests.{eqb-true, eq-eqb, leb-true, le-leb, ltb-true, lt-ltb}
 use lib.Dec.{eqb, leb, ltb}
 use lib.ListN.{length, getD}
-use Rattle.image.specs.Refusal.{Check, clear, refused, _then_}
-use Rattle.image.specs.Deal.{UnwindEnd, handler, propagate, UnwindRoute}
-use Rattle.graph.specs.Graph.{Graph}
+use Rattle.image.specs.Refusal.{refusal, Check, clear, refused, _then_}
+use Rattle.image.specs.Image.{RouteImage}
+use Rattle.image.specs.Read.{Reading, read, refusing, readRoutes}
+use Rattle.image.specs.Deal.{UnwindEnd, handler, propagate, UnwindRoute, routesOf}
+use Rattle.graph.specs.Graph.{Graph, Held}
 use Rattle.graph.specs.Fold.{checks}
 use Rattle.graph.specs.Table.{isStart}
-use Rattle.graph.specs.WellFormed.{isBuilt}
+use Rattle.graph.specs.WellFormed.{isBuilt, wellFormed}
 use Rattle.addition.specs.Lists.{keep, upto, head}
 use Rattle.addition.specs.Order.{Tagged, tagged}
 use Rattle.addition.specs.Blocks.{builtBlocks, firstOf, leadingBy, leading, blockIn, blockOf, within, keepsEdge, guarded}
-use Rattle.addition.specs.Trie.{Node}
-use Rattle.addition.specs.Add.{leadFound, leadCheck, funcletCheck, endCheck, nodeCheck}
+use Rattle.addition.specs.Trie.{Node, nodeAt, tries}
+use Rattle.addition.specs.Add.{leadFound, leadCheck, routeCheck, funcletCheck, endCheck, nodeCheck, Addition, addition, sizeCheck, Outcome, added, outcome, addRoutesTo, addRead, addRoutes}
 use Rattle.addition.specs.Walk.{_∈_, Built, Begins, Covers}
 use Rattle.addition.proofs.Lists.{at, and-both, and-true, mem-keep, keep-mem, mem-upto, upto-mem, mem-at, at-lt, at-getD}
 
@@ -44,6 +48,46 @@ check-at f (suc n) i e h = go (decLt i n) (λ (k : i < n). check-at f n i (then-
     go : Dec (i < n) → (i < n → f i ≡ clear) → f i ≡ clear
     go (yes k) below = below k
     go (no k) below = let p : i ≡ n = omega arith in ap f p ∙ then-clear (checks f n) (f n) e .1
+
+pub node-clear : (g : Graph) (z : List Node) → checks (λ i. nodeCheck g (nodeAt z i)) (length z) ≡ clear → (i : ℕ) (n : Node) → at z i ≡ some n → nodeCheck g n ≡ clear
+unfolding nodeAt
+node-clear g z ok i n e = sym (ap (nodeCheck g) (at-getD z i _ e)) ∙ check-at (λ (k : ℕ). nodeCheck g (nodeAt z k)) (length z) i ok (at-lt z i e)
+
+-- ---- the checks of an addition
+
+pub record Accepted (g : Graph) (rs : List UnwindRoute) (a : Addition) : Type 0 where
+  pub nodes : checks (λ i. nodeCheck g (nodeAt (tries rs .nodes) i)) (length (tries rs .nodes)) ≡ clear
+  pub sizes : sizeCheck (addition g rs) ≡ clear
+  pub is : addition g rs ≡ a
+
+outcome-added : (c : Check) (x a : Addition) → outcome c x ≡ added a → (c ≡ clear) × (x ≡ a)
+unfolding outcome
+outcome-added clear x a e = (refl, cc)
+outcome-added (refused r) x a e = absurd (let q : _≡_ {A = ℕ} 0 1 = cc in omega arith)
+
+pub accepted : (g : Graph) (rs : List UnwindRoute) (a : Addition) → addRoutesTo g rs ≡ added a → Accepted g rs a
+unfolding addRoutesTo
+accepted g rs a e =
+    let nodes : Check = checks (λ i. nodeCheck g (nodeAt (tries rs .nodes) i)) (length (tries rs .nodes)) in
+    let x = outcome-added (checks (routeCheck g rs) (length rs) then nodes then sizeCheck (addition g rs)) (addition g rs) a e in
+    let y = then-clear (checks (routeCheck g rs) (length rs) then nodes) (sizeCheck (addition g rs)) (x .0) in
+    record { nodes = then-clear (checks (routeCheck g rs) (length rs)) nodes (y .0) .1; sizes = y .1; is = x .1 }
+
+-- 21 lets the graph pass, and the routes that were read are added
+pub record Passed (h : Held) (l : List ℕ) (a : Addition) : Type 0 where
+  pub graph : wellFormed h ≡ true
+  pub image : RouteImage
+  pub routes : readRoutes l ≡ read image
+  pub adds : addRoutesTo (h .graph) (routesOf image) ≡ added a
+
+pub passed : (h : Held) (l : List ℕ) (a : Addition) → addRoutes h l ≡ added a → Passed h l a
+unfolding addRoutes addRead
+passed h l a e = go (wellFormed h) refl (readRoutes l) refl e
+  where
+    go : (b : Bool) → wellFormed h ≡ b → (x : Reading RouteImage) → readRoutes l ≡ x → cond b (addRead (h .graph) x) (Outcome.refused (refusal 21 0 0)) ≡ added a → Passed h l a
+    go true w (read m) r q = record { graph = w; image = m; routes = r; adds = q }
+    go true w (refusing x) r q = absurd (let z : _≡_ {A = ℕ} 0 1 = cc in omega arith)
+    go false w x r q = absurd (let z : _≡_ {A = ℕ} 0 1 = cc in omega arith)
 
 -- ---- leading blocks
 
@@ -78,6 +122,15 @@ lead-begins g a e = go (head found) refl (isStart (g .table) a) e
     go none q true k = absurd (let z : _≡_ {A = ℕ} 0 1 = cc in omega arith)
     go none q false k = absurd (let z : _≡_ {A = ℕ} 0 1 = cc in omega arith)
 
+pub lead-starts : (g : Graph) (a : ℕ) → leadCheck g a ≡ clear → isStart (g .table) a ≡ true
+unfolding leadCheck leading leadFound leadingBy
+lead-starts g a e = go (head (keep (λ b. eqb (firstOf g b .address) a) (builtBlocks g))) (isStart (g .table) a) e
+  where
+    go : (o : Option ℕ) (s : Bool) → leadFound a (leadingBy o s) ≡ clear → s ≡ true
+    go o true k = refl
+    go (some b) false k = absurd (let z : _≡_ {A = ℕ} 0 1 = cc in omega arith)
+    go none false k = absurd (let z : _≡_ {A = ℕ} 0 1 = cc in omega arith)
+
 module _ (g : Graph) (n : Node) (ok : nodeCheck g n ≡ clear) where
   abbrev end-check : ℕ → Check
   end-check j = endCheck g (getD (n .ends) j (tagged [] propagate) .what)
@@ -86,9 +139,15 @@ module _ (g : Graph) (n : Node) (ok : nodeCheck g n ≡ clear) where
   unfolding nodeCheck
   split = then-clear (funcletCheck g (n .funclet)) (checks end-check (length (n .ends))) ok
 
-  pub funclet-begins : (f : ℕ) → n .funclet ≡ some f → Begins g f (blockOf g f)
+  funclet-leads : (f : ℕ) → n .funclet ≡ some f → leadCheck g f ≡ clear
   unfolding funcletCheck
-  funclet-begins f e = lead-begins g f (rw e at (split .0))
+  funclet-leads f e = rw e at (split .0)
+
+  pub funclet-begins : (f : ℕ) → n .funclet ≡ some f → Begins g f (blockOf g f)
+  funclet-begins f e = lead-begins g f (funclet-leads f e)
+
+  pub funclet-starts : (f : ℕ) → n .funclet ≡ some f → isStart (g .table) f ≡ true
+  funclet-starts f e = lead-starts g f (funclet-leads f e)
 
   pub handler-begins : (d : Tagged UnwindEnd) (h : ℕ) → d ∈ n .ends → d .what ≡ handler h → Begins g h (blockOf g h)
   unfolding endCheck

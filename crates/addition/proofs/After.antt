@@ -1,14 +1,14 @@
 -- The graph after the addition: its blocks, its edges, and what they lead to.
+--     filled-after                 as much of the table is filled before an old block
 --     built-up, built-down         the built blocks are the same afterwards
 --     old-block, image-block       the block at an old number, and where an instance has a block
 --     same-first, same-last        blocks with the same run have the same first and last instruction
---     new-unwinds                  the new edges are all unwind edges
 --     Kin, kin                     an edge afterwards is an old one, a clone's, or an unwind edge
 --     out-forth, out-back          the ordinary edges out of an instance are those of the part, moved
 use mathlib.Core.Path.{_≡_, refl, sym, _∙_, ap, subst}
 use mathlib.Core.Logic.{_⊎_, inl, inr}
-use mathlib.Core.Bool.{Bool, true, false, cond, _||_}
-use mathlib.Core.List.{List, [], _∷_, _++_, map, List·Memᴰ·append-cases, List·Memᴰ·eq-of-singleton, Memᴰ·append-left, Memᴰ·append-right}
+use mathlib.Core.Bool.{true, false, _||_}
+use mathlib.Core.List.{List, _++_, map, List·Memᴰ·append-cases, Memᴰ·append-left, Memᴰ·append-right}
 use mathlib.Core.Option.{some}
 use Prim.Native.Nat.{ℕ, zero, suc, _+_, _≤_, _<_}
 use native.Mathlib.Omega.{arith}
@@ -24,17 +24,17 @@ use Rattle.graph.specs.Graph.{Graph, block as blockAt}
 use Rattle.graph.specs.Fold.{flat, sum}
 use Rattle.graph.specs.Flow.{Kind}
 use Rattle.graph.specs.WellFormed.{filled, isBuilt}
-use Rattle.addition.specs.Lists.{joined, rank}
+use Rattle.addition.specs.Lists.{rank}
 use Rattle.addition.specs.Blocks.{firstOf, lastOf}
 use Rattle.addition.specs.Part.{funclets, outgoing}
 use Rattle.addition.specs.Trie.{Node}
 use Rattle.addition.specs.Instance.{blocksOf, later, copied, base, place, moved, cloneBlocks, cloneEdge, cloneEdges}
-use Rattle.addition.specs.Ways.{HopEnd, block, leave, Leap, leap, Way, wanted, routeEdge, edgeTo, routeEdges}
 use Rattle.addition.specs.Add.{extended}
 use Rattle.addition.specs.Walk.{_∈_, Built}
-use Rattle.addition.proofs.Lists.{at, none-in, or-either, mem-keep, keep-mem, mem-joined, joined-mem, mem-map, map-mem, mem-flat, flat-mem, at-map, at-getD, at-rank, at-flat}
+use Rattle.addition.proofs.Lists.{at, or-either, mem-keep, mem-joined, mem-map, mem-flat, at-map, at-getD, at-rank, at-flat}
 use Rattle.addition.proofs.Sound.{Sound}
-use Rattle.addition.proofs.Instance.{first-or-later, blocks-lt, place-first, place-later, copied-later, mem-copied, place-apart, clone-owner, later-above, moved-first}
+use Rattle.addition.proofs.Instance.{first-or-later, blocks-lt, place-first, place-later, copied-later, place-apart, clone-owner, later-above, moved-first}
+use Rattle.addition.proofs.NewEdges.{Clone, copies, cloned}
 
 -- ---- built blocks
 
@@ -61,7 +61,7 @@ module _ (g : Graph) (bs : List Block) (es : List Edge) where
   unfolding extended
   old-block b h = List·getD-append (g .blocks) bs _ b h
 
-  filled-after : (b : ℕ) → b ≤ length (g .blocks) → filled (extended g bs es) b ≡ filled g b
+  pub filled-after : (b : ℕ) → b ≤ length (g .blocks) → filled (extended g bs es) b ≡ filled g b
   unfolding filled
   filled-after b h = sum-same (λ (a : ℕ). blockAt (extended g bs es) a .count) (λ (a : ℕ). blockAt g a .count) b (λ a k. ap (λ (x : Block). x .count) (old-block a (omega arith)))
 
@@ -103,26 +103,6 @@ module _ (g : Graph) (bs : List Block) (es : List Edge) where
   unfolding lastOf extended
   same-last b c e = rw e
 
--- ---- the new edges
-
-edge-unwinds : (g : Graph) (seen : List Leap) (w : Way) (h : HopEnd) (d : Edge) → d ∈ edgeTo g seen w h → d .kind ≡ Kind.exceptionUnwind
-unfolding edgeTo routeEdge
-edge-unwinds g seen w leave d m = absurd (none-in m)
-edge-unwinds g seen w (block t) d m = go (wanted (w .source) t seen) m
-  where
-    go : (x : Bool) → d ∈ cond x [] (routeEdge g (w .route) (w .source) t ∷ []) → d .kind ≡ Kind.exceptionUnwind
-    go true k = absurd (none-in k)
-    go false k = ap (λ (y : Edge). y .kind) (List·Memᴰ·eq-of-singleton k)
-
-pub new-unwinds : (g : Graph) (seen : List Leap) (ws : List Way) (d : Edge) → d ∈ routeEdges g seen ws → d .kind ≡ Kind.exceptionUnwind
-unfolding routeEdges
-new-unwinds g seen [] d m = absurd (none-in m)
-new-unwinds g seen (w ∷ ws) d m = go (List·Memᴰ·append-cases (edgeTo g seen w (w .end)) m) (new-unwinds g (leap w ∷ seen) ws d)
-  where
-    go : (d ∈ edgeTo g seen w (w .end)) ⊎ (d ∈ routeEdges g (leap w ∷ seen) ws) → (d ∈ routeEdges g (leap w ∷ seen) ws → d .kind ≡ Kind.exceptionUnwind) → d .kind ≡ Kind.exceptionUnwind
-    go (inl k) below = edge-unwinds g seen w (w .end) d k
-    go (inr k) below = below k
-
 -- ---- blocks and edges of instances
 
 -- the graph before, the routes, the nodes, and new edges that are all unwind edges
@@ -157,27 +137,15 @@ module _ (g : Graph) (rs : List UnwindRoute) (z : List Node) (new : List Edge) (
   -- an edge of the graph after
   pub data Kin (d : Edge) : Type 0 where
     old : d ∈ g .edges → Kin d
-    clone : (i b : ℕ) (d₀ : Edge) → i < length z → later g fs z i ≡ true → b ∈ blocksOf g fs z i → d₀ ∈ g .edges → d₀ .source ≡ b → d ≡ cloneEdge g fs z i d₀ → Kin d
+    clone : Clone g rs z d → Kin d
     unwind : d .kind ≡ Kind.exceptionUnwind → Kin d
 
-  abbrev copies : ℕ → List Edge
-  copies i = joined (λ b. map (cloneEdge g fs z i) (outgoing g b)) (copied g fs z i)
-
   kin : (d : Edge) → d ∈ after .edges → Kin d
-  unfolding extended cloneEdges outgoing
+  unfolding extended
   kin d m = sort (List·Memᴰ·append-cases (g .edges) m)
     where
-      cloned : d ∈ cloneEdges g fs z → Kin d
-      cloned k =
-          let x = flat-mem copies (length z) k in
-          let y = joined-mem (λ (b : ℕ). map (cloneEdge g fs z (x .0)) (outgoing g b)) (copied g fs z (x .0)) (x .2) in
-          let c = mem-copied g rs z (x .0) (y .0) (y .1) in
-          let e = map-mem (cloneEdge g fs z (x .0)) (outgoing g (y .0)) (y .2) in
-          let o = keep-mem (λ (d : Edge). eqb (d .source) (y .0)) (g .edges) (e .1) in
-          clone (x .0) (y .0) (e .0) (x .1) (c .0) (c .1) (o .0) (eqb-true _ _ (o .1)) (e .2)
-
       sort′ : (d ∈ cloneEdges g fs z) ⊎ (d ∈ new) → Kin d
-      sort′ (inl k) = cloned k
+      sort′ (inl k) = clone (cloned g rs z d k)
       sort′ (inr k) = unwind (unwinds d k)
 
       sort : (d ∈ g .edges) ⊎ (d ∈ cloneEdges g fs z ++ new) → Kin d
@@ -200,17 +168,17 @@ module _ (g : Graph) (rs : List UnwindRoute) (z : List Node) (new : List Edge) (
       go (unwind k) l = absurd (n k)
       go (old k) (inl l) = absurd (omega (arith, s, sound .sources d k, later-above g rs z i b l))
       go (old k) (inr l) = (d, record { stood = k; from = s ∙ place-first g rs z i b l; kind = refl; to = sym (moved-first g rs z i (d .target) l) })
-      go (clone j c d₀ h l k there₀ from₀ e) l′ =
-          let at-j : place g fs z j c ≡ place g fs z i b = ap (place g fs z j) (sym from₀) ∙ sym (ap (λ (y : Edge). y .source) e) ∙ s in
-          let same : j ≡ i = clone-owner g rs z j i c b l k m at-j in
-          let k′ : c ∈ blocksOf g fs z i = subst (λ (x : ℕ). c ∈ blocksOf g fs z x) same k in
-          let c-is : c ≡ b = place-apart g rs z i c b k′ m (ap (λ (x : ℕ). place g fs z x c) (sym same) ∙ at-j) in (
-            d₀,
+      go (clone x) l′ =
+          let c : ℕ = x .edge .source in
+          let at-j : place g fs z (x .node) c ≡ place g fs z i b = sym (ap (λ (y : Edge). y .source) (x .is)) ∙ s in
+          let same : x .node ≡ i = clone-owner g rs z (x .node) i c b (x .later) (x .out) m at-j in
+          let k′ : c ∈ blocksOf g fs z i = subst (λ (j : ℕ). c ∈ blocksOf g fs z j) same (x .out) in (
+            x .edge,
             record {
-              stood = there₀;
-              from = from₀ ∙ c-is;
-              kind = ap (λ (y : Edge). y .kind) e;
-              to = ap (λ (y : Edge). y .target) e ∙ ap (λ (x : ℕ). moved g fs z x (d₀ .target)) same;
+              stood = x .stood;
+              from = place-apart g rs z i c b k′ m (ap (λ (j : ℕ). place g fs z j c) (sym same) ∙ at-j);
+              kind = ap (λ (y : Edge). y .kind) (x .is);
+              to = ap (λ (y : Edge). y .target) (x .is) ∙ ap (λ (j : ℕ). moved g fs z j (x .edge .target)) same;
             },
           )
 
@@ -230,10 +198,10 @@ module _ (g : Graph) (rs : List UnwindRoute) (z : List Node) (new : List Edge) (
       go (inl l) =
           let c : b ∈ copied g fs z i = subst (λ (x : List ℕ). b ∈ x) (sym (copied-later g rs z i l)) m in
           let o : d₀ ∈ outgoing g b = mem-keep (λ (d : Edge). eqb (d .source) b) k (eq-eqb _ b s) in
-          let e : cloneEdge g fs z i d₀ ∈ copies i = mem-joined (λ (b : ℕ). map (cloneEdge g fs z i) (outgoing g b)) c (mem-map (cloneEdge g fs z i) o) in (
+          let e : cloneEdge g fs z i d₀ ∈ copies g rs z i = mem-joined (λ (b : ℕ). map (cloneEdge g fs z i) (outgoing g b)) c (mem-map (cloneEdge g fs z i) o) in (
             cloneEdge g fs z i d₀,
             record {
-              there = Memᴰ·append-right (g .edges) (Memᴰ·append-left new (mem-flat copies (length z) i h e));
+              there = Memᴰ·append-right (g .edges) (Memᴰ·append-left new (mem-flat (copies g rs z) (length z) i h e));
               from = ap (place g fs z i) s;
               kind = refl;
               to = refl;

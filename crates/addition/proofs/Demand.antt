@@ -4,23 +4,21 @@
 --     laws                         the laws of the walk theorem
 --     demand3-milder               the theorem under the milder conditions
 --     demand3                      the hops spell the listed paths and nothing else
-use mathlib.Core.Path.{_≡_, refl, sym, _∙_, ap, subst}
+use mathlib.Core.Path.{_≡_, sym, _∙_, ap, subst}
 use mathlib.Core.Logic.{_⊎_, inl, inr}
-use mathlib.Core.Bool.{Bool, true, false, cond}
 use mathlib.Core.List.{List}
 use mathlib.Core.Option.{some}
 use Prim.Native.Nat.{ℕ}
 use native.Mathlib.Omega.{arith}
 use lib.ListN.{length}
-use Rattle.image.specs.Refusal.{Check, clear, refusal, _then_}
+use Rattle.image.specs.Refusal.{clear}
 use Rattle.image.specs.Image.{RouteImage}
-use Rattle.image.specs.Read.{Reading, read, readRoutes}
+use Rattle.image.specs.Read.{read}
 use Rattle.image.specs.Deal.{UnwindEnd, handler, UnwindRoute, routesOf}
 use Rattle.graph.specs.declared.record.TableEntry.{TableEntry}
 use Rattle.graph.specs.declared.record.Edge.{Edge}
-use Rattle.graph.specs.Graph.{Graph, Held}
+use Rattle.graph.specs.Graph.{Graph}
 use Rattle.graph.specs.Flow.{Kind}
-use Rattle.graph.specs.WellFormed.{wellFormed}
 use Rattle.graph.specs.Fold.{flat, checks}
 use Rattle.addition.specs.Order.{Tagged}
 use Rattle.addition.specs.Blocks.{firstOf, blockOf, guarded}
@@ -28,7 +26,7 @@ use Rattle.addition.specs.Part.{funclets}
 use Rattle.addition.specs.Trie.{Node, nodeAt, tries}
 use Rattle.addition.specs.Instance.{entryOf, returnsOf}
 use Rattle.addition.specs.Ways.{HopEnd, Hop, ways, nodeWays, routeWays, hopsOf}
-use Rattle.addition.specs.Add.{Addition, addition, nodeCheck, routeCheck, sizeCheck, added, refused, outcome, addRoutesTo, addRead, addRoutes}
+use Rattle.addition.specs.Add.{Addition, addition, nodeCheck, added, addRoutesTo}
 use Rattle.addition.specs.Walk.{_∈_, Built, Covers, Guarded, Takes}
 use Rattle.addition.specs.Demand.{Demand3, Demanded}
 use Rattle.addition.proofs.Lists.{at, lt-at}
@@ -39,7 +37,7 @@ use Rattle.addition.proofs.Milder.{Milder, mild}
 use Rattle.addition.proofs.Walks.{Turn, Fires, at-root, at-return, Root, Turned, Laws, exactly, ends}
 use Rattle.addition.proofs.HopWays
 use Rattle.addition.proofs.Owners
-use Rattle.addition.proofs.Accepted.{then-clear, mem-guarded, guarded-mem}
+use Rattle.addition.proofs.Accepted.{accepted, passed, mem-guarded, guarded-mem}
 
 module _ (g : Graph) (rs : List UnwindRoute) (sound : Sound g) (milder : Milder g rs)
     (ok : checks (λ i. nodeCheck g (nodeAt (tries rs .nodes) i)) (length (tries rs .nodes)) ≡ clear) where
@@ -213,21 +211,6 @@ module _ (g : Graph) (rs : List UnwindRoute) (sound : Sound g) (milder : Milder 
 
 -- ---- demand 3
 
-outcome-added : (c : Check) (x a : Addition) → outcome c x ≡ added a → (c ≡ clear) × (x ≡ a)
-unfolding outcome
-outcome-added clear x a e = (refl, cc)
-outcome-added (Check.refused r) x a e = absurd (let q : _≡_ {A = ℕ} 0 1 = cc in omega arith)
-
--- the addition's own nodes are checked where it is accepted
-accepted : (g : Graph) (rs : List UnwindRoute) (a : Addition) → addRoutesTo g rs ≡ added a
-    → (checks (λ i. nodeCheck g (nodeAt (tries rs .nodes) i)) (length (tries rs .nodes)) ≡ clear) × (addition g rs ≡ a)
-unfolding addRoutesTo
-accepted g rs a e =
-    let nodes : Check = checks (λ i. nodeCheck g (nodeAt (tries rs .nodes) i)) (length (tries rs .nodes)) in
-    let x = outcome-added (checks (routeCheck g rs) (length rs) then nodes then sizeCheck (addition g rs)) (addition g rs) a e in
-    let y = then-clear (checks (routeCheck g rs) (length rs) then nodes) (sizeCheck (addition g rs)) (x .0) in
-    (then-clear (checks (routeCheck g rs) (length rs)) nodes (y .0) .1, x .1)
-
 spells : (g : Graph) (rs : List UnwindRoute) → Sound g → Milder g rs
     → checks (λ i. nodeCheck g (nodeAt (tries rs .nodes) i)) (length (tries rs .nodes)) ≡ clear → Demand3 rs (addition g rs)
 unfolding addition
@@ -241,20 +224,11 @@ spells g rs sound milder ok =
 pub demand3-milder : (g : Graph) (rs : List UnwindRoute) (a : Addition) → Sound g → Milder g rs → addRoutesTo g rs ≡ added a → Demand3 rs a
 demand3-milder g rs a sound milder e =
     let x = accepted g rs a e in
-    subst (Demand3 rs) (x .1) (spells g rs sound milder (x .0))
-
--- 21 lets the graph pass, and the routes that were read are added
-passed : (h : Held) (l : List ℕ) (m : RouteImage) (a : Addition) → readRoutes l ≡ read m → addRoutes h l ≡ added a
-    → (wellFormed h ≡ true) × (addRoutesTo (h .graph) (routesOf m) ≡ added a)
-unfolding addRoutes addRead
-passed h l m a r e = go (wellFormed h) refl (readRoutes l) r e
-  where
-    go : (b : Bool) → wellFormed h ≡ b → (x : Reading RouteImage) → x ≡ read m → cond b (addRead (h .graph) x) (refused (refusal 21 0 0)) ≡ added a
-        → (wellFormed h ≡ true) × (addRoutesTo (h .graph) (routesOf m) ≡ added a)
-    go true w x p q = (w, sym (ap (addRead (h .graph)) p) ∙ q)
-    go false w x p q = absurd (let z : _≡_ {A = ℕ} 0 1 = cc in omega arith)
+    subst (Demand3 rs) (x .is) (spells g rs sound milder (x .nodes))
 
 pub demand3 : Demanded
 demand3 h l m a r e conditions =
-    let x = passed h l m a r e in
-    demand3-milder (h .graph) (routesOf m) a (well-formed h (x .0)) (mild (h .graph) (routesOf m) conditions) (x .1)
+    let x = passed h l a e in
+    let is : read (x .image) ≡ read m = sym (x .routes) ∙ r in
+    let same : x .image ≡ m = cc in
+    demand3-milder (h .graph) (routesOf m) a (well-formed h (x .graph)) (mild (h .graph) (routesOf m) conditions) (subst (λ (i : RouteImage). addRoutesTo (h .graph) (routesOf i) ≡ added a) same (x .adds))

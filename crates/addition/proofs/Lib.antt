@@ -6,6 +6,7 @@ pub mod Intern
 pub mod Sound
 pub mod Closure
 pub mod Instance
+pub mod NewEdges
 pub mod After
 pub mod Parts
 pub mod Walks

@@ -1,5 +1,5 @@
 -- Laws of lists and tests.
---     and-both, and-true, or-either, or-left, or-right, not-so, so-not, both-ways     Bool tests and the facts that they tell
+--     and-both, and-l, and-r, and-true, or-either, or-left, or-right, not-so, so-not, both-ways     Bool tests and the facts that they tell
 --     mem-keep, keep-mem           x ∈ keep f l: x ∈ l and f holds of it
 --     mem-joined, joined-mem       y ∈ joined f l: y ∈ f x for some x ∈ l
 --     mem-map, map-mem             y ∈ map f l: y is f x for some x ∈ l
@@ -30,6 +30,12 @@ use Rattle.addition.specs.Walk.{_∈_}
 pub and-both : (a b : Bool) → a && b ≡ true → (a ≡ true) × (b ≡ true)
 and-both true b e = (refl, e)
 and-both false b e = absurd (false≢true e)
+
+pub and-l : (a b : Bool) → a && b ≡ true → a ≡ true
+and-l a b e = and-both a b e .0
+
+pub and-r : (a b : Bool) → a && b ≡ true → b ≡ true
+and-r a b e = and-both a b e .1
 
 pub and-true : {a b : Bool} → a ≡ true → b ≡ true → a && b ≡ true
 and-true {a} {b} p q = rw p q

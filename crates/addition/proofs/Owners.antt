@@ -32,12 +32,12 @@ use Rattle.addition.proofs.Lists.{at, none-in, at-lt, at-getD}
 use Rattle.addition.proofs.Sound.{Sound}
 use Rattle.addition.proofs.Intern.{Fits, tries-law}
 use Rattle.addition.proofs.Instance.{first-or-later, place-first, later-above, clone-owner, first-once, mem-returns, returns-mem}
-use Rattle.addition.proofs.After.{new-unwinds}
+use Rattle.addition.proofs.NewEdges.{new-unwinds}
 use Rattle.addition.proofs.Parts
 use Rattle.addition.proofs.Milder.{Milder, reach-entry}
 use Rattle.addition.proofs.Walks.{ends}
 use Rattle.addition.proofs.HopWays
-use Rattle.addition.proofs.Accepted.{check-at, funclet-begins, handler-begins}
+use Rattle.addition.proofs.Accepted.{node-clear, funclet-begins, handler-begins}
 
 module _ (g : Graph) (rs : List UnwindRoute) (sound : Sound g) (milder : Milder g rs)
     (ok : checks (λ i. nodeCheck g (nodeAt (tries rs .nodes) i)) (length (tries rs .nodes)) ≡ clear) where
@@ -51,7 +51,7 @@ module _ (g : Graph) (rs : List UnwindRoute) (sound : Sound g) (milder : Milder 
   new = routeEdges (extended g (cloneBlocks g fs z) []) [] (ways g rs)
 
   pub unwinds : (d : Edge) → d ∈ new → d .kind ≡ Kind.exceptionUnwind
-  unwinds d m = new-unwinds (extended g (cloneBlocks g fs z) []) [] (ways g rs) d m
+  unwinds d m = new-unwinds (extended g (cloneBlocks g fs z) []) d [] (ways g rs) m
 
   abbrev pub g′ : Graph
   g′ = extended g (cloneBlocks g fs z) (cloneEdges g fs z ++ new)
@@ -79,7 +79,7 @@ module _ (g : Graph) (rs : List UnwindRoute) (sound : Sound g) (milder : Milder 
   node-at i n e = at-getD z i _ e
 
   node-ok : (i : ℕ) (n : Node) → at z i ≡ some n → nodeCheck g n ≡ clear
-  node-ok i n e = sym (ap (nodeCheck g) (node-at i n e)) ∙ check-at (λ (k : ℕ). nodeCheck g (nodeAt z k)) (length z) i ok (at-lt z i e)
+  node-ok i n e = node-clear g z ok i n e
 
   -- a node that enters f
   pub record Enters (i f : ℕ) : Type 0 where

@@ -1,8 +1,8 @@
 -- What the theorem needs of rule 21: 'edge ends .. exist', a block, and that the blocks fill the table.
---     all-at                       what holds of each number below n
+--     all-at, all-so               what holds of each number below n
 --     ends-exist                   the ends of an edge
 --     Sound, sound                 a graph that 21 lets pass
-use mathlib.Core.Path.{_≡_, sym, _∙_, ap}
+use mathlib.Core.Path.{_≡_, refl, sym, _∙_, ap}
 use mathlib.Core.Bool.{Bool, true, _&&_}
 use Prim.Native.Nat.{ℕ, zero, suc, _≤_, _<_}
 use native.Mathlib.Nat.{not-suc-le-zero}
@@ -15,8 +15,9 @@ use Rattle.graph.specs.declared.record.Edge.{Edge}
 use Rattle.graph.specs.Graph.{Graph, Held, edge}
 use Rattle.graph.specs.Fold.{all}
 use Rattle.graph.specs.WellFormed.{isBlock, edgeEndsExist, filled, coversTable, wellFormed}
+use Rattle.graph.proofs.RuleLaws.{all-from}
 use Rattle.addition.specs.Walk.{_∈_}
-use Rattle.addition.proofs.Lists.{and-both, mem-at, at-lt, at-getD}
+use Rattle.addition.proofs.Lists.{and-both, and-l, and-r, mem-at, at-lt, at-getD}
 
 pub all-at : (f : ℕ → Bool) (n i : ℕ) → all f n ≡ true → i < n → f i ≡ true
 unfolding all
@@ -26,6 +27,10 @@ all-at f (suc n) i e h = go (decLt i n) (λ (k : i < n). all-at f n i (and-both 
     go : Dec (i < n) → (i < n → f i ≡ true) → f i ≡ true
     go (yes k) below = below k
     go (no k) below = let p : i ≡ n = omega arith in ap f p ∙ and-both (all f n) (f n) e .1
+
+pub all-so : (f : ℕ → Bool) (n : ℕ) → ((i : ℕ) → i < n → f i ≡ true) → all f n ≡ true
+unfolding all
+all-so f n each = all-from f 0 n (omega arith) refl (λ i from h. each i h)
 
 pub record Sound (g : Graph) : Type 0 where
   pub sources : (d : Edge) → d ∈ g .edges → d .source < length (g .blocks)
@@ -41,12 +46,6 @@ ends-exist g e d m =
     let x = all-at (λ (k : ℕ). isBlock g (edge g k .source) && isBlock g (edge g k .target)) (length (g .edges)) (i .0) e (at-lt (g .edges) (i .0) (i .1)) in
     let y = and-both (isBlock g (edge g (i .0) .source)) (isBlock g (edge g (i .0) .target)) x in
     (ltb-true _ _ (sym (ap (λ (k : Edge). isBlock g (k .source)) is) ∙ y .0), ltb-true _ _ (sym (ap (λ (k : Edge). isBlock g (k .target)) is) ∙ y .1))
-
-and-l : (a b : Bool) → a && b ≡ true → a ≡ true
-and-l a b e = and-both a b e .0
-
-and-r : (a b : Bool) → a && b ≡ true → b ≡ true
-and-r a b e = and-both a b e .1
 
 -- the phrases of the rule that are needed
 phrases : (h : Held) → wellFormed h ≡ true → (isBlock (h .graph) (h .graph .entry) ≡ true) × (edgeEndsExist (h .graph) ≡ true) × (coversTable (h .graph) ≡ true)
