@@ -15,3 +15,7 @@ pub mod Accepted
 pub mod Milder
 pub mod Owners
 pub mod Demand
+pub mod AgainBlocks
+pub mod AgainEdges
+pub mod AgainWays
+pub mod Again
