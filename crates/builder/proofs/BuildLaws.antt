@@ -1,83 +1,45 @@
--- A build: what its checks let pass, and the graph that its stores leave.
---     Parts, parts                   each of 3 to 15 found nothing
+-- A build: what its passes ask, its outcome, and the graph that its stores leave.
 --     passed, emitting, handled      what the leaders, the edges and the handlers ask
---     entry-starts, entry-is, entry-none     the entry
 --     build-refused, build-late, build-built, read-refused, read-built     the outcome
 --     code-laid                      the table and the blocks, from nothing
 --     edges-added                    the three passes that add edges, unresolved transfers and calls
 --     ready, graph-laid              the words before the regions, and behind the entry
 -- Assumes nothing.
-use mathlib.Core.Bool.{Bool, true, false, not, _||_}
-use mathlib.Core.Path.{_≡_, refl, sym, ap, _∙_}
+use mathlib.Core.Path.{_≡_, refl, ap, _∙_}
 use mathlib.Core.List.{List, [], _++_, append-nil}
-use Prim.Native.Nat.{ℕ, _+_, _≤_, _<_}
+use Prim.Native.Nat.{ℕ, _≤_, _<_}
 use native.Mathlib.Omega.{arith}
-use borrow.Author.Tests.{leb-true}
-use lib.Dec.{leb}
 use lib.ListN.{length, getD}
-use Rattle.image.specs.Refusal.{Refusal, refusal, Check, clear, _then_}
+use Rattle.image.specs.Refusal.{Refusal, Check, clear}
 use Rattle.image.specs.Read.{read, refusing, readImage}
 use Rattle.image.specs.Image.{Image}
 use Rattle.image.specs.Accepted.{Accepted}
-use Rattle.image.proofs.Checks.{then-left, then-right, unless-clear}
 use Rattle.graph.specs.Graph.{Graph, Held, held}
 use Rattle.graph.specs.Words.{heldIn}
-use Rattle.graph.specs.Stored.{Stored, Emptied, Untouched, entered}
+use Rattle.graph.specs.Stored.{Stored, Emptied, entered}
 use Rattle.graph.specs.Adding.{Added, adding, withTable, withBlocks}
-use Rattle.graph.specs.Fold.{checks}
 use Rattle.graph.specs.Error.{refusalOf}
 use Rattle.graph.specs.declared.error.AddressBuildError.{AddressBuildError}
-use Rattle.graph.specs.Table.{isStart}
 use Rattle.graph.specs.Transfer.{tableOf, size}
-use Rattle.graph.specs.Route.{routeCheck}
-use Rattle.graph.specs.Leaders.{routes}
-use Rattle.graph.specs.Blocks.{blockOf, blockAt, blocksOf, entryOf}
+use Rattle.graph.specs.Blocks.{blockOf, blocksOf, entryOf}
 use Rattle.graph.specs.Edges.{normalEdges, exceptionEdges, edgesOf, unresolvedOf, callsOf}
 use Rattle.graph.specs.Regions.{regionsOf, handlersOf}
-use Rattle.graph.specs.Build.{tableCheck, entryCheck, sourceCheck, givenCheck, handlerCheck, continuationCheck, inputCheck, resultCheck, buildCheck, graphFrom, Outcome, built, buildOf, buildRead, buildFrom}
+use Rattle.graph.specs.Build.{inputCheck, resultCheck, buildCheck, graphFrom, Outcome, built, buildOf, buildRead, buildFrom}
 use Rattle.graph.specs.Answers.{Laid}
 use Rattle.graph.proofs.TableLaws.{length-entries}
 use Rattle.graph.proofs.RangeLaws.{rising}
-use Rattle.graph.proofs.StoredLaws.{stored-then, stored-onto, emptied-then, held-nothing}
+use Rattle.graph.proofs.BuiltChecks.{Parts, edges-few}
+use Rattle.graph.proofs.BuiltBlocks.{blocks-most}
+use Rattle.graph.proofs.StoredLaws.{stored-then, emptied-then, held-nothing}
 use Rattle.graph.proofs.AddingLaws.{added-then, adding-held, table-held, blocks-held}
 use Rattle.builder.specs.Drafts.{Handled, Whole, withRegions, withHandlers}
 use Rattle.builder.specs.Emit.{Numbered, Emitting}
-use Rattle.builder.specs.Marks.{Leading, Passed}
+use Rattle.builder.specs.Marks.{Passed}
 use Rattle.builder.specs.Answers.{codeOnly}
 use Rattle.builder.proofs.GivenLaws.{sourced}
-use Rattle.builder.proofs.LaidLaws.{blocks-most}
 use Rattle.builder.proofs.BoundLaws.{unresolved-few, calls-few}
 
 -- ---- the checks
-
-pub record Parts (m : Image) : Type 0 where
-  pub table : tableCheck (tableOf m) ≡ clear
-  pub entry : entryCheck m ≡ clear
-  pub sources : checks (sourceCheck m) (length (m .sources)) ≡ clear
-  pub given : checks (givenCheck m) (size m) ≡ clear
-  pub handlers : checks (handlerCheck m) (length (m .handlers)) ≡ clear
-  pub routed : checks (routeCheck (tableOf m) (routes m)) (length (routes m)) ≡ clear
-
-pub parts : (m : Image) → inputCheck m ≡ clear → Parts m
-unfolding inputCheck
-parts m h =
-    let a = tableCheck (tableOf m) in
-    let b = a then entryCheck m in
-    let c = b then checks (sourceCheck m) (length (m .sources)) in
-    let d = c then checks (givenCheck m) (size m) in
-    let e = d then checks (handlerCheck m) (length (m .handlers)) in
-    let he = then-left e _ h in
-    let hd = then-left d _ he in
-    let hc = then-left c _ hd in
-    let hb = then-left b _ hc in
-    record {
-      table = then-left a _ hb;
-      entry = then-right a _ hb;
-      sources = then-right b _ hc;
-      given = then-right c _ hd;
-      handlers = then-right d _ he;
-      routed = then-right e _ h;
-    }
 
 module _ (m : Image) (accepted : Accepted m) (p : Parts m) where
   pub passed : Passed m
@@ -92,22 +54,6 @@ module _ (m : Image) (accepted : Accepted m) (p : Parts m) where
 
     pub handled : Numbered m blocks → Handled m blocks
     handled n = record { few = accepted .handlers-most; table = p .table; passed = p .handlers; numbered = n }
-
--- the entry, if there is one, is a start
-module _ (m : Image) where
-  pub entry-starts : m .header .«has_entry» ≡ true → entryCheck m ≡ clear → isStart (tableOf m) (m .header .entry) ≡ true
-  unfolding entryCheck
-  entry-starts e h =
-      let starts = unless-clear (not (m .header .«has_entry») || isStart (tableOf m) (m .header .entry)) (refusal 6 (m .header .entry) 0) h in
-      rw e at starts
-
-  pub entry-is : m .header .«has_entry» ≡ true → blockAt m (m .header .entry) ≡ entryOf m
-  unfolding entryOf
-  entry-is e = rw e
-
-  pub entry-none : m .header .«has_entry» ≡ false → 0 ≡ entryOf m
-  unfolding entryOf
-  entry-none e = rw e
 
 -- ---- the outcome
 
@@ -156,15 +102,11 @@ module _ (m : Image) (accepted : Accepted m) (p : Parts m) (result : resultCheck
   withEdges =
       record { entry = 0; table = tableOf m; blocks = blocksOf m; edges = edgesOf m; regions = []; handlers = []; unresolved = unresolvedOf m; calls = callsOf m }
 
-  few : length (edgesOf m) ≤ 4096
-  unfolding resultCheck
-  few = leb-true (length (edgesOf m)) 4096 (unless-clear _ _ (then-right (checks (continuationCheck m) (size m)) _ result))
-
   edges-held : heldIn w₂ ≡ held withEdges
   edges-held =
       edges .stored .holds
       ∙ ap (λ (h : Held). adding h (edgesOf m) (unresolvedOf m) (callsOf m)) (code .holds)
-      ∙ adding-held (codeOnly m) (edgesOf m) (unresolvedOf m) (callsOf m) (omega (arith, few)) (omega (arith, unresolved-few m (passed m accepted p .sourced))) (omega (arith, calls-few m (accepted .instructions-most)))
+      ∙ adding-held (codeOnly m) (edgesOf m) (unresolvedOf m) (callsOf m) (omega (arith, edges-few m result)) (omega (arith, unresolved-few m (passed m accepted p .sourced))) (omega (arith, calls-few m (accepted .instructions-most)))
 
   pub ready : Whole w₂ × (heldIn w₂ .graph .regions ≡ []) × (heldIn w₂ .graph .handlers ≡ [])
   unfolding held

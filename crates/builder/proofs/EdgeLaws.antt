@@ -2,7 +2,7 @@
 --     resolves, resolved-not               a transfer's target was looked up, or it has none
 --     edge-found, edge-none                its edge where it is resolved, and where it is not
 --     unresolved-of, unresolved-none       its record where it is not, and where it is
---     given-starts, given-found            a given edge's target is a start; the edge to the block that was found
+--     given-found                          a given edge, to the block that was found
 --     given-next, given-fits, case-next, case-fits     its given edges and its cases stand where the cursor says
 --     flow-is, flow-most, first-is, second-is          its flow under the policy, and its two slots
 --     flow-edges, given-edges              what the instruction at p gives by its flow, and where edges are given
@@ -22,27 +22,22 @@ use native.Mathlib.Omega.{arith}
 use borrow.Author.Tests.{eq-eqb, ne-eqb}
 use lib.Dec.{eqb}
 use lib.ListN.{length, getD}
-use Rattle.image.specs.Refusal.{refusal, unless}
 use Rattle.image.specs.Record.{caseFrom, edgeFrom}
 use Rattle.image.specs.Accepted.{Accepted}
 use Rattle.image.specs.declared.record.Instruction.{Instruction}
 use Rattle.image.specs.declared.record.GivenEdge.{GivenEdge}
-use Rattle.image.proofs.Checks.{unless-clear}
 use Rattle.image.specs.Image.{Image}
 use Rattle.graph.specs.declared.record.Edge.{Edge}
 use Rattle.graph.specs.declared.record.UnresolvedTransfer.{UnresolvedTransfer}
 use Rattle.graph.specs.declared.found.Found.{Found}
 use Rattle.graph.specs.declared.found.Found.the-variants.{At, Nothing}
-use Rattle.graph.specs.Table.{isStart}
 use Rattle.graph.specs.Lookup.{Finds}
 use Rattle.graph.specs.Flow.{Flow, Role, From, Slot, slotsOf, fallsThrough, isCall, flowUnder}
 use Rattle.graph.specs.Transfer.{tableOf, size, instructionAt, addressAt, flowAt, Transfer, hasTarget, slotTransfer, casesAt, transferAt, slotCount, isGiven, givenAt, given}
 use Rattle.graph.specs.Blocks.{isTerminator, blockAt}
 use Rattle.graph.specs.Edges.{resolved, transferEdges, transferUnresolved, givenEdge, edgesAt, unresolvedAt}
-use Rattle.graph.specs.Build.{givenCheck}
 use Rattle.graph.specs.Fold.{flat}
 use Rattle.graph.proofs.FoldLaws.{flat-same, flat-front}
-use Rattle.graph.proofs.CheckLaws.{checks-at}
 use Rattle.graph.proofs.TableLaws.{length-entries}
 use Rattle.builder.specs.declared.cursor.Cursor.{Cursor}
 use Rattle.builder.specs.Cursor.{Sourced, cursorAt}
@@ -80,17 +75,6 @@ module _ (m : Image) (x : Transfer) where
     unresolved-of e = rw (e, or-false (eqb (x .from) From.nowhere || fallsThrough (x .role)))
 
 module _ (m : Image) (blocks : List ℕ) (h : Emitting m blocks) (p : ℕ) (here : p < size m) where
-  pub given-starts : isGiven m p ≡ true → (k : ℕ) → k < length (givenAt m p) → isStart (tableOf m) (given m p k .target) ≡ true
-  unfolding givenCheck
-  given-starts e k hk =
-      unless-clear _ _
-      (checks-at
-      (λ i. unless (isStart (tableOf m) (given m p i .target)) (refusal 8 (addressAt m p) (given m p i .target)))
-      (length (givenAt m p))
-      k
-      (rw e at (checks-at (givenCheck m) (size m) p (h .given) here))
-      hk)
-
   pub given-found : (x : GivenEdge) (k b c : ℕ) → Finds (tableOf m) (x .target) (At k) → b ≡ getD blocks p 0 → c ≡ getD blocks k 0
       → givenEdge m p x ≡ record { source = b; target = c; kind = x .kind; role = Role.given; number = x .payload; key = 0; «source_address» = 0; «target_address» = 0 }
   unfolding givenEdge blockAt

@@ -26,13 +26,14 @@ use Rattle.graph.specs.Fold.{some, all}
 use Rattle.graph.specs.Flow.{Flow, Slot, slots, slotsOf, isCall, flowUnder}
 use Rattle.graph.specs.Transfer.{size, instructionAt, addressAt, flowAt, hasTarget, slotTransfer, transferAt, slotCount, isGiven, givenAt, endsAt}
 use Rattle.graph.specs.Leaders.{goesOn, gapMark, sequenceMark, leadsTo, endMark, flowMark, exceptionalMark}
+use Rattle.graph.proofs.RuleLaws.{both-true}
 use Rattle.graph.proofs.FoldLaws.{decided, all-at, some-same, some-front, some-or}
 use Rattle.builder.specs.declared.cursor.Cursor.{Cursor}
 use Rattle.builder.specs.declared.cursor.Given.the-variants.{Edges, Flow as ByFlow}
 use Rattle.builder.specs.Cursor.{Sourced, casesBefore, edgesBefore, cursorAt, givenFor}
 use Rattle.builder.specs.Marks.{Marked, slotMark, caseMark, edgeMark, switchCases, namesMark, leadMark, funcletEnd, visitMark, instructionMark}
 use Rattle.builder.proofs.CursorLaws.{leads-edges, leads-flow, same-place, cases-length, case-is, cases-within, edge-is, edges-within}
-use Rattle.builder.proofs.MarkLaws.{mark-none, mark-then, mark-as, some-own, eqb-comm, both-true}
+use Rattle.builder.proofs.MarkLaws.{mark-none, mark-then, mark-as, some-own, eqb-comm}
 
 pub names-are : (m : Image) (first : ℕ) (i : Instruction) (flow n : ℕ) (x : Slot × Slot) → flow ≡ flowUnder (m .header .calls) (i .flow) → x ≡ slotsOf flow → n ≡ switchCases flow i → (p : ℕ) → (slotMark m i (x .0) p || caseMark m first n p) ≡ namesMark m first i p
 unfolding namesMark

@@ -1,10 +1,8 @@
 -- The table and its blocks, as they are stored and numbered.
 --     table-next                             which entry comes next
---     blocks-most                            there are no more blocks than instructions, but for the empty one
 --     goes-on, ends-table                    whether the next instruction is of the same block, by its mark
 --     same-first, next-first                 where its block begins
 --     block-ends, block-on                   the block that ends at a position, and none
---     no-blocks, all-blocks                  the blocks of an image
 --     number-is, numbers-more, one-more      the number of a block, from that of the position before
 -- Assumes nothing.
 use mathlib.Core.Bool.{Bool, true, false, cond, not}
@@ -16,25 +14,23 @@ use native.Mathlib.Numerals.{add-one}
 use native.Mathlib.Decide.{ℕ-discrete}
 use native.Mathlib.Omega.{arith}
 use borrow.Author.Tests.{eq-eqb, ne-eqb}
-use lib.Dec.{eqb}
-use lib.ListN.{length, getD, set, take, length-append}
+use lib.ListN.{length, getD, set, take}
 use lib.Seq.{take-suc, getD-set-same, getD-set-other}
 use Rattle.image.specs.Record.{instructionFrom}
 use Rattle.image.specs.Image.{Image}
 use Rattle.image.specs.declared.record.Instruction.{Instruction}
 use Rattle.graph.specs.declared.record.TableEntry.{TableEntry}
-use Rattle.graph.specs.declared.record.Block.{Block}
 use Rattle.graph.specs.Words.{heldIn}
 use Rattle.graph.specs.Stored.{withBlock, Stored}
 use Rattle.graph.specs.Adding.{withBlocks}
-use Rattle.graph.specs.Fold.{flat}
 use Rattle.graph.specs.Table.{entryAt}
 use Rattle.graph.specs.Transfer.{tableEntry, entriesOf, size}
 use Rattle.graph.specs.Leaders.{isLeader}
-use Rattle.graph.specs.Blocks.{isTerminator, firstOf, blockOf, blockEnd, blocksOf}
+use Rattle.graph.specs.Blocks.{isTerminator, firstOf, blockOf, blockEnd}
 use Rattle.graph.proofs.FoldLaws.{decided, count-yes, count-no}
 use Rattle.graph.proofs.TableLaws.{length-entries, entry-is}
 use Rattle.graph.proofs.AddingLaws.{blocks-none, block-one}
+use Rattle.graph.proofs.BuiltBlocks.{leads-next}
 use Rattle.builder.specs.Marks.{Leading}
 
 pub table-next : (is : List Instruction) (p : ℕ) → p < length is → take (p + 1) (entriesOf is) ≡ take p (entriesOf is) ++ (tableEntry (getD is p (instructionFrom [] 0)) ∷ [])
@@ -45,31 +41,6 @@ table-next is p h =
     ∙ ap (λ (e : TableEntry). take p (entriesOf is) ++ (e ∷ [])) (entry-is is p)
 
 module _ (m : Image) where
-  ended-most : (n : ℕ) → length (flat (λ p. blockEnd m p) n) ≤ n
-  unfolding flat
-  ended-most zero = omega arith
-  ended-most (suc n) = rw length-append (go (isTerminator m n) (ended-most n))
-    where
-      go : (b : Bool) → length (flat (λ p. blockEnd m p) n) ≤ n → length (flat (λ p. blockEnd m p) n) + length (cond {A = List Block} b (record { first = firstOf m n; count = suc n - firstOf m n } ∷ []) []) ≤ suc n
-      go true h = omega arith
-      go false h = omega arith
-
-  pub no-blocks : size m ≡ 0 → blocksOf m ≡ record { first = 0; count = 0 } ∷ []
-  unfolding blocksOf
-  no-blocks e = rw (eq-eqb (size m) 0 e)
-
-  pub all-blocks : (size m ≡ 0 → ⊥) → blocksOf m ≡ flat (λ p. blockEnd m p) (size m)
-  unfolding blocksOf
-  all-blocks ne = rw (ne-eqb (size m) 0 ne)
-
-  pub blocks-most : size m ≤ 512 → length (blocksOf m) ≤ 512
-  unfolding blocksOf
-  blocks-most h = go (eqb (size m) 0) (ended-most (size m))
-    where
-      go : (b : Bool) → length (flat (λ p. blockEnd m p) (size m)) ≤ size m → length (cond {A = List Block} b (record { first = 0; count = 0 } ∷ []) (flat (λ p. blockEnd m p) (size m))) ≤ 512
-      go true le = omega arith
-      go false le = omega arith
-
   module _ (p : ℕ) where
     pub goes-on : (marks : List Bool) → Leading m marks → p + 1 < size m → not (getD marks (p + 1) false) ≡ not (isTerminator m p)
     unfolding isTerminator
@@ -81,17 +52,13 @@ module _ (m : Image) where
     unfolding isTerminator
     ends-table h le = rw (eq-eqb (suc p) (size m) (omega arith))
 
-    leads-next : (b : Bool) → suc p < size m → isTerminator m p ≡ b → isLeader m (suc p) ≡ b
-    unfolding isTerminator
-    leads-next b h e = rw (ne-eqb (suc p) (size m) (λ same. omega arith)) at e
-
     pub same-first : isTerminator m p ≡ false → suc p < size m → firstOf m (suc p) ≡ firstOf m p
     unfolding firstOf
-    same-first e h = rw (leads-next false h e)
+    same-first e h = rw (sym (leads-next m p h) ∙ e)
 
     pub next-first : isTerminator m p ≡ true → suc p < size m → firstOf m (suc p) ≡ suc p
     unfolding firstOf
-    next-first e h = rw (leads-next true h e)
+    next-first e h = rw (sym (leads-next m p h) ∙ e)
 
     pub block-on : (l : List ℕ) → isTerminator m p ≡ false → Stored l l (withBlocks (heldIn l) (blockEnd m p))
     block-on l e = rw e (blocks-none l)

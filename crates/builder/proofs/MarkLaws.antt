@@ -13,11 +13,10 @@
 --     eqb-comm                      a test that is turned
 --     no-handlers, no-routes        where there are none
 --     leading                       all collectors, one after the other
---     both-true                     two tests that both hold
 --     not-clear                     what is refused is not clear
 -- Assumes nothing.
 use mathlib.Core.Path.{_≡_, refl, sym, ap, _∙_}
-use mathlib.Core.Bool.{Bool, true, false, _&&_, _||_, or-true, or-false, and-true, and-false, or-assoc, false≢true}
+use mathlib.Core.Bool.{Bool, true, false, _&&_, _||_, or-true, or-false, and-true, and-false, or-assoc}
 use mathlib.Core.List.{List, []}
 use mathlib.Core.Logic.{⊎-elim}
 use Prim.Native.Nat.{ℕ, zero, suc, _+_, _<_, _≤_}
@@ -162,10 +161,6 @@ mark-lead m a marked = mark-as _ (λ p h. eqb-comm (addressAt m p) a) (mark-star
 pub any-routes : (l : List ℕ) (y : Layout) → length (routes (imageIn l y)) ≡ y .routes .routes .count
 unfolding routes
 any-routes l y = length-routes (routesIn l (y .routes)) ∙ length-records routeFrom l (y .routes .routes)
-
-pub both-true : (a b : Bool) → (a && b) ≡ true → (a ≡ true) × (b ≡ true)
-both-true true b e = (refl, e)
-both-true false b e = absurd (false≢true e)
 
 -- without handlers, and without routes
 module _ {n : ℕ} {t : List Bool} (l : List ℕ) (y : Layout) where

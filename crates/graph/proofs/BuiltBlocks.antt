@@ -1,7 +1,7 @@
 -- The blocks of a build: how many they are, and which one each instruction is in.
 --     no-blocks, all-blocks          the blocks of an image without instructions, and with some
 --     leads-next, last-ends          whether a block ends at an instruction, by the next one
---     block-one, block-none          the blocks that end up to an instruction, where it ends one and where not
+--     ended-one, ended-none          the blocks that end up to an instruction, where it ends one and where not
 --     block-exists, start-exists     the block of an instruction, and of a start
 --     blocks-some, blocks-most       there is one, and no more than instructions, but for the empty one
 --     entry-is, entry-none, entry-exists     the block at which the sequence is entered
@@ -49,16 +49,16 @@ module _ (m : Image) where
     unfolding isTerminator
     last-ends e = rw (eq-eqb (suc p) (size m) e)
 
-    pub block-one : isTerminator m p ≡ true → flat (λ q. blockEnd m q) (suc p) ≡ flat (λ q. blockEnd m q) p ++ (record { first = firstOf m p; count = suc p - firstOf m p } ∷ [])
+    pub ended-one : isTerminator m p ≡ true → flat (λ q. blockEnd m q) (suc p) ≡ flat (λ q. blockEnd m q) p ++ (record { first = firstOf m p; count = suc p - firstOf m p } ∷ [])
     unfolding flat
-    block-one e = rw e
+    ended-one e = rw e
 
-    pub block-none : isTerminator m p ≡ false → flat (λ q. blockEnd m q) (suc p) ≡ flat (λ q. blockEnd m q) p
+    pub ended-none : isTerminator m p ≡ false → flat (λ q. blockEnd m q) (suc p) ≡ flat (λ q. blockEnd m q) p
     unfolding flat
-    block-none e = rw e (append-nil (flat (λ q. blockEnd m q) p))
+    ended-none e = rw e (append-nil (flat (λ q. blockEnd m q) p))
 
     longer : isTerminator m p ≡ true → length (flat (λ q. blockEnd m q) (suc p)) ≡ suc (length (flat (λ q. blockEnd m q) p))
-    longer e = rw (block-one e, length-append) (omega arith)
+    longer e = rw (ended-one e, length-append) (omega arith)
 
   -- those that end before p stand before the one that p is in
   ended : (p : ℕ) → p < size m → length (flat (λ q. blockEnd m q) p) ≡ blockOf m p
@@ -67,7 +67,7 @@ module _ (m : Image) where
   ended (suc p) h =
       ⊎-elim
       (λ e. longer p (leads-next p h ∙ e) ∙ ap suc (ended p (omega arith)) ∙ sym (count-yes (λ q. isLeader m (suc q)) p e))
-      (λ e. ap length (block-none p (leads-next p h ∙ e)) ∙ ended p (omega arith) ∙ sym (count-no (λ q. isLeader m (suc q)) p e))
+      (λ e. ap length (ended-none p (leads-next p h ∙ e)) ∙ ended p (omega arith) ∙ sym (count-no (λ q. isLeader m (suc q)) p e))
       (decided (isLeader m (suc p)))
 
   -- ---- how many

@@ -26,7 +26,7 @@ use Rattle.graph.proofs.FoldLaws.{decided}
 use Rattle.graph.proofs.TableLaws.{length-entries}
 use Rattle.graph.proofs.RuleLaws.{all-from, filled-le, built-all, inPlace, covers-end, runs-built}
 use Rattle.graph.proofs.EachLaws.{Each, each-append, each-in, each-all}
-use Rattle.graph.proofs.BuiltBlocks.{no-blocks, all-blocks, leads-next, last-ends, block-one, block-none}
+use Rattle.graph.proofs.BuiltBlocks.{no-blocks, all-blocks, leads-next, last-ends, ended-one, ended-none}
 
 -- ---- blocks that cover the positions from a up to z, one behind the other
 
@@ -107,11 +107,11 @@ module _ (m : Image) where
     -- the block that ends at p goes on to p
     runs-one : isTerminator m p ≡ true → Runs 0 (flat (λ q. blockEnd m q) p) (firstOf m p) → Runs 0 (flat (λ q. blockEnd m q) (suc p)) (suc p)
     runs-one e runs =
-        rw (block-one m p e) (runs-append (flat (λ q. blockEnd m q) p) _ 0 (firstOf m p) (suc p) runs (refl, omega (arith, first-le p)))
+        rw (ended-one m p e) (runs-append (flat (λ q. blockEnd m q) p) _ 0 (firstOf m p) (suc p) runs (refl, omega (arith, first-le p)))
 
     filled-one : isTerminator m p ≡ true → Each Filled (flat (λ q. blockEnd m q) p) → Each Filled (flat (λ q. blockEnd m q) (suc p))
     filled-one e each =
-        rw (block-one m p e) (each-append Filled (flat (λ q. blockEnd m q) p) _ each (omega (arith, first-le p), tt))
+        rw (ended-one m p e) (each-append Filled (flat (λ q. blockEnd m q) p) _ each (omega (arith, first-le p), tt))
 
   runs-ended : (p : ℕ) → p < size m → Runs 0 (flat (λ q. blockEnd m q) p) (firstOf m p) × Each Filled (flat (λ q. blockEnd m q) p)
   unfolding flat firstOf
@@ -120,7 +120,7 @@ module _ (m : Image) where
       let before = runs-ended p (omega arith) in
       ⊎-elim
       (λ e. let ends = leads-next m p h ∙ e in (rw e (runs-one p ends (before .0)), filled-one p ends (before .1)))
-      (λ e. rw (block-none m p (leads-next m p h ∙ e), e) before)
+      (λ e. rw (ended-none m p (leads-next m p h ∙ e), e) before)
       (decided (isLeader m (suc p)))
 
   runs-some : (q : ℕ) → suc q ≡ size m → Runs 0 (blocksOf m) (size m) × Each Filled (blocksOf m)

@@ -10,8 +10,8 @@ use Rattle.graph.specs.Fold.{flat}
 use Rattle.graph.specs.Transfer.{size}
 use Rattle.graph.specs.Blocks.{firstOf, blockEnd}
 use Rattle.graph.proofs.AddingLaws.{blocks-none, block-one, blocks-then}
+use Rattle.graph.proofs.BuiltBlocks.{no-blocks, all-blocks}
 use Rattle.builder.specs.Marks.{Leading}
-use Rattle.builder.proofs.LaidLaws.{no-blocks, all-blocks}
 use native.Mathlib.Omega.{arith}
 use borrow.Author.Needs.{needs}
 use Rattle.builder.proofs.blocks.store_blocks.Statement.{statement}

@@ -1,7 +1,8 @@
 -- The checks in their order, and then the stores. Assumes nothing.
 use mathlib.Core.Path.{refl, sym}
 use Rattle.image.specs.Image.{imageIn}
-use Rattle.builder.proofs.BuildLaws.{parts, passed, build-refused, build-late, build-built}
+use Rattle.graph.proofs.BuiltChecks.{parts}
+use Rattle.builder.proofs.BuildLaws.{passed, build-refused, build-late, build-built}
 use borrow.Author.Needs.{needs}
 use Rattle.builder.proofs.build.build_in.Statement.{statement}
 use Rattle.builder.proofs.build.build_in.Tie as tie

@@ -2,7 +2,8 @@
 use mathlib.Core.Path.{_∙_, sym}
 use Rattle.image.specs.Image.{imageIn}
 use Rattle.graph.specs.Build.{resultCheck}
-use Rattle.builder.proofs.BuildLaws.{parts, passed}
+use Rattle.graph.proofs.BuiltChecks.{parts}
+use Rattle.builder.proofs.BuildLaws.{passed}
 use borrow.Author.Needs.{needs}
 use Rattle.builder.proofs.build.check_result.Statement.{statement}
 use Rattle.builder.proofs.build.check_result.Tie as tie

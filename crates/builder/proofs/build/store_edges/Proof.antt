@@ -1,6 +1,7 @@
 -- One pass behind the other. Assumes nothing.
 use Rattle.image.specs.Image.{imageIn}
-use Rattle.builder.proofs.BuildLaws.{parts, emitting, handled, edges-added}
+use Rattle.graph.proofs.BuiltChecks.{parts}
+use Rattle.builder.proofs.BuildLaws.{emitting, handled, edges-added}
 use native.Mathlib.Omega.{arith}
 use borrow.Author.Needs.{needs}
 use Rattle.builder.proofs.build.store_edges.Statement.{statement}

@@ -2,7 +2,8 @@
 use Rattle.image.specs.Record.{instructionFrom}
 use Rattle.image.specs.Image.{imageIn}
 use Rattle.image.proofs.Tables.{length-records}
-use Rattle.builder.proofs.BuildLaws.{parts, numbered, handled, ready, graph-laid}
+use Rattle.graph.proofs.BuiltChecks.{parts}
+use Rattle.builder.proofs.BuildLaws.{numbered, handled, ready, graph-laid}
 use native.Mathlib.Omega.{arith}
 use borrow.Author.Needs.{needs}
 use Rattle.builder.proofs.build.store_graph.Statement.{statement}

@@ -9,7 +9,8 @@ use Rattle.graph.specs.Transfer.{givenAt, given}
 use Rattle.graph.specs.Edges.{givenEdge}
 use Rattle.graph.specs.Adding.{Added}
 use Rattle.graph.proofs.AddingLaws.{added-none, edges-more}
-use Rattle.builder.proofs.EdgeLaws.{given-starts, given-next, given-fits, given-edges}
+use Rattle.graph.proofs.BuiltChecks.{given-starts}
+use Rattle.builder.proofs.EdgeLaws.{given-next, given-fits, given-edges}
 use native.Mathlib.Omega.{arith}
 use borrow.Author.Needs.{needs}
 use Rattle.builder.proofs.edges.add_given_edges.Statement.{statement}
@@ -41,7 +42,7 @@ add-given-requires c κs =
       (
         start .pre .1 .0 .1,
         rw (given-next m (start .pre .0 .sourced) (a .c) (start .pre .1 .0 .0) (start .pre .1 .0 .1) (start .pre .1 .1 .0) k h)
-            (given-starts m (a .blocks .now) (start .pre .0) (a .c .at) (start .pre .1 .0 .1) (start .pre .1 .1 .0) k h),
+            (given-starts m (start .pre .0 .given) (a .c .at) (start .pre .1 .0 .1) (start .pre .1 .1 .0) k h),
       ),
     )
 
