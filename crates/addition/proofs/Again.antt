@@ -1,8 +1,9 @@
--- An accepted addition leaves a graph that 21 lets pass, so a second addition to it is never refused with 21.
---     unstarted                    to an empty table no block is added
---     again                        the theorem, of a graph that holds all its records
---     passes-again                 the same of what words within the limits hold, and of the words afterwards
---     reads-again                  a second addition goes on to read its routes
+-- An accepted addition leaves a graph that 21 lets pass.
+--     new-old, unstarted           each new block repeats one that stood, and to an empty table none is added
+--     limits-after                 the limits, by 18 and 19
+--     stands-after                 each phrase of the rule
+--     again                        the theorem, of a graph and routes that were read
+--     passes-again, words-again    of what is held where nothing is cut, and of what words hold
 use mathlib.Core.Path.{_≡_, refl, sym, _∙_, ap, subst}
 use mathlib.Core.Logic.{inl, inr}
 use mathlib.Core.Bool.{Bool, true, false, cond, false≢true}
@@ -14,7 +15,6 @@ use borrow.Author.Tests.{leb-true, le-leb}
 use lib.Dec.{leb}
 use lib.ListN.{length, length-append}
 use Rattle.image.specs.Refusal.{refusal, Check, clear, _then_, unless}
-use Rattle.image.specs.Read.{readRoutes}
 use Rattle.image.specs.Deal.{UnwindRoute, routesOf}
 use Rattle.image.proofs.Checks.{unless-clear}
 use Rattle.graph.specs.declared.record.TableEntry.{TableEntry}
@@ -27,12 +27,12 @@ use Rattle.graph.specs.Words.{heldIn}
 use Rattle.graph.specs.WellFormed.{withinLimits, parentsExist, namesHandler, sameReference, referencesMatch, wellFormed}
 use Rattle.graph.proofs.FoldLaws.{flat-none}
 use Rattle.graph.proofs.StoredLaws.{all-held}
-use Rattle.graph.proofs.RuleLaws.{Stands, stands}
+use Rattle.graph.proofs.RuleLaws.{Stands, stands, stands-so}
 use Rattle.addition.specs.Part.{funclets}
 use Rattle.addition.specs.Trie.{Node, nodeAt, tries}
 use Rattle.addition.specs.Instance.{partOf, blocksOf, later, copied, cloneBlocks, cloneEdges}
 use Rattle.addition.specs.Ways.{ways, routeEdges}
-use Rattle.addition.specs.Add.{extended, Addition, addition, nodeCheck, sizeCheck, added, addRead, addRoutesTo, addRoutes}
+use Rattle.addition.specs.Add.{extended, Addition, addition, nodeCheck, sizeCheck, added, addRoutesTo, addRoutes}
 use Rattle.addition.specs.Walk.{_∈_}
 use Rattle.addition.proofs.Lists.{at, and-l, and-r, and-true, map-mem, flat-mem, lt-at, at-getD}
 use Rattle.addition.proofs.Sound.{Sound, sound as well-formed}
@@ -143,10 +143,6 @@ module _ (g : Graph) (rs : List UnwindRoute) where
             | inr k ↦ route-fine g rs sound ok (extended g bs []) [] d k
           ]
 
-stands-so : (h : Held) → Stands h → wellFormed h ≡ true
-unfolding wellFormed
-stands-so h s = search and-true depth 12
-
 pub again : (g : Graph) (rs : List UnwindRoute) (a : Addition) → wellFormed (held g) ≡ true → addRoutesTo g rs ≡ added a → wellFormed (held (a .graph)) ≡ true
 unfolding held addition
 again g rs a e adds =
@@ -154,7 +150,7 @@ again g rs a e adds =
     subst (λ (a : Addition). wellFormed (held (a .graph)) ≡ true) (x .is)
     (stands-so _ (stands-after g rs (stands (held g) e) (well-formed (held g) e) (x .nodes) (x .sizes)))
 
--- what is held is all of a graph's records, as it is of words that 21 lets pass
+-- h ≡ held (h .graph): nothing of the graph is cut, and the counts are its lengths. Words that 21 lets pass hold such a graph.
 pub passes-again : (h : Held) (l : List ℕ) (a : Addition) → h ≡ held (h .graph) → addRoutes h l ≡ added a → wellFormed (held (a .graph)) ≡ true
 passes-again h l a whole e =
     let x = passed h l a e in
@@ -162,7 +158,3 @@ passes-again h l a whole e =
 
 pub words-again : (w l : List ℕ) (a : Addition) → addRoutes (heldIn w) l ≡ added a → wellFormed (held (a .graph)) ≡ true
 words-again w l a e = passes-again (heldIn w) l a (all-held w (stands (heldIn w) (passed (heldIn w) l a e .graph) .limits)) e
-
-pub reads-again : (w l m : List ℕ) (a : Addition) → addRoutes (heldIn w) l ≡ added a → addRoutes (held (a .graph)) m ≡ addRead (a .graph) (readRoutes m)
-unfolding addRoutes held
-reads-again w l m a e = rw (words-again w l a e)

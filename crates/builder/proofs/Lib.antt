@@ -15,3 +15,4 @@ pub mod LaidLaws
 pub mod BoundLaws
 pub mod BuildLaws
 pub mod ContinuationLaws
+pub mod Passes

@@ -1,5 +1,5 @@
 -- What a build answers, and what it leaves in the words that it is lent.
-use mathlib.Core.Bool.{Bool}
+use mathlib.Core.Bool.{Bool, true}
 use mathlib.Core.Path.{_≡_}
 use mathlib.Core.List.{List, []}
 use Prim.Native.Nat.{ℕ}
@@ -11,6 +11,7 @@ use Rattle.graph.specs.Words.{heldIn}
 use Rattle.graph.specs.Answers.{Laid}
 use Rattle.graph.specs.Error.{refusalOf}
 use Rattle.graph.specs.Build.{Outcome, built, refused, inputCheck}
+use Rattle.graph.specs.WellFormed.{wellFormed}
 use Rattle.graph.specs.Table.{codeEnd}
 use Rattle.graph.specs.Transfer.{tableOf}
 use Rattle.graph.specs.Blocks.{blocksOf}
@@ -27,6 +28,11 @@ buildAnswer w (Refused e) = refused (refusalOf e)
 abbrev pub BuildLeaves : List ℕ → List ℕ → Built → Type 0
 BuildLeaves w w′ Stored = Laid w w′ (heldIn w′ .graph)
 BuildLeaves w w′ (Refused e) = w′ ≡ w
+
+-- what a build stores is a graph: 21 lets it pass
+abbrev pub Graphed : List ℕ → Built → Type 0
+Graphed w Stored = wellFormed (heldIn w) ≡ true
+Graphed w (Refused e) = Unit {0}
 
 -- ---- on the way
 

@@ -42,7 +42,7 @@ ghost use Rattle.graph.specs.Build.{entryCheck, inputCheck, resultCheck, graphF
 ghost use Rattle.graph.specs.Answers.{Laid};
 ghost use Rattle.builder.specs.Marks.{Leading};
 ghost use Rattle.builder.specs.Emit.{Fits, Numbered};
-ghost use Rattle.builder.specs.Answers.{buildAnswer, BuildLeaves, Building, codeOnly};
+ghost use Rattle.builder.specs.Answers.{buildAnswer, BuildLeaves, Graphed, Building, codeOnly};
 
 pub enum Built {
     Stored,
@@ -52,7 +52,7 @@ pub enum Built {
 // The graph of an image of any mode: `build_address_cfg` (0), `build_address_cfg_with_routes` (1),
 // `build_address_cfg_from_given_edges` (2).
 pub fn build(s: &[u8], g: &mut Words) -> Built
-    ensures { λ r. ⌜ (buildAnswer (now (g .exit)) r ≡ buildFrom (now (s .entry))) × BuildLeaves (now (g .entry)) (now (g .exit)) r ⌝ }
+    ensures { λ r. ⌜ (buildAnswer (now (g .exit)) r ≡ buildFrom (now (s .entry))) × BuildLeaves (now (g .entry)) (now (g .exit)) r × Graphed (now (g .exit)) r ⌝ }
 {
     match read_image(s) {
         ReadImage::Refused(e) => Built::Refused(form_error(e)),

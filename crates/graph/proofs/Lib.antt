@@ -24,3 +24,4 @@ pub mod BuiltBlocks
 pub mod BuiltRuns
 pub mod BuiltEdges
 pub mod BuiltSets
+pub mod Built

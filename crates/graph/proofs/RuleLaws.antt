@@ -12,7 +12,7 @@
 --     covers-place, runs, first-is, rises     where the blocks of a graph that passes begin
 --     isRun, runs-built, run-copy  a block is built or repeats one that is
 --     Between, go-left, go-right, repeats-here, repeats-nowhere     a search by halving for the built run that a copy repeats
---     Stands, stands               each phrase of a graph that the rule lets pass
+--     Stands, stands, stands-so    each phrase of a graph that the rule lets pass, and back
 -- Assumes nothing.
 use mathlib.Core.Path.{_≡_, refl, sym, ap, _∙_}
 use mathlib.Core.Bool.{Bool, true, false, not, _&&_, _||_, and-true, and-false, or-true, false≢true}
@@ -325,3 +325,7 @@ stands h e =
     let p2 = both-true _ _ (p3 .0) in
     let p1 = both-true _ _ (p2 .0) in
     record { limits = p1 .0; table = p1 .1; entry = p2 .1; edges = p3 .1; regions = p4 .1; parents = p5 .1; references = p6 .1; sets = p7 .1; covers = p8 .1; copies = p9 .1; runs = p10 .1 }
+
+pub stands-so : (h : Held) → Stands h → wellFormed h ≡ true
+unfolding wellFormed
+stands-so h s = search both-hold depth 12

@@ -10,7 +10,7 @@ ghost use Rattle.graph.specs.Graph.{edge};
 ghost use Rattle.graph.specs.Words.{heldIn};
 ghost use Rattle.graph.specs.Stored.{withEdge, Stored};
 ghost use Rattle.addition.specs.Add.{addRoutes};
-ghost use Rattle.unwind.specs.Answers.{addAnswer, AddLeaves, Spells};
+ghost use Rattle.unwind.specs.Answers.{addAnswer, AddLeaves, Graphed, Spells};
 ghost use Rattle.unwind.specs.HopWords.{hopAt, rowsIn, withHopIfRoom, HopsStored};
 
 pub struct Graph {
@@ -51,7 +51,7 @@ pub fn hop_at(h: &HopList, i: usize) -> HopRow
 
 // To a graph that any words hold, and routes that any bytes hold: the edges and copies that they want, and their hops.
 pub fn add_unwind_routes(g: &mut Graph, s: &[u8], h: &mut HopList) -> AddedRoutes
-    ensures { λ r. ⌜ (addAnswer (now (s .entry)) (now (g .exit) .words) (now (h .exit) .words) r ≡ addRoutes (heldIn (now (g .entry) .words)) (now (s .entry))) × AddLeaves (now (g .entry) .words) (now (g .exit) .words) (now (h .entry) .words) (now (h .exit) .words) r × Spells (now (s .entry)) (now (g .entry) .words) (now (g .exit) .words) (now (h .exit) .words) r ⌝ }
+    ensures { λ r. ⌜ (addAnswer (now (s .entry)) (now (g .exit) .words) (now (h .exit) .words) r ≡ addRoutes (heldIn (now (g .entry) .words)) (now (s .entry))) × AddLeaves (now (g .entry) .words) (now (g .exit) .words) (now (h .entry) .words) (now (h .exit) .words) r × Spells (now (s .entry)) (now (g .entry) .words) (now (g .exit) .words) (now (h .exit) .words) r × Graphed (now (g .exit) .words) r ⌝ }
 {
     unwind::add::add_unwind_routes(&mut g.words, s, &mut h.words)
 }

@@ -43,6 +43,11 @@ abbrev pub AddLeaves : List ℕ → List ℕ → List ℕ → List ℕ → Added
 AddLeaves w w′ h h′ Stored = Laid w w′ (heldIn w′ .graph) × ((k : ℕ) → HopsUnused h′ k → getD h′ k 0 ≡ getD h k 0)
 AddLeaves w w′ h h′ (Refused e) = (w′ ≡ w) × (h′ ≡ h)
 
+-- what an addition stores is a graph: 21 lets it pass again
+abbrev pub Graphed : List ℕ → AddedRoutes → Type 0
+Graphed w Stored = wellFormed (heldIn w) ≡ true
+Graphed w (Refused e) = Unit {0}
+
 -- DEMAND 3 of this graph and these routes
 pub record Spells (l w w′ h′ : List ℕ) (r : AddedRoutes) : Type 0 where
   pub spells : (m : RouteImage) → readRoutes l ≡ read m → r ≡ Stored → Conditions (heldIn w .graph) (routesOf m) → Demand3 (routesOf m) (additionIn m w′ h′)

@@ -23,7 +23,7 @@ ghost use Rattle.image.specs.Accepted.{AcceptedRoutes};
 ghost use Rattle.graph.specs.Words.{heldIn};
 ghost use Rattle.graph.specs.WellFormed.{wellFormed};
 ghost use Rattle.addition.specs.Add.{addRoutes};
-ghost use Rattle.unwind.specs.Answers.{addAnswer, AddLeaves, Spells, Adds};
+ghost use Rattle.unwind.specs.Answers.{addAnswer, AddLeaves, Graphed, Spells, Adds};
 
 pub enum AddedRoutes {
     Stored,
@@ -32,7 +32,7 @@ pub enum AddedRoutes {
 
 // To a graph that any words hold, and routes that any bytes hold.
 pub fn add_unwind_routes(g: &mut Words, s: &[u8], h: &mut Hops) -> AddedRoutes
-    ensures { λ r. ⌜ (addAnswer (now (s .entry)) (now (g .exit)) (now (h .exit)) r ≡ addRoutes (heldIn (now (g .entry))) (now (s .entry))) × AddLeaves (now (g .entry)) (now (g .exit)) (now (h .entry)) (now (h .exit)) r × Spells (now (s .entry)) (now (g .entry)) (now (g .exit)) (now (h .exit)) r ⌝ }
+    ensures { λ r. ⌜ (addAnswer (now (s .entry)) (now (g .exit)) (now (h .exit)) r ≡ addRoutes (heldIn (now (g .entry))) (now (s .entry))) × AddLeaves (now (g .entry)) (now (g .exit)) (now (h .entry)) (now (h .exit)) r × Spells (now (s .entry)) (now (g .entry)) (now (g .exit)) (now (h .exit)) r × Graphed (now (g .exit)) r ⌝ }
 {
     if !is_graph(g) {
         return AddedRoutes::Refused(AddressBuildError::NoGraph);

@@ -45,7 +45,7 @@ use denote.Triple.Table.{entered, cited}
 use denote.Triple.Walked.{says, Stays, stay-ref, stay-dropped, walkOf, goes-ref, goes-dropped, Walks, ends-at, walked, walk-meets}
 use Rattle.graph.specs.Words.{heldIn}
 use Rattle.addition.specs.Add.{addRoutes}
-use Rattle.unwind.specs.Answers.{addAnswer, AddLeaves, Spells}
+use Rattle.unwind.specs.Answers.{addAnswer, AddLeaves, Graphed, Spells}
 use Rattle.unwind.specs.declared.add.AddedRoutes.{AddedRoutes}
 use Rattle.unwind.proofs.add.AddedRoutes as D
 use Rattle.unwind.proofs.add.AddedRoutes.Laws as D′
@@ -85,7 +85,7 @@ module _ {M : Type 1} (𝓤 : URA M) (H : Heap 𝓤) (A : Atoms 𝓤) (W : Given
   bound = ((κ₀, (κ₁, (κ₂, tt))), (q₀, (q₁, (q₂, tt))))
 
   abbrev Told : List ℕ → List ℕ → AddedRoutes → Type 0
-  Told l k r = (addAnswer (s .now) l k r ≡ addRoutes (heldIn (g .words)) (s .now)) × AddLeaves (g .words) l (h .words) k r × Spells (s .now) (g .words) l k r
+  Told l k r = (addAnswer (s .now) l k r ≡ addRoutes (heldIn (g .words)) (s .now)) × AddLeaves (g .words) l (h .words) k r × Spells (s .now) (g .words) l k r × Graphed l r
 
   -- the words of the graph, lent under the name δ, and those of the hops, lent under the name ε
   abbrev x : GName → RefT (List ℕ)

@@ -1,8 +1,9 @@
 -- The refusal of the reading, or the build of what was read. Assumes nothing.
-use mathlib.Core.Path.{_≡_, refl, sym, ap, _∙_}
+use mathlib.Core.Path.{refl, sym, _∙_}
 use Rattle.image.specs.Image.{imageIn}
 use Rattle.image.proofs.Accepted.{accepted}
 use Rattle.builder.proofs.BuildLaws.{read-refused, read-built}
+use Rattle.builder.proofs.Passes.{graphed}
 use borrow.Author.Needs.{needs}
 use Rattle.builder.proofs.build.build.Statement.{statement}
 use Rattle.builder.proofs.build.build.Tie as tie
@@ -15,12 +16,13 @@ build-read-requires c κs =
 returns : tie.Need-returns
 returns c =
     let start = c .before .before .before .before .before .before in
-    (read-refused (start .args .s .now) (c .form-error .result) _ (c .form-error .ensures) (rw (c .before .before .e .given .1) at (c .before .before .before .before .read-image .ensures)), refl)
+    (read-refused (start .args .s .now) (c .form-error .result) _ (c .form-error .ensures) (rw (c .before .before .e .given .1) at (c .before .before .before .before .read-image .ensures)), refl, tt)
 
 returns-2 : tie.Need-returns-2
 returns-2 c =
     let start = c .before .before .before .before .before .before .before in
-    (c .build-read .ensures .0 ∙ read-built (start .args .s .now) _ (rw (c .before .before .before .y .given .1) at (c .before .before .before .before .before .read-image .ensures)), c .build-read .ensures .1)
+    let answer = c .build-read .ensures .0 ∙ read-built (start .args .s .now) _ (rw (c .before .before .before .y .given .1) at (c .before .before .before .before .before .read-image .ensures)) in
+    (answer, c .build-read .ensures .1, graphed (start .args .s .now) (start .args .g .now) _ (c .build-read .result) answer (c .build-read .ensures .1))
 
 pub build-spec : {M : Type 1} → statement M
 build-spec =

@@ -7,7 +7,7 @@ use Rattle.export.proofs.add.foldzine_add_routes.Tie as tie
 returns : tie.Need-returns
 returns c =
     let done = rw (c .before .enum-told .given .1) at (c .before .before .before .add-unwind-routes .ensures) in
-    rw (← done .0) (c .nothing-refused .ensures, (done .1 .0, record { holds = refl; kept = done .1 .1 }))
+    rw (← done .0) (c .nothing-refused .ensures, (done .1 .0, done .3, record { holds = refl; kept = done .1 .1 }))
 
 returns-2 : tie.Need-returns-2
 returns-2 c =

@@ -6,7 +6,7 @@ use Rattle.export.proofs.build.foldzine_build.Tie as tie
 returns : tie.Need-returns
 returns c =
     let done = rw (c .before .enum-told .given .1) at (c .before .before .before .build .ensures) in
-    rw (← done .0) (c .nothing-refused .ensures, done .1)
+    rw (← done .0) (c .nothing-refused .ensures, (done .1, done .2))
 
 returns-2 : tie.Need-returns-2
 returns-2 c =
