@@ -1,6 +1,6 @@
 -- Blocks in a row with the same ways out.
 --     steady-none, steady-more     the sets, one by one
---     marks-none, marks-more, marks-turning    the words, one by one
+--     Marked, marks-none, marks-more, marks-turning    the words, one by one
 --     held-on                      what holds the ways out of one block holds those of the next
 use mathlib.Core.Path.{_≡_, refl, sym, ap, _∙_, subst}
 use mathlib.Core.Bool.{Bool, true, false, cond, _&&_}

@@ -2,7 +2,7 @@
 --     keep-most                    no more are kept than there are
 --     out-most, set-most           how many edges go out of blocks
 --     copies-none, copies-some     the blocks that a node copies
---     none-next, some-next, count-some     the copies of edges by a node more; no-edges
+--     nodeCopies, edges-next, none-next, some-next, count-some, no-edges     the copies of edges by a node more, and by none
 --     set-front, joined-none       the edges out of a set: the lowest block apart, and none
 --     rank-few                     a rank is small
 --     copy-in, copy-out            the copy of an edge to a block that is copied, and to another
@@ -10,7 +10,7 @@
 use mathlib.Core.Path.{_≡_, refl, sym, ap, ap₂, _∙_}
 use mathlib.Core.Bool.{Bool, true, false, cond}
 use mathlib.Core.List.{List, [], _∷_, _++_, map, append-nil}
-use Prim.Native.Nat.{ℕ, zero, suc, _+_, _-_, _*_, _≤_, _<_, min}
+use Prim.Native.Nat.{ℕ, zero, suc, _+_, _*_, _≤_, _<_, min}
 use native.Mathlib.Nat.{mul-suc, le-trans}
 use native.Mathlib.Omega.{arith}
 use borrow.Author.Tests.{eq-eqb, ne-eqb}

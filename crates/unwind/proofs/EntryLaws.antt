@@ -1,10 +1,11 @@
 -- Entries of one block in scratch.
---     ends-compare, exits-compare  entries are compared as their numbers and tags are
+--     ends-compare, exits-compare, exits-less, exits-greater, exits-equal     entries are compared as their numbers and tags are
 --     parts-all, parts-left, parts-right     the search for a place
 --     table-split, table-front     f 0, f 1, .. in two parts, and the first apart
+--     table-mem, mem-table         its members
 --     rising-table, table-rising   order by places
 --     put-here, put-there          one that stands, and one that is laid between
---     entry-kept, entry-laid       what is put
+--     entry-kept, entry-changed, entry-laid     what is put
 use mathlib.Core.Path.{_≡_, refl, sym, _∙_, ap}
 use mathlib.Core.Logic.{_⊎_, inl, inr}
 use mathlib.Core.Bool.{cond}

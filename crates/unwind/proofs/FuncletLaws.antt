@@ -1,28 +1,26 @@
 -- The funclets of the routes of an image, step by step, and the built blocks that they start.
 --     funclets-steps               an address is a funclet if some step of the image names it
 --     leadsTo, leads-to            the block that an address starts, as a test
---     leads-begins, leads-block, part-named    the block, and the part of its funclet
+--     leads-begins                 the block begins there
 --     member-entering, length-entering     a set with it
 --     Entered, entered-none, entered-put, entered-skip     the set with those of the steps below j
 --     entries-are                  the set with those of all steps
 -- Assumes nothing.
 use mathlib.Core.Path.{_≡_, refl, sym, ap, _∙_}
 use mathlib.Core.Bool.{Bool, true, false, cond, _&&_, _||_, false≢true, and-false, or-false, or-comm}
-use mathlib.Core.Logic.{_⊎_, inl, inr, ⊎-elim}
+use mathlib.Core.Logic.{_⊎_, inl, inr}
 use mathlib.Core.List.{List, []}
-use mathlib.Core.Option.{some}
 use Prim.Native.Nat.{ℕ, zero, suc, _+_, _-_, _≤_, _<_}
 use native.Mathlib.Nat.{not-suc-le-zero}
 use native.Mathlib.Numerals.{add-one}
-use native.Mathlib.Decide.{decLt, ℕ-discrete}
+use native.Mathlib.Decide.{decLt}
 use native.Mathlib.Omega.{arith}
 use borrow.Author.Tests.{eq-eqb, ne-eqb, eqb-true}
 use lib.Dec.{eqb}
 use lib.ListN.{length, getD}
-use Rattle.image.specs.Refusal.{clear}
 use Rattle.image.specs.Record.{routeFrom, pathFrom, stepFrom}
 use Rattle.image.specs.Image.{RouteImage}
-use Rattle.image.specs.Deal.{total, UnwindStep, funclet, call, UnwindPath, UnwindRoute, stepOf, routesOf}
+use Rattle.image.specs.Deal.{total, funclet, call, UnwindPath, UnwindRoute, stepOf, routesOf}
 use Rattle.image.specs.Accepted.{AcceptedRoutes}
 use Rattle.image.specs.declared.record.Step.{Step}
 use Rattle.graph.specs.Graph.{Graph}
@@ -35,11 +33,10 @@ use Rattle.graph.proofs.BlockLaws.{member-none, member-including, length-includ
 use Rattle.graph.proofs.RouteLaws.{length-routes, paths-of, path-of, paths-in, steps-of, step-of, steps-in}
 use Rattle.addition.specs.Blocks.{Leading, leads, inside, absent, firstOf, leading, blockIn, blockOf}
 use Rattle.addition.specs.Part.{funclets}
-use Rattle.unwind.specs.Stands.{Stands, Has}
-use Rattle.unwind.specs.PartSearch.{Barriers, PartFrom, entering}
-use Rattle.addition.specs.Instance.{partOf}
+use Rattle.unwind.specs.Stands.{Stands}
+use Rattle.unwind.specs.PartSearch.{Barriers, entering}
 use Rattle.addition.specs.Add.{leadFound, leadCheck}
-use Rattle.addition.specs.Walk.{_∈_, Funclet, Built as BuiltBlock, Begins}
+use Rattle.addition.specs.Walk.{Funclet, Begins}
 use Rattle.addition.proofs.Lists.{and-both, and-true, both-ways, mem-getD, mem-at, at-lt, at-getD, mem-among, among-mem}
 use Rattle.addition.proofs.Closure.{mem-funclets, funclets-mem}
 use Rattle.addition.proofs.Accepted.{lead-begins}
@@ -137,15 +134,6 @@ leadsTo absent b = false
 pub leads-begins : (g : Graph) (a c : ℕ) → leading g a ≡ leads c → Begins g a c
 unfolding leadCheck leadFound blockOf blockIn
 leads-begins g a c e = rw (ap blockIn e) at (lead-begins g a (rw e refl))
-
-pub leads-block : (g : Graph) (a c : ℕ) → leading g a ≡ leads c → blockOf g a ≡ c
-unfolding blockOf blockIn
-leads-block g a c e = ap blockIn e
-
--- the part of the funclet f, whose entry is block e
-pub part-named : (g : Graph) (rs : List UnwindRoute) (w : List ℕ) (f e : ℕ) (r : List ℕ) → leading g f ≡ leads e → Barriers g rs w → PartFrom g w e r → Has r (partOf g (funclets rs) (some f))
-unfolding partOf
-part-named g rs w f e r is bars found = rw (leads-block g f e is) (rw (leads-begins g f e is .address) at (found rs bars))
 
 module _ (g : Graph) (s : Stands g) (n : ℕ) (built : Built g n) (there : 0 < length (g .table)) (b : ℕ) (h : b < length (g .blocks)) where
   pub leads-to : (a : ℕ) → leadsTo (leading g a) b ≡ (isBuilt g b && eqb a (firstOf g b .address))

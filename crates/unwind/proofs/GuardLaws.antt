@@ -4,16 +4,16 @@
 --     guards-are                   the set of all blocks between
 -- Assumes nothing.
 use mathlib.Core.Path.{_≡_, refl, sym, ap, _∙_}
-use mathlib.Core.Bool.{true, false, _||_, false≢true}
+use mathlib.Core.Bool.{true, _||_, false≢true}
 use mathlib.Core.Logic.{_⊎_, inl, inr, ⊎-elim}
 use mathlib.Core.List.{List}
-use Prim.Native.Nat.{ℕ, suc, _+_, _≤_, _<_}
+use Prim.Native.Nat.{ℕ, _+_, _≤_, _<_}
 use native.Mathlib.Decide.{decLt, ℕ-discrete}
 use native.Mathlib.Omega.{arith}
-use borrow.Author.Tests.{eq-eqb, ne-eqb, eqb-true, lt-ltb, ltb-true}
+use borrow.Author.Tests.{eq-eqb, eqb-true, lt-ltb, ltb-true}
 use lib.Dec.{eqb}
 use lib.ListN.{length, List·getD-eq-default}
-use Rattle.image.specs.Deal.{UnwindPath, UnwindRoute}
+use Rattle.image.specs.Deal.{UnwindRoute}
 use Rattle.graph.specs.declared.record.TableEntry.{TableEntry}
 use Rattle.graph.specs.Graph.{Graph, block}
 use Rattle.graph.specs.Fold.{among}
@@ -23,7 +23,6 @@ use Rattle.graph.specs.WellFormed.{Built}
 use Rattle.graph.proofs.BlockLaws.{member-none, member-including, length-including}
 use Rattle.addition.specs.Blocks.{firstOf, guarded}
 use Rattle.unwind.specs.Stands.{Stands, Before, Guards, routeOf}
-use Rattle.addition.specs.Walk.{Built as BuiltBlock, Covers}
 use Rattle.addition.proofs.Lists.{both-ways, mem-among, among-mem, or-either, or-left, or-right}
 use Rattle.addition.proofs.Accepted.{mem-guarded, guarded-mem}
 use Rattle.unwind.proofs.Standing.{table-rises, below-test, built-is, is-built, first-lt}

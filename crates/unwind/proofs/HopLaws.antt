@@ -1,8 +1,10 @@
 -- The hops of an addition as words.
 --     hops-number, lists-long      how many rows there are
+--     hopWords, listWords          the words of a row
+--     beside-own, beside-other     a word beside the rows with one more is beside them without it
 --     hop-added, list-added        a row is written and counted
 --     hop-is                       hop i, word by word
---     last-widened                 the last hop has a list more
+--     widened-snoc, last-widened   the last hop has a list more
 --     hops-emptied                 no row
 --     hops-none, hops-onto         no store, and one behind another
 -- Assumes nothing.

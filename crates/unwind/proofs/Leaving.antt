@@ -1,20 +1,21 @@
 -- The exits of one block: of the routes that guard it and the nodes that return there, or of the one node whose copy it is.
+--     map-flat                     f of lists one behind the other
 --     from-source                  the exits of a node out of a block leave that block
 --     roots-length                 a root for each route
 --     ways-exits                   the exits of all ways
---     source-below                 they leave the blocks that stand afterwards
+--     Leaves, exit-leaves, leaves-exit     each is a route's or a node's
+--     place-below, source-below    they leave the blocks that stand afterwards
 --     standing-exits               those of a block that stood
 --     copy-exits                   those of a copy
---     rank-rising, place-at        the number of a copy
+--     upto-rising, blocks-rising   the blocks of an instance rise
 use mathlib.Core.Path.{_≡_, refl, sym, _∙_, ap}
 use mathlib.Core.Logic.{_⊎_, inl, inr}
 use mathlib.Core.Bool.{Bool, true, false, cond, not, _&&_, false≢true}
 use mathlib.Core.List.{List, [], _∷_, _++_, map, map-map, map-append, List·Memᴰ·head, List·Memᴰ·tail, List·Memᴰ·append-cases, Memᴰ·append-left, Memᴰ·append-right}
 use mathlib.Core.Option.{Option, none, some}
 use Prim.Native.Nat.{ℕ, zero, suc, _+_, _<_, compare, Ordering·lt}
-use native.Mathlib.Nat.{not-suc-le-zero, le-of-suc-le-suc}
 use native.Mathlib.Omega.{arith}
-use borrow.Author.Tests.{eq-eqb, eqb-true, ne-eqb}
+use borrow.Author.Tests.{eq-eqb, eqb-true}
 use lib.ListN.{length, getD}
 use Rattle.image.specs.Deal.{UnwindEnd, UnwindRoute}
 use Rattle.graph.specs.Graph.{Graph}
@@ -32,7 +33,7 @@ use Rattle.unwind.specs.Sources.{Exit, exit, compareExits, isFrom, exits
 use Rattle.addition.specs.Walk.{_∈_}
 use Rattle.addition.proofs.Lists.{none-in, and-both, and-true, at, at-rank, at-lt, mem-keep, keep-mem, mem-joined, joined-mem, mem-map, map-mem, mem-flat, flat-mem, flat-suc, flat-le, upto-mem, mem-among, among-mem}
 use Rattle.addition.proofs.Instance.{first-or-later, blocks-lt, place-first, place-later, copied-later, place-apart, clone-owner, later-above}
-use Rattle.unwind.proofs.TrieOrder.{number-lt, lt-number}
+use Rattle.unwind.proofs.TrieOrder.{number-lt}
 use Rattle.unwind.proofs.Rising.{Rising, rising-keep, rising-join, sorted-same, total-exits}
 
 pub map-flat : {A B : Type 0} (f : A → B) (g : ℕ → List A) (n : ℕ) → map f (flat g n) ≡ flat (λ i. map f (g i)) n
@@ -261,7 +262,7 @@ module _ (g : Graph) (rs : List UnwindRoute) where
         (λ x m. let k = keep-mem (isFrom copy) all-exits m in to-copy (exit-leaves (k .0)) (eqb-true (x .leap .source) copy (k .1)))
         (λ x m. let k = from-copy m in mem-keep (isFrom copy) (leaves-exit (k .0)) (eq-eqb (x .leap .source) copy (k .1)))
 
--- ---- the number of a copy
+-- ---- the blocks of an instance rise
 
 pub upto-rising : (n : ℕ) → Rising compare (upto n)
 unfolding upto Rising
@@ -271,19 +272,6 @@ upto-rising (suc n) = rising-join compare (upto n) (n ∷ []) (upto-rising n) (�
     less : (x y : ℕ) → x ∈ upto n → y ∈ n ∷ [] → compare x y ≡ Ordering·lt
     less x y i (List·Memᴰ·head e) = number-lt x y (let h = upto-mem n i in omega arith)
     less x y i (List·Memᴰ·tail j) = absurd (none-in j)
-
-getD-mem : (l : List ℕ) (k : ℕ) → k < length l → getD l k 0 ∈ l
-getD-mem [] k h = absurd (not-suc-le-zero h)
-getD-mem (y ∷ l) zero h = List·Memᴰ·head refl
-getD-mem (y ∷ l) (suc k) h = List·Memᴰ·tail (getD-mem l k (le-of-suc-le-suc h))
-
-pub rank-rising : (l : List ℕ) (k : ℕ) → Rising compare l → k < length l → rank (getD l k 0) l ≡ k
-unfolding rank Rising
-rank-rising [] k r h = absurd (not-suc-le-zero h)
-rank-rising (y ∷ l) zero r h = rw (eq-eqb y y refl)
-rank-rising (y ∷ l) (suc k) r h =
-    let less = lt-number y (getD l k 0) (r .0 (getD l k 0) (getD-mem l k (le-of-suc-le-suc h))) in
-    rw (ne-eqb (getD l k 0) y (λ e. omega arith)) (ap suc (rank-rising l k (r .1) (le-of-suc-le-suc h)))
 
 part-rising : (g : Graph) (fs : List ℕ) (f e n : ℕ) → Rising compare (rounds g fs f e n)
 unfolding rounds round Rising
@@ -297,6 +285,3 @@ blocks-rising g fs z i = go (nodeAt z i .funclet)
     go : (o : Option ℕ) → Rising compare (partOf g fs o)
     go none = tt
     go (some f) = part-rising g fs f _ (length (g .blocks))
-
-pub place-at : (g : Graph) (rs : List UnwindRoute) (z : List Node) (i k : ℕ) → later g (funclets rs) z i ≡ true → k < length (blocksOf g (funclets rs) z i) → place g (funclets rs) z i (getD (blocksOf g (funclets rs) z i) k 0) ≡ base g (funclets rs) z i + k
-place-at g rs z i k l h = place-later g rs z i (getD (blocksOf g (funclets rs) z i) k 0) l ∙ ap (λ (n : ℕ). base g (funclets rs) z i + n) (rank-rising (blocksOf g (funclets rs) z i) k (blocks-rising g (funclets rs) z i) h)

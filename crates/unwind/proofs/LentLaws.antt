@@ -1,6 +1,6 @@
 -- What is gathered by the numbers that are lent is what leaves the block.
 --     map-table                    f of f 0, f 1, ..
---     node-is                      a node in scratch
+--     count-is, node-is            how many nodes there are in scratch, and a node there
 --     child-below                  the node after an edge is an earlier one
 --     record-exits                 the exits of a node
 --     copy-records, block-records  those of a copy, and of a block that stood

@@ -20,7 +20,6 @@ pub mod TrieGroups
 pub mod TrieIntern
 pub mod TrieWork
 pub mod TrieRoutes
-pub mod TrieRead
 pub mod TrieStore
 pub mod NodeChecks
 pub mod Rising

@@ -3,7 +3,7 @@
 --     Walked, walked-start, walked-here, walked-below, walked-next     the members below k are gone over
 --     SetCounting, counting-start, counting-few, counting-next, counting-end     the hops of members, counted
 --     SetHolding, holding-start, holding-here, holding-fit, holding-next, holding-end     and stored
---     in-set, set-long             a set as it is read
+--     LowestIs, in-set, set-long   a set as it is read
 --     copy-rank, copy-rises, copy-more     the number of a copy by the members below
 --     copy-here, copy-quiet        the hops out of a copy, and of a block from which the node does not return
 --     sets-quiet, sets-below, sets-few, sets-number, sets-here, sets-more     the same by the sets of a node

@@ -16,7 +16,7 @@ use lib.Dec.{eqb}
 use lib.ListN.{length, getD, length-map}
 use Rattle.image.specs.Refusal.{Check, clear, _then_}
 use Rattle.image.specs.Image.{RouteImage}
-use Rattle.image.specs.Deal.{UnwindEnd, handler, propagate, resume, endOf}
+use Rattle.image.specs.Deal.{UnwindEnd, propagate, resume, endOf}
 use Rattle.image.specs.declared.record.Path.{Path}
 use Rattle.image.proofs.Checks.{then-left, checks-each}
 use Rattle.graph.specs.Graph.{Graph}

@@ -1,7 +1,7 @@
 -- The outcome of an addition by its checks, in their order.
 --     first-refused, nodes-refused the first refusal is a route's, or a node's
 --     size-outcome                 neither: the sizes decide
---     size-refused, all-added      and how they do
+--     size-refused                 and refuse
 -- Assumes nothing.
 use mathlib.Core.Path.{_≡_, ap, _∙_}
 use mathlib.Core.List.{List}
@@ -11,7 +11,7 @@ use Rattle.image.specs.Deal.{UnwindRoute}
 use Rattle.graph.specs.Graph.{Graph}
 use Rattle.graph.specs.Fold.{checks}
 use Rattle.addition.specs.Trie.{nodeAt, tries}
-use Rattle.addition.specs.Add.{routeCheck, nodeCheck, addition, sizeCheck, Outcome, added, outcome, addRoutesTo}
+use Rattle.addition.specs.Add.{routeCheck, nodeCheck, addition, sizeCheck, Outcome, outcome, addRoutesTo}
 
 module _ (g : Graph) (rs : List UnwindRoute) where
   pub first-refused : (r : Refusal) → checks (routeCheck g rs) (length rs) ≡ Check.refused r → addRoutesTo g rs ≡ Outcome.refused r
@@ -31,7 +31,3 @@ module _ (g : Graph) (rs : List UnwindRoute) where
       pub size-refused : (r : Refusal) → sizeCheck (addition g rs) ≡ Check.refused r → addRoutesTo g rs ≡ Outcome.refused r
       unfolding outcome
       size-refused r e = size-outcome ∙ ap (λ (c : Check). outcome c (addition g rs)) e
-
-      pub all-added : sizeCheck (addition g rs) ≡ clear → addRoutesTo g rs ≡ added (addition g rs)
-      unfolding outcome
-      all-added e = size-outcome ∙ ap (λ (c : Check). outcome c (addition g rs)) e

@@ -1,10 +1,10 @@
 -- The search for a part: what is reached in the bounded graph is the part.
---     edge-bent, bent-yes, bent-no             the edges of the bounded graph
+--     length-bent, blocks-bent, edge-bent, target-bent, bent-yes, bent-no     the edges of the bounded graph, and how many blocks it has
 --     ends-bent, linked-bent       what the search asks of it
 --     part-start                   where the search begins
 --     bent-on                      the links of a block, one edge further
 --     part-has                     what is reached is the part
---     Leaves, leaves-none, leaves-put, leaves-skip, sources-are     the blocks that an ordinary edge goes out of
+--     leavesBy, Leaves, leaves-none, leaves-put, leaves-skip, sources-are     the blocks that an ordinary edge goes out of
 --     ReturnersTo, returners-none, returners-put, returners-skip, returners-are     the blocks that return
 --     common-returns               those of a set
 -- Assumes nothing.
@@ -12,16 +12,13 @@ use mathlib.Core.Path.{_≡_, refl, sym, ap, _∙_}
 use mathlib.Core.Bool.{Bool, true, false, cond, not, _&&_, _||_, and-false, or-false, or-comm}
 use mathlib.Core.Logic.{_⊎_, inl, inr, ⊎-elim}
 use mathlib.Core.List.{List, [], _∷_, map}
-use Prim.Native.Nat.{ℕ, zero, suc, _+_, _/_, _%_, _^_, _≤_, _<_, min}
-use native.Mathlib.Nat.{not-suc-le-zero}
+use Prim.Native.Nat.{ℕ, zero, suc, _+_, _<_}
 use native.Mathlib.Numerals.{add-one}
 use native.Mathlib.Decide.{decLt, ℕ-discrete}
 use native.Mathlib.Omega.{arith}
-use borrow.Author.Count.{below-more}
 use borrow.Author.Tests.{eq-eqb, ne-eqb, lt-ltb, le-ltb}
 use lib.Dec.{eqb, ltb}
-use lib.ListN.{length, getD, set, drop, length-set, length-map, List·getD-map}
-use lib.Seq.{getD-set-same, getD-set-other}
+use lib.ListN.{length, getD, drop, length-map, List·getD-map}
 use Rattle.image.specs.Deal.{UnwindRoute}
 use Rattle.graph.specs.declared.record.Edge.{Edge}
 use Rattle.graph.specs.Graph.{Graph, edge}
@@ -32,7 +29,7 @@ use Rattle.graph.specs.Reached.{Reached, start, step}
 use Rattle.graph.specs.Search.{Finds, Ends, linkIn, link, Linked, Works, seeing}
 use Rattle.graph.specs.WellFormed.{isBlock, edgeEndsExist, isBuilt}
 use Rattle.graph.proofs.FoldLaws.{decided, some-front}
-use Rattle.graph.proofs.BlockLaws.{member-past, member-none, member-including, length-including}
+use Rattle.graph.proofs.BlockLaws.{member-none, member-including, length-including}
 use Rattle.graph.proofs.SearchLaws as search-laws
 use Rattle.addition.specs.Lists.{keep, isEmpty}
 use Rattle.addition.specs.Blocks.{firstOf}

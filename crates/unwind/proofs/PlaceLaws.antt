@@ -1,6 +1,6 @@
 -- Instances in scratch, node by node.
 --     entry-root, entry-named      the entry of a node by the step that names its funclet
---     entry-lt, entry-built        it is a built block
+--     entry-lt, entry-most, entry-built     it is a built block
 --     part-none, part-some, part-is     the part of a root, and of a funclet
 --     part-rises, rank-most        a part rises, and a rank is small
 --     sizes-none, sizes-then, sizes-kept, slots-same, slots-less     room

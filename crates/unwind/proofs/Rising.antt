@@ -7,7 +7,7 @@
 --     put-length, length-put       putting adds one at most
 --     sorted-length                sorting drops repeats
 --     rising-length                a list that rises is no longer than one that has its members
---     rising-join, rising-front, rising-back, rising-less     two lists, one behind the other
+--     rising-join, rising-front, rising-less     two lists, one behind the other
 --     rising-keep                  some of a list that rises
 --     total-then                   one comparison behind another, of parts that tell all
 --     total-hop-ends, total-leaps, total-exits
@@ -77,11 +77,6 @@ module _ {A : Type 0} (c : A → A → Ordering) where
   unfolding Rising
   rising-front [] m a = tt
   rising-front (x ∷ l) m a = (λ y k. a .0 y (Memᴰ·append-left m k), rising-front l m (a .1))
-
-  pub rising-back : (l m : List A) → Rising (l ++ m) → Rising m
-  unfolding Rising
-  rising-back [] m a = a
-  rising-back (x ∷ l) m a = rising-back l m (a .1)
 
   pub rising-less : {x y : A} {l : List A} (m : List A) → Rising (l ++ m) → x ∈ l → y ∈ m → c x y ≡ Ordering·lt
   unfolding Rising

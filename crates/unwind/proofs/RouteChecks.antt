@@ -4,13 +4,14 @@
 --     begins-yes, begins-no        by the built block at hand
 --     before-next                  the next instruction and the next block
 --     lead-all                     all instructions of the range lead theirs
+--     pathsAt                      the paths of a route
 --     route-checks                 10 to 12, 15 and 17 of a route of an image
 --     table-some, table-stepped    where a route passes there is an instruction, and so where a route has a step
 -- Assumes nothing.
 use mathlib.Core.Path.{_≡_, refl, sym, ap, _∙_}
-use mathlib.Core.Bool.{Bool, true, false, cond, not, _&&_, _||_, and-false}
+use mathlib.Core.Bool.{Bool, true, false, cond, not, _||_, and-false}
 use mathlib.Core.List.{List, [], map}
-use Prim.Native.Nat.{ℕ, suc, _+_, _≤_, _<_}
+use Prim.Native.Nat.{ℕ, _+_, _≤_, _<_}
 use native.Mathlib.Decide.{decLt, ℕ-discrete}
 use native.Mathlib.Omega.{arith}
 use borrow.Author.Tests.{lt-ltb, le-ltb, lt-leb, le-leb}
@@ -30,7 +31,7 @@ use Rattle.graph.specs.WellFormed.{Built}
 use Rattle.graph.proofs.CheckLaws.{checks-clear}
 use Rattle.graph.proofs.TableLaws.{start-at, start-has, below-at}
 use Rattle.graph.proofs.RouteLaws.{route-is, length-routes}
-use Rattle.addition.specs.Blocks.{Leading, leads, inside, leading, within}
+use Rattle.addition.specs.Blocks.{leads, inside, leading, within}
 use Rattle.unwind.specs.Stands.{Stands, Before, routeOf}
 use Rattle.addition.specs.Add.{leadFound, leadCheck, rangeLeads, routeCheck}
 use Rattle.unwind.proofs.Standing.{table-rises, block-rises, none-begins, leads-here, leads-none}

@@ -1,7 +1,8 @@
 -- Rows of hops, one entry after the other.
 --     follows                      where the lists of the last hop end
---     last-leaps                   the last hop, by its place
+--     last-leaps, none-leaps, some-leaps     the last hop, by its place
 --     last-few                     it has no more lists than there are
+--     then-wide, then-new, on-more     one entry more
 --     then-order, on-order         the lists stay in order
 --     then-hops, on-hops           THE ROWS ARE THE HOPS of the entries
 --     then-lists, on-lists         one list more for each entry
@@ -11,7 +12,7 @@
 use mathlib.Core.Path.{_≡_, refl, sym, ap, _∙_}
 use mathlib.Core.Bool.{Bool, true, false, cond, not, _&&_, false≢true}
 use mathlib.Core.List.{List, [], _∷_, _++_, map, map-append}
-use Prim.Native.Nat.{ℕ, zero, suc, _+_, _-_, _≤_, _<_, compare, Ordering, Ordering·lt, Ordering·eq, Ordering·gt}
+use Prim.Native.Nat.{ℕ, zero, suc, _+_, _≤_, _<_, compare, Ordering, Ordering·lt, Ordering·eq, Ordering·gt}
 use native.Mathlib.Decide.{ℕ-discrete}
 use native.Mathlib.Numerals.{add-one}
 use native.Mathlib.Omega.{arith}

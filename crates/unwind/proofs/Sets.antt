@@ -8,8 +8,8 @@
 -- Assumes nothing.
 use mathlib.Core.Path.{_≡_, refl, sym, ap, _∙_}
 use mathlib.Core.Bool.{Bool, true, false, cond, _&&_, _||_, false≢true, and-false, or-false}
-use mathlib.Core.Logic.{_⊎_, inl, inr, ⊎-elim}
-use mathlib.Core.List.{List, [], _∷_, _++_, append-nil}
+use mathlib.Core.Logic.{⊎-elim}
+use mathlib.Core.List.{List, [], _∷_, _++_}
 use Prim.Native.Nat.{ℕ, zero, suc, _+_, _-_, _≤_, _<_}
 use native.Mathlib.Nat.{not-suc-le-zero}
 use native.Mathlib.Decide.{decLt, ℕ-discrete}
@@ -24,7 +24,7 @@ use Rattle.graph.specs.BlockSet.{member, sizeOf}
 use Rattle.graph.specs.WellFormed.{isBuilt}
 use Rattle.graph.proofs.FoldLaws.{decided, among-append, count-yes, count-no, count-same, count-none, count-add}
 use Rattle.addition.specs.Lists.{keep, upto, rank}
-use Rattle.addition.specs.Blocks.{builtBlocks, firstOf, within, keepsEdge, guarded}
+use Rattle.addition.specs.Blocks.{builtBlocks, guarded}
 use Rattle.addition.specs.Part.{onward, round, rounds, part, returning}
 use Rattle.unwind.specs.Stands.{Has}
 use Rattle.unwind.specs.PartSearch.{Returns}

@@ -1,6 +1,6 @@
 -- 18, 19 and 20 of an addition, by what was placed and counted.
 --     routes-same                  the route edges hang on the table and the blocks alone
---     blocks-stop, blocks-refused  too many blocks
+--     blocks-stop                  too many blocks
 --     placed-in, placed-few, bounded-in     where 18 lets pass: the instances, and how many blocks there are
 --     edges-refused, hops-refused  too many edges, and too many hops or lists
 --     sizes-clear                  neither
@@ -41,10 +41,6 @@ use Rattle.unwind.proofs.EdgeNumber.{edges-number}
 -- ---- route edges
 
 module _ (g : Graph) (bs : List Block) (es : List Edge) where
-  edge-same : (r s t : ℕ) → routeEdge (extended g bs es) r s t ≡ routeEdge (extended g bs []) r s t
-  unfolding routeEdge firstOf lastOf extended
-  edge-same r s t = refl
-
   to-same : (seen : List Leap) (w : Way) (e : HopEnd) → edgeTo (extended g bs es) seen w e ≡ edgeTo (extended g bs []) seen w e
   unfolding edgeTo routeEdge firstOf lastOf extended
   to-same seen w (toBlock t) = refl
@@ -140,9 +136,6 @@ module _ (g : Graph) (m : RouteImage) (nodes edges ends roots bases heads parts 
   blocks-stop k r e p =
       stops _ _ _ r (ap (λ (n : ℕ). unless (leb n 1024) (refusal 18 0 0)) (blocks-long g (routesOf m)) ∙ sym (few-check k p) ∙ e)
       ∙ sym e
-
-  pub blocks-refused : PlacedAll g m nodes (c .nodes) bases heads parts returns (Check.refused (refusal 18 0 0)) → sizeCheck (addition g (routesOf m)) ≡ Check.refused (refusal 18 0 0)
-  blocks-refused p = blocks-stop (Check.refused (refusal 18 0 0)) (refusal 18 0 0) refl p
 
   module _ (p : PlacedAll g m nodes (c .nodes) bases heads parts returns clear) where
     pub placed-in : Placed g (funclets (routesOf m)) all bases heads parts returns (c .nodes)

@@ -1,6 +1,6 @@
 -- Sizes of hops.
 --     keep-all                     all are chosen
---     lastEnd, size-none, size-next    entries counted one after the other
+--     lastEnd, last-next, size-none, size-next    entries counted one after the other
 --     sizes-both, sizes-more       of two lists of hops, and of many
 --     Summed, summed-none, summed-more     and how much they come to at most
 --     then-same, then-leave, then-block, then-most    one entry more

@@ -1,11 +1,12 @@
 -- Hops of sorted exits, one source after the other.
 --     hops-more, hops-then         hopsOn over two lists, and over one exit more
 --     hops-sorted                  the hops of ways are those of their exits, sorted
+--     exits-in, in-exits           the exits of a source
 --     exits-flat                   sorted exits, source by source
 --     joined-map                   lists of mapped members
 --     on-apart, on-source          hops that leap from elsewhere, and where hops come from
 --     hops-flat                    hops, source by source
---     lists-then, lists-number     one exit more adds a list
+--     lists-then                   one exit more adds a list
 --     Last, last-of, then-last     the last hop is the last exit's
 --     number-one, number-then      one exit more adds a hop if it leaps elsewhere than the last
 use mathlib.Core.Path.{_≡_, refl, sym, _∙_, ap}
@@ -351,11 +352,6 @@ lists-then (h ∷ []) x = go (isEq (compareLeaps (leapOf h) (x .leap)))
     go true = simp (append-nil, length-append) (omega arith)
     go false = simp (append-nil, length-append) (omega arith)
 lists-then (h ∷ k ∷ hs) x = longer (h .calls) (listed (hopsThen (k ∷ hs) x)) (listed (k ∷ hs)) (lists-then (k ∷ hs) x)
-
-pub lists-number : (hs : List Hop) (l : List Exit) → length (listed (hopsOn hs l)) ≡ length (listed hs) + length l
-unfolding hopsOn
-lists-number hs [] = omega arith
-lists-number hs (x ∷ l) = let e = lists-then hs x in let k = lists-number (hopsThen hs x) l in omega arith
 
 -- the last hop is the last exit's
 pub record Last (hs : List Hop) (y : Exit) : Type 0 where

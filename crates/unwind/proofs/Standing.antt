@@ -13,7 +13,7 @@
 --     leads-first                  a built block whose first instruction starts at an address is the one
 -- Assumes nothing.
 use mathlib.Core.Path.{_≡_, refl, sym, ap, _∙_}
-use mathlib.Core.Bool.{Bool, true, false, cond, _&&_, _||_, false≢true, true≢false}
+use mathlib.Core.Bool.{Bool, true, false, cond, _&&_, _||_, false≢true}
 use mathlib.Core.Logic.{_⊎_, inl, inr, ⊎-elim}
 use mathlib.Core.List.{List, [], _∷_, List·Memᴰ·head, List·Memᴰ·tail}
 use mathlib.Core.Option.{Option, none, some}
@@ -39,11 +39,11 @@ use Rattle.graph.proofs.SectionLaws.{size-most}
 use Rattle.graph.proofs.RecordLaws.{entry-count}
 use Rattle.graph.proofs.RangeLaws.{rising}
 use Rattle.graph.proofs.RuleLaws as rule
-use Rattle.addition.specs.Lists.{keep, upto, head}
-use Rattle.addition.specs.Blocks.{Leading, leads, inside, absent, builtBlocks, firstOf, leadingBy, leading}
+use Rattle.addition.specs.Lists.{keep, head}
+use Rattle.addition.specs.Blocks.{leads, inside, absent, builtBlocks, firstOf, leadingBy, leading}
 use Rattle.unwind.specs.Stands.{Stands, Before}
 use Rattle.addition.specs.Walk.{_∈_, Built as BuiltBlock, Begins}
-use Rattle.addition.proofs.Lists.{and-both, or-either, none-in, keep-mem}
+use Rattle.addition.proofs.Lists.{and-both, or-either, none-in}
 use Rattle.addition.proofs.Sound.{all-at}
 use Rattle.addition.proofs.Accepted.{built-mem, mem-built}
 

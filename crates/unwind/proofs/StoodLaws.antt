@@ -5,13 +5,13 @@
 --     no-blocks, node-blocks, node-skips     the blocks of a node more
 --     EdgesGoing, edges-start, edges-next, edges-end, chain-less     the edges out of a block
 --     SetGoing, set-start, set-next, set-end     the edges out of the blocks of a set
---     no-copies, edges-node, edges-skip     those of a node more
+--     copiesFrom, no-copies, edges-node, edges-skip     those of a node more
 --     map-same                     f and g agree on a list
 -- Assumes nothing.
 use mathlib.Core.Path.{_≡_, refl, sym, ap, ap₂, _∙_, subst}
 use mathlib.Core.Bool.{Bool, true, false, cond, not}
 use mathlib.Core.List.{List, [], _∷_, _++_, map, append-nil, append-assoc, map-append, List·Memᴰ·head, List·Memᴰ·tail}
-use Prim.Native.Nat.{ℕ, suc, _+_, _-_, _≤_, _<_}
+use Prim.Native.Nat.{ℕ, suc, _+_, _≤_, _<_}
 use native.Mathlib.Nat.{le-trans}
 use native.Mathlib.Omega.{arith}
 use lib.Dec.{eqb, ltb}

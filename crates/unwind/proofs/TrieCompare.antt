@@ -1,7 +1,7 @@
 -- Comparisons of what stands in a route image.
 --     tags-next, tags-end          the tags of a run from place i on: the first apart, and none
---     calls-start, calls-less, calls-greater, calls-next, calls-longer, calls-shorter, calls-equal     two runs compared from
---                                                            place i on
+--     comparedFrom, calls-start, calls-less, calls-greater, calls-next, calls-longer, calls-shorter, calls-equal     two runs
+--                                                            compared from place i on
 --     ends-handlers, ends-first, ends-others                 ends compared by their numbers
 --     tagged-less, tagged-greater, tagged-equal              the tags decide, or what comes after them
 --     branches-less, branches-greater                        the same of branches

@@ -1,6 +1,6 @@
 -- Interning hangs on no bound on the steps left, if that is large enough.
 --     longest-short, longest-least     no path is longer than the longest, which is no longer than a bound on all
---     rest-shorter, groups-none        what is left of a group is shorter, and paths with no step have none
+--     rest-shorter, rest-falls, groups-none     what is left of a group is shorter, and paths with no step have none
 --     interned-is                      the node of a group is made of the nodes of its own groups
 -- Assumes nothing.
 use mathlib.Core.Path.{_≡_, refl, ap}

@@ -1,8 +1,8 @@
 -- What is left of a group's paths behind the calls and the funclet of a key, and how much the rest may still store.
 --     strip-append, strip-key          steps that begin with others, one behind the other; with those of a key
 --     flat-part                        lists one behind the other of which the first and the last ones are empty
---     rest-paths                       the group behind a key has the paths that are left
---     stepsAhead, pathsAhead           how many steps and paths there are whose key comes after `last`
+--     rest-left, rest-paths            the group behind a key has the paths that are left
+--     sumOf, ahead, stepsAhead, pathsAhead     how many steps and paths there are whose key comes after `last`
 --     steps-start, paths-start, steps-step, paths-step     none is passed, and one key more
 --     rest-some                        something is left of a key's paths
 -- Assumes nothing.

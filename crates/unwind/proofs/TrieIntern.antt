@@ -1,5 +1,5 @@
 -- Interning in scratch, step by step.
---     funclet-none, funclet-some, funclet-small     the funclet that a group's paths have entered last
+--     funclet-none, funclet-some, funclet-behind, funclet-small     the funclet that a group's paths have entered last
 --     stored-still, behind-laid, lower-laid, close-law     the node whose edges and ends are laid
 -- Assumes nothing.
 use mathlib.Core.Path.{_≡_, refl, sym, ap₂, subst, _∙_}

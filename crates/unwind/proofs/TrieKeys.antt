@@ -2,8 +2,8 @@
 --     less-number                              a comparison of numbers as a test
 --     nearest-append, nearest-none             the next among two lists, and among none
 --     nearer-taken, nearer-late, nearer-early  one is nearer, or is not
---     joined-append, joined-flat, keys-flat    the keys of a group's paths, path by path
---     left-is                                  what is left of a path, as a list of one or none
+--     joined-one, joined-append, joined-flat, keys-flat     the keys of a group's paths, path by path
+--     left-is, left-none, left-some            what is left of a path, as a list of one or none
 --     key-outside, key-over, key-enters        the key of a path: it is none of the group's, ends, or enters a funclet
 --     key-small                                a key stands among the 512 steps
 -- Assumes nothing.

@@ -2,8 +2,8 @@
 --     ends-flat                        the ends of a group's paths, path by path
 --     end-outside, end-enters, end-over     the end of a path: it is none of the group's, goes on, or is over
 --     end-none, end-put                no end is put, or one
---     ends-start, ends-more, ends-all  the ends of the paths before k
---     edges-start, edges-more          the edges of a stack before k
+--     endsBelow, EndsBelow, ends-start, ends-more, ends-all     the ends of the paths before k
+--     EdgesBelow, edges-start, edges-more     the edges of a stack before k
 -- Assumes nothing.
 use mathlib.Core.Path.{_≡_, refl, sym, ap, _∙_}
 use mathlib.Core.List.{List, [], _∷_, map, append-nil, map-append}

@@ -1,5 +1,9 @@
 -- Comparisons that order all things: lists sorted by putting, in any order, and by taking the least over and over.
 --     turned, Total                the other way round; a comparison that orders all things
+--     not-gt-eq, not-gt-lt, is-eq, is-lt     what a comparison says
+--     number-lt, number-gt, number-eq, lt-number     of numbers
+--     turn-then, then-lt, lt-then, eq-then, then-trans     one comparison behind another
+--     self-eq, eq-same             it finds equal what is the same, and nothing else
 --     total-number, total-tags, total-ends, total-tagged, total-key, total-end
 --     put-comm, put-again          two are put in either order, and one a second time
 --     sorted-behind                one more behind the list

@@ -1,11 +1,11 @@
 -- Runs of the steps of a route image: what a path is, what is left of it, and where it is cut.
 --     tags-more, tags-append, length-tags            one tag more; two runs
---     steps-next, steps-end, steps-start, steps-append, length-steps     the same of steps
+--     steps-more, steps-next, steps-end, steps-append, length-steps     the same of steps
 --     path-steps                                     the steps of a path
---     same-next, same-start                          two runs compared from place i on
---     codes-differ, values-differ, steps-agree       two steps by their numbers
+--     same-next, same-end, same-start                two runs compared from place i on
+--     same-step, codes-differ, values-differ, steps-agree     two steps by their numbers
 --     strip-short, strip-same, strip-other           what is left of a run that another begins; same-run
---     cut-start, cut-on, cut-enters, cut-over        a run cut from place i on
+--     Called, cut-start, cut-on, key-steps, cut-enters, cut-over     a run cut from place i on
 -- Assumes nothing.
 use mathlib.Core.Path.{_≡_, refl, sym, ap, ap₂, _∙_}
 use mathlib.Core.Bool.{Bool, true, false, cond, _&&_, false≢true}

@@ -1,7 +1,7 @@
 -- The routes, one after the other.
 --     steps-below, paths-all, rooted-lt     where the children of a route and a path start; roots stand among the nodes
---     rootGroup, root-paths, root-weight, root-funclet     the group of a route's paths
---     Routed, route-start, route-room, route-next, route-done     the routes before r are interned
+--     rootGroup, root-paths, root-count, root-weight, root-funclet     the group of a route's paths
+--     Routed, route-start, route-grouped, route-room, place-small, route-next, route-done     the routes before r are interned
 -- Assumes nothing.
 use mathlib.Core.Path.{_≡_, refl, sym, ap, ap₂, subst, _∙_}
 use mathlib.Core.List.{List, [], _∷_, _++_, append-nil}

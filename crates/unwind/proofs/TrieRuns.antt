@@ -1,8 +1,8 @@
 -- Sorted runs of branches.
 --     length-branches, branches-more, branch-of, branches-front, branches-same     the branches of a run
 --     meant-of, map-inserted           what the branches stand for, with one more among them
---     spot-start, spot-on, spot-less, spot-equal, spot-end         where one goes, from place j on
---     insert-start, insert-on, insert-end                          one more among them, each behind it moved up after the other
+--     Beyond, spot-start, spot-on, spot-less, spot-equal, spot-end         where one goes, from place j on
+--     Moved, insert-start, insert-on, insert-end                   one more among them, each behind it moved up after the other
 --     run-present, run-inserted, run-first     a branch is put: it stands there, or goes to its place, or is the first
 -- Assumes nothing.
 use mathlib.Core.Path.{_≡_, refl, sym, ap, _∙_}

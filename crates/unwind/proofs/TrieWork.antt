@@ -2,7 +2,7 @@
 --     left                         the keys that come after `last`, in order
 --     Working, work-start          the groups up to `last` are interned
 --     next-left, next-falls        the next of them, and that its paths have fewer steps left
---     child-grouped, child-room, push-room, branch-small, left-falls, work-next     it is interned too
+--     child-grouped, child-room, push-room, branch-small, left-falls, edge, work-next     it is interned too
 --     close-room, work-done        there is none: the node is closed
 -- Assumes nothing.
 use mathlib.Core.Path.{_≡_, refl, sym, ap, ap₂, subst, _∙_}

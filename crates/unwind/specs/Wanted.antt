@@ -1,5 +1,4 @@
 -- The ways of an addition in the order in which routes want them, by the numbers that are lent.
-use mathlib.Core.Path.{_≡_}
 use mathlib.Core.Bool.{cond}
 use mathlib.Core.List.{List, _++_, map}
 use Prim.Native.Nat.{ℕ, _+_, _≤_}

@@ -24,14 +24,14 @@ ghost use lib.ListN.{length};
 ghost use Rattle.image.specs.Image.{routesIn};
 ghost use Rattle.image.specs.Deal.{routesOf};
 ghost use Rattle.image.specs.Accepted.{AcceptedRoutes};
-ghost use Rattle.graph.specs.Graph.{Graph, edge};
+ghost use Rattle.graph.specs.Graph.{edge};
 ghost use Rattle.graph.specs.Words.{heldIn};
 ghost use Rattle.graph.specs.Search.{Linked, Roomy, Follows};
 ghost use Rattle.graph.specs.WellFormed.{isBuilt, Built};
 ghost use Rattle.addition.specs.Blocks.{leading};
 ghost use Rattle.addition.specs.Part.{returning as isReturning};
 ghost use Rattle.unwind.specs.Stands.{Stands};
-ghost use Rattle.unwind.specs.PartSearch.{Barriers, Sources, Returners, Exist, Returns, PartFrom, entering, bounded, Takes};
+ghost use Rattle.unwind.specs.PartSearch.{Barriers, Sources, Returners, PartFrom, entering, bounded, Takes};
 
 // 'without an ExceptionUnwind or Call edge'
 const CALL: u64 = 5;

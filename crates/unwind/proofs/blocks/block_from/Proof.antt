@@ -1,10 +1,9 @@
 -- `block_from` meets its contract. The loop's invariant: the built blocks before lo begin before p, and those from hi on do not.
 -- Assumes nothing.
 use mathlib.Core.Path.{_≡_, ap}
-use Prim.Native.Nat.{ℕ, _+_, _-_, _/_, _≤_, _<_}
+use Prim.Native.Nat.{ℕ, _+_, _-_, _/_}
 use native.Mathlib.Omega.{arith}
 use borrow.Author.Needs.{needs}
-use lib.ListN.{length}
 use Rattle.graph.specs.declared.record.Block.{Block}
 use Rattle.graph.specs.Words.{heldIn}
 use Rattle.graph.specs.Graph.{block}

@@ -1,8 +1,7 @@
 -- `find_start` meets its contract: an address can only stand where the starts below it end. Assumes nothing.
-use mathlib.Core.Path.{_≡_, sym, ap, _∙_}
+use mathlib.Core.Path.{sym, ap, _∙_}
 use native.Mathlib.Omega.{arith}
 use borrow.Author.Needs.{needs}
-use lib.ListN.{length}
 use Rattle.graph.specs.declared.record.TableEntry.{TableEntry}
 use Rattle.graph.specs.Words.{heldIn}
 use Rattle.graph.specs.Table.{entryAt}

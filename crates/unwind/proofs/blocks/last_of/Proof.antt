@@ -1,11 +1,9 @@
 -- `last_of` meets its contract: a run lies in the table. Assumes nothing.
-use mathlib.Core.Path.{_≡_, ap, _∙_}
-use Prim.Native.Nat.{ℕ, _+_, _-_}
+use mathlib.Core.Path.{ap, _∙_}
+use Prim.Native.Nat.{_+_, _-_}
 use native.Mathlib.Omega.{arith}
 use borrow.Author.Needs.{needs}
-use lib.ListN.{length}
 use Rattle.graph.specs.declared.record.Block.{Block}
-use Rattle.graph.specs.Graph.{block}
 use Rattle.graph.specs.Words.{heldIn}
 use Rattle.graph.specs.Table.{entryAt}
 use Rattle.addition.specs.Blocks.{lastOf}

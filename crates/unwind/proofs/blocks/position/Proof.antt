@@ -1,7 +1,7 @@
 -- `position` meets its contract. The loop's invariant: the starts before lo are below a, and those from hi on are not. Assumes
 -- nothing.
 use mathlib.Core.Path.{_≡_, sym, ap}
-use Prim.Native.Nat.{ℕ, _+_, _-_, _/_, _≤_, _<_}
+use Prim.Native.Nat.{ℕ, _+_, _-_, _/_}
 use native.Mathlib.Omega.{arith}
 use borrow.Author.Needs.{needs}
 use lib.ListN.{length}

@@ -1,6 +1,6 @@
 -- `search` meets its contract: of the built blocks only the first that does not begin before the address can begin there.
 -- Assumes nothing.
-use mathlib.Core.Path.{_≡_, sym, ap, _∙_}
+use mathlib.Core.Path.{sym, ap, _∙_}
 use native.Mathlib.Omega.{arith}
 use borrow.Author.Needs.{needs}
 use Rattle.graph.specs.declared.record.Block.{Block}

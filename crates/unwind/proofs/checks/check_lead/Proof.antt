@@ -1,5 +1,5 @@
 -- `check_lead` meets its contract, answer by answer. Assumes nothing.
-use mathlib.Core.Path.{_≡_, refl, sym, ap, _∙_}
+use mathlib.Core.Path.{sym, ap, _∙_}
 use borrow.Author.Needs.{needs}
 use Rattle.unwind.specs.Stands.{leadingOf}
 use Rattle.addition.specs.Add.{leadFound, leadCheck}

@@ -1,23 +1,20 @@
 -- `check_leads` meets its contract. The loop's invariant: the instructions before p lead their blocks where the range has them, and
 -- b is the first built block that does not begin before p. Assumes nothing.
-use mathlib.Core.Path.{_≡_, refl, sym, ap, _∙_}
-use mathlib.Core.Bool.{Bool, _&&_}
-use mathlib.Core.Logic.{_⊎_, inl, inr}
+use mathlib.Core.Path.{_≡_, sym, ap, _∙_}
 use mathlib.Core.List.{List}
-use Prim.Native.Nat.{ℕ, _+_, _-_, _≤_, _<_}
+use Prim.Native.Nat.{_-_, _≤_, _<_}
 use native.Mathlib.Omega.{arith}
 use borrow.Author.Needs.{needs}
 use borrow.Author.Tests.{not-true, not-false, ltb-true, eqb-true, lt-ltb, eq-eqb}
 use mathlib.Core.Bool.{true≢false}
 use lib.Dec.{eqb, ltb}
 use lib.ListN.{length}
-use Rattle.image.specs.Refusal.{clear, refused, refusal, checks}
+use Rattle.image.specs.Refusal.{clear, checks}
 use Rattle.image.specs.Deal.{UnwindPath}
 use Rattle.image.proofs.Checks.{checks-more, checks-stop}
 use Rattle.graph.specs.declared.record.TableEntry.{TableEntry}
 use Rattle.graph.specs.Graph.{block}
 use Rattle.graph.specs.Words.{heldIn}
-use Rattle.graph.specs.Table.{below}
 use Rattle.graph.proofs.CheckLaws.{checks-clear}
 use Rattle.graph.proofs.RecordLaws.{block-most}
 use Rattle.graph.proofs.TableLaws.{below-most}

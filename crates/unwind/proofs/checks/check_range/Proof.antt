@@ -1,6 +1,6 @@
 -- `check_range` meets its contract: test by test, in the order of the definition. Assumes nothing.
 use mathlib.Core.Bool.{or-true}
-use mathlib.Core.Path.{_≡_, sym, _∙_}
+use mathlib.Core.Path.{sym, _∙_}
 use borrow.Author.Needs.{needs}
 use borrow.Author.Tests.{le-ltb, lt-ltb, eq-eqb, ne-eqb}
 use Rattle.graph.specs.Table.{rangeCheck}

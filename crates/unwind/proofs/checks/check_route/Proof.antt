@@ -1,5 +1,5 @@
 -- `check_route` meets its contract: check by check, in the order of the definition. Assumes nothing.
-use mathlib.Core.Path.{_≡_, sym, ap, _∙_}
+use mathlib.Core.Path.{sym, ap, _∙_}
 use borrow.Author.Needs.{needs}
 use Rattle.image.specs.Image.{routesIn}
 use Rattle.graph.specs.Words.{heldIn}

@@ -1,6 +1,6 @@
 -- `edges_out` meets its contract. The loop's invariant: what is counted and the edges out of the blocks left are all. Assumes nothing.
 use mathlib.Core.Path.{_≡_, ap, _∙_}
-use Prim.Native.Nat.{_+_, _-_}
+use Prim.Native.Nat.{_+_}
 use native.Mathlib.Omega.{arith}
 use borrow.Author.Needs.{needs}
 use lib.ListN.{length}

@@ -1,11 +1,10 @@
 -- `follow` meets its contract. The loop's invariant: in the bounded graph the links of b are followed up to `at`. Assumes nothing.
-use mathlib.Core.Path.{_≡_, sym, ap, _∙_}
+use mathlib.Core.Path.{_≡_}
 use Prim.Native.Nat.{ℕ, _-_, _<_}
 use native.Mathlib.Omega.{arith}
 use borrow.Author.Needs.{needs}
 use lib.ListN.{length}
 use Rattle.graph.specs.Words.{heldIn}
-use Rattle.graph.specs.Search.{Linked}
 use Rattle.graph.proofs.RecordLaws.{block-most, edge-most}
 use Rattle.graph.proofs.SearchLaws.{Going, going-start, going-lt, going-less, going-end, togo}
 use Rattle.unwind.specs.PartSearch.{bounded}

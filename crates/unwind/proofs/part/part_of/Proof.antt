@@ -1,12 +1,11 @@
 -- `part_of` meets its contract: in the bounded graph the worklist finds what is reached. The loop's invariant is `Works`; what is
 -- left to do falls at each turn. Assumes nothing.
-use mathlib.Core.Path.{_≡_, refl, sym, ap, _∙_}
-use Prim.Native.Nat.{ℕ, _<_}
+use Prim.Native.Nat.{_<_}
 use native.Mathlib.Omega.{arith}
 use borrow.Author.Needs.{needs}
 use lib.ListN.{length}
 use Rattle.graph.specs.Words.{heldIn}
-use Rattle.graph.specs.Search.{Works, Follows, left}
+use Rattle.graph.specs.Search.{Works, left}
 use Rattle.graph.proofs.RecordLaws.{block-most}
 use Rattle.graph.proofs.SearchLaws.{reached-lt, turn-works, turn-less, finds}
 use Rattle.unwind.specs.PartSearch.{bounded}

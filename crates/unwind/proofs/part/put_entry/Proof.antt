@@ -1,5 +1,5 @@
 -- `put_entry` meets its contract, answer by answer. Assumes nothing.
-use mathlib.Core.Path.{refl, sym, ap, _∙_}
+use mathlib.Core.Path.{sym, ap, _∙_}
 use borrow.Author.Needs.{needs}
 use Rattle.unwind.specs.Stands.{leadingOf}
 use Rattle.unwind.proofs.part.put_entry.Statement.{statement}

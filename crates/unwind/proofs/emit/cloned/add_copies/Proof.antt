@@ -6,13 +6,12 @@ use native.Mathlib.Omega.{arith}
 use borrow.Author.Needs.{needs}
 use lib.ListN.{length}
 use Rattle.image.specs.Image.{routesIn}
-use Rattle.graph.specs.Fold.{flat}
 use Rattle.graph.specs.BlockSet.{sizeOf}
 use Rattle.graph.proofs.BlockLaws.{size-excluding}
 use Rattle.addition.specs.Ways.{Hop}
 use Rattle.unwind.specs.Placed.{setAt}
 use Rattle.unwind.specs.Copies.{copyNumber, hopsFrom, copyHops}
-use Rattle.unwind.specs.HopWords.{hopsIn, HopsHeld, HopsFit, HopsBelow}
+use Rattle.unwind.specs.HopWords.{hopsIn, HopsFit, HopsBelow}
 use Rattle.unwind.proofs.CopyLaws.{copy-first}
 use Rattle.unwind.proofs.HeldLaws.{held-below, held-then}
 use Rattle.unwind.proofs.MemberLaws.{SetHolding, holding-start, holding-here, holding-fit, holding-next, holding-end, walked-here, copy-rises, set-long, sets-quiet, sets-below, sets-few, sets-number, sets-here, sets-more}

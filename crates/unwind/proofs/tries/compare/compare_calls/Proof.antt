@@ -11,10 +11,6 @@ use Rattle.unwind.proofs.TrieCompare.{comparedFrom, calls-start, calls-
 use borrow.Author.Needs.{needs}
 use Rattle.unwind.proofs.tries.compare.compare_calls.Statement.{statement}
 use Rattle.unwind.proofs.tries.compare.compare_calls.Tie as tie
-use Rattle.unwind.proofs.tries.compare.compare_calls.Reads as reads
-use Rattle.unwind.proofs.tries.compare.compare_calls.Lts as lts
-use Rattle.image.proofs.access.step_at.Reads as step-at-reads
-use Rattle.unwind.proofs.tries.compare.compare_numbers.Reads as compare-numbers-reads
 
 abbrev Inv-loop : tie.InvT-loop
 Inv-loop s y a n b k i₀ i =
