@@ -10,7 +10,7 @@
 --     normal-next                            one position more
 --     other-modes-within                     outside of mode 0 there are never too many
 --     count-within, count-beyond             the check of 19, by how many there are of both kinds
---     bounds                                 the bounds of mode 0, by the counts of the sections
+--     Bounds, bounds                         the bounds of mode 0, by the counts of the sections
 -- Assumes nothing.
 use mathlib.Core.Bool.{Bool, true, false, cond, _||_}
 use mathlib.Core.Path.{_≡_, refl, sym, ap, _∙_}

@@ -1,10 +1,11 @@
 -- The cursor: what stands at a position of an image whose sources are starts.
 --     leads-edges, leads-flow                    what `givenFor` says
 --     addresses-rise, same-place                 the table rises, so that each address stands once
---     is-given                                   the cursor's source is given for p, or none is
+--     is-given, given-here                       the cursor's source is given for p, or none is
 --     edges-length, edges-within, edge-is        that source's edges stand from the cursor's edge on
 --     cases-length, cases-within, case-is        the cases of the instruction at p stand from the cursor's case on
 --     sources-most, edges-most                   the cursor stays within the sections
+--     cursor-after                               the cursor behind p
 --     visit-given, visit-next, visit-fits        a visit reads what is given, and the cursor behind it, which fits
 -- Assumes nothing.
 use mathlib.Core.Bool.{Bool, true, false, cond, _&&_, false≢true}

@@ -1,7 +1,8 @@
 -- The checks of routes, as the code makes them: 10 to 12, 15 and 14.
 --     route-check                path by path
 --     path-entries               14 of a path, step by step
---     step-names, step-calls     14 of a step; end-names, end-leaves: of an end
+--     stepCheck, step-names, step-calls     14 of a step
+--     endCheck, end-names, end-leaves       14 of an end
 -- Assumes nothing.
 use mathlib.Core.Bool.{Bool, true, false, cond, not}
 use mathlib.Core.Path.{_≡_, refl, ap, _∙_}

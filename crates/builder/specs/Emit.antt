@@ -1,5 +1,5 @@
 -- What the code that adds edges is lent, and what it answers on the way.
-use mathlib.Core.Bool.{Bool, true, false}
+use mathlib.Core.Bool.{true, false}
 use mathlib.Core.Path.{_≡_}
 use mathlib.Core.List.{List, []}
 use Prim.Native.Nat.{ℕ, _+_, _<_, _≤_}
@@ -16,7 +16,6 @@ use Rattle.graph.specs.Lookup.{Rising}
 use Rattle.graph.specs.Fold.{flat, checks}
 use Rattle.graph.specs.Flow.{kindOf, unresolvedRole}
 use Rattle.graph.specs.Transfer.{tableOf, size, casesAt, Transfer, hasTarget, caseTransfer, transferAt}
-use Rattle.graph.specs.Leaders.{isLeader}
 use Rattle.graph.specs.Blocks.{blockOf}
 use Rattle.graph.specs.Edges.{resolved, transferEdges, transferUnresolved, rangeFirst, rangeSize, unwindEdges}
 use Rattle.graph.specs.Build.{givenCheck}

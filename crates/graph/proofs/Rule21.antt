@@ -6,7 +6,7 @@ use mathlib.Core.List.{List, [], _∷_}
 use Prim.Native.Nat.{ℕ}
 use Prim.Native.String.{String}
 use lib.ListN.{replicate}
-use Rattle.graph.specs.Graph.{Graph, Counts, Held, held}
+use Rattle.graph.specs.Graph.{Graph, Held, held}
 use Rattle.graph.specs.Fold.{some, all, checks, sum}
 use Rattle.graph.specs.Table.{entryAt}
 use Rattle.graph.specs.Build.{orderCheck, instructionCheck, tableCheck}

@@ -1,10 +1,10 @@
 -- The instruction table: where instructions start, and which ranges of addresses are good.
-use mathlib.Core.Bool.{Bool, false, cond, not, _||_}
+use mathlib.Core.Bool.{Bool, false, cond, _||_}
 use mathlib.Core.List.{List, [], _∷_}
 use Prim.Native.Nat.{ℕ, suc, max}
-use lib.Dec.{eqb, ltb, leb}
-use lib.ListN.{length, getD}
-use Rattle.image.specs.Refusal.{Check, clear, refused, refusal, _then_, unless}
+use lib.Dec.{eqb, ltb}
+use lib.ListN.{getD}
+use Rattle.image.specs.Refusal.{Check, refusal, _then_, unless}
 use Rattle.graph.specs.declared.record.TableEntry.{TableEntry}
 
 -- the entry at a position, of zeros past the end

@@ -1,5 +1,4 @@
 -- 16, then 19. Assumes nothing.
-use mathlib.Core.Path.{_∙_, sym}
 use Rattle.image.specs.Image.{imageIn}
 use Rattle.graph.specs.Build.{resultCheck}
 use Rattle.graph.proofs.BuiltChecks.{parts}

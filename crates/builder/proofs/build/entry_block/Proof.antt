@@ -1,11 +1,8 @@
 -- The entry is a start, by 6; without one it is block 0. Assumes nothing.
-use mathlib.Core.Bool.{Bool, true, not, _||_}
-use mathlib.Core.Path.{_≡_, ap, _∙_}
+use mathlib.Core.Path.{_∙_}
 use Rattle.image.specs.Image.{imageIn}
-use Rattle.graph.specs.Blocks.{entryOf}
 use Rattle.graph.proofs.BuiltChecks.{entry-starts}
 use Rattle.graph.proofs.BuiltBlocks.{entry-is, entry-none}
-use borrow.Author.Needs.{needs}
 use Rattle.builder.proofs.build.entry_block.Statement.{statement}
 use Rattle.builder.proofs.build.entry_block.Tie as tie
 

@@ -2,7 +2,6 @@
 use Rattle.image.specs.Image.{imageIn}
 use Rattle.graph.proofs.BuiltChecks.{parts}
 use Rattle.builder.proofs.BuildLaws.{emitting, handled, edges-added}
-use native.Mathlib.Omega.{arith}
 use borrow.Author.Needs.{needs}
 use Rattle.builder.proofs.build.store_edges.Statement.{statement}
 use Rattle.builder.proofs.build.store_edges.Tie as tie

@@ -1,5 +1,4 @@
 -- Nothing, or the record. Assumes nothing.
-use Prim.Native.Nat.{_-_}
 use Rattle.graph.specs.Transfer.{instructionAt}
 use Rattle.graph.specs.Edges.{callAt}
 use Rattle.graph.proofs.AddingLaws.{added-none, call-added}

@@ -1,6 +1,5 @@
 -- By the three tests: does it end its block, are edges given for it, and is its end a start. Assumes nothing.
 use mathlib.Core.Path.{sym, _∙_}
-use Prim.Native.Nat.{_-_}
 use Rattle.image.specs.Record.{instructionFrom}
 use Rattle.image.specs.Image.{imageIn}
 use Rattle.image.proofs.Tables.{length-records}

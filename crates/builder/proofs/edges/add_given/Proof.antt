@@ -1,11 +1,10 @@
 -- The edge to the block that was found; one is, since its target is a start. Assumes nothing.
 use mathlib.Core.Path.{sym, ap, _∙_}
 use mathlib.Core.Bool.{false≢true}
-use Prim.Native.Nat.{_-_}
 use Rattle.image.specs.Image.{imageIn}
 use Rattle.image.specs.declared.record.GivenEdge.{GivenEdge}
 use Rattle.graph.specs.Table.{isStart}
-use Rattle.graph.specs.Transfer.{tableOf, given}
+use Rattle.graph.specs.Transfer.{tableOf}
 use Rattle.graph.proofs.TableLaws.{length-entries}
 use Rattle.graph.proofs.AddingLaws.{edge-added}
 use Rattle.builder.proofs.EdgeLaws.{given-found}

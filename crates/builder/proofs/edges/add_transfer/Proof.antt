@@ -1,6 +1,5 @@
 -- The edge to the block that was found, or the record. Assumes nothing.
 use mathlib.Core.Path.{refl}
-use Prim.Native.Nat.{_-_}
 use Rattle.image.specs.Image.{imageIn}
 use Rattle.graph.proofs.AddingLaws.{edge-added}
 use Rattle.builder.specs.Slots.{transferIn}

@@ -1,5 +1,4 @@
 -- Field by field. Assumes nothing.
-use Prim.Native.Nat.{_-_}
 use borrow.Author.Needs.{needs}
 use Rattle.builder.proofs.edges.edge_between.Statement.{statement}
 use Rattle.builder.proofs.edges.edge_between.Tie as tie

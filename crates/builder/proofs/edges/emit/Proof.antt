@@ -1,8 +1,6 @@
 -- By what is given for the instruction. Assumes nothing.
 use mathlib.Core.Path.{sym, ap, _∙_}
-use Prim.Native.Nat.{_-_}
 use Rattle.image.specs.Image.{imageIn}
-use Rattle.graph.specs.Transfer.{given}
 use Rattle.builder.specs.declared.cursor.Visit.{Visit}
 use Rattle.builder.proofs.CursorLaws.{leads-edges, leads-flow}
 use Rattle.builder.proofs.EdgeLaws.{given-unresolved, flow-edges, flow-unresolved}

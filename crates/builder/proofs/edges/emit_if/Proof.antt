@@ -1,5 +1,4 @@
 -- Nothing, or what the instruction gives. Assumes nothing.
-use Prim.Native.Nat.{_-_}
 use Rattle.graph.proofs.AddingLaws.{added-none}
 use borrow.Author.Needs.{needs}
 use Rattle.builder.proofs.edges.emit_if.Statement.{statement}

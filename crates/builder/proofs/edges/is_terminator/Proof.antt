@@ -1,5 +1,4 @@
 -- By the two tests. Assumes nothing.
-use Prim.Native.Nat.{_-_}
 use borrow.Author.Tests.{eq-eqb, ne-eqb}
 use borrow.Author.Needs.{needs}
 use Rattle.builder.proofs.edges.is_terminator.Statement.{statement}

@@ -1,6 +1,5 @@
 -- Nothing, or the record. Assumes nothing.
 use mathlib.Core.Bool.{or-true}
-use Prim.Native.Nat.{_-_}
 use Rattle.graph.proofs.AddingLaws.{added-none, unresolved-added}
 use borrow.Author.Needs.{needs}
 use Rattle.builder.proofs.edges.report.Statement.{statement}

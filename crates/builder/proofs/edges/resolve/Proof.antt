@@ -1,6 +1,5 @@
 -- By the look-up, where there is a target. Assumes nothing.
 use mathlib.Core.Path.{sym, _∙_}
-use Prim.Native.Nat.{_-_}
 use Rattle.builder.specs.Slots.{transferIn}
 use Rattle.builder.proofs.EdgeLaws.{resolves, resolved-not}
 use borrow.Author.Needs.{needs}

@@ -3,7 +3,6 @@ use mathlib.Core.Path.{ap, sym, _∙_}
 use Rattle.image.specs.Little.{le8}
 use Rattle.image.specs.Record.{instructionFrom}
 use Rattle.image.specs.Image.{recordsIn}
-use Rattle.image.specs.declared.record.Instruction.{Instruction}
 use Rattle.image.proofs.Tables.{records-in}
 use Rattle.graph.proofs.TableLaws.{address-is}
 use borrow.Author.Needs.{needs}

@@ -4,7 +4,6 @@ use Prim.Native.Nat.{ℕ, _+_}
 use Rattle.image.specs.Little.{le8}
 use Rattle.image.specs.Record.{instructionFrom}
 use Rattle.image.specs.Image.{recordsIn}
-use Rattle.image.specs.declared.record.Instruction.{Instruction}
 use Rattle.image.proofs.Tables.{records-in}
 use Rattle.graph.proofs.TableLaws.{end-is}
 use borrow.Author.Needs.{needs}

@@ -1,11 +1,10 @@
 -- `rank_in` meets its contract. The loop's invariant: n is how many blocks of the first 64 i are below b. Assumes nothing.
-use mathlib.Core.Path.{_≡_, refl, ap, _∙_}
+use mathlib.Core.Path.{_≡_, ap, _∙_}
 use Prim.Native.Nat.{_+_, _-_, _*_, _≤_, min}
 use native.Mathlib.Omega.{arith}
 use borrow.Author.Needs.{needs}
 use Rattle.graph.specs.Fold.{count}
 use Rattle.graph.specs.BlockSet.{member}
-use Rattle.graph.proofs.FoldLaws.{count-le}
 use Rattle.graph.proofs.BlockLaws.{rank-more, rank-all}
 use Rattle.graph.proofs.blockset.rank_in.Statement.{statement}
 use Rattle.graph.proofs.blockset.rank_in.Tie as tie

@@ -1,14 +1,13 @@
 -- `built_count` meets its contract. The loop's invariant: what is left of the table, and it is not full before i unless i is 0.
 -- Assumes nothing.
 use mathlib.Core.Path.{_≡_, refl, sym, ap, _∙_}
-use mathlib.Core.Logic.{_⊎_, inl, inr, ⊎-elim}
-use Prim.Native.Nat.{ℕ, _+_, _-_, _≤_, _<_}
+use mathlib.Core.Logic.{_⊎_, inl, inr}
+use Prim.Native.Nat.{_+_, _-_, _≤_, _<_}
 use native.Mathlib.Omega.{arith}
 use borrow.Author.Needs.{needs}
 use borrow.Author.Tests.{lt-ltb}
 use lib.ListN.{length}
 use Rattle.graph.specs.Fold.{sum}
-use Rattle.graph.specs.Graph.{block}
 use Rattle.graph.specs.Words.{heldIn}
 use Rattle.graph.specs.WellFormed.{filled}
 use Rattle.graph.specs.declared.record.Block.{Block}

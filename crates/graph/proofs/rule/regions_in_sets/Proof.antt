@@ -1,5 +1,5 @@
 -- `regions_in_sets` meets its contract. The loop's invariant: the flags of the regions before i are 0 or 1. Assumes nothing.
-use mathlib.Core.Path.{_≡_, refl, sym, _∙_}
+use mathlib.Core.Path.{_≡_, refl, sym}
 use mathlib.Core.Bool.{true}
 use Prim.Native.Nat.{ℕ, _-_, _≤_}
 use native.Mathlib.Omega.{arith}

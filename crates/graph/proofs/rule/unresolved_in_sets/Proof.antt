@@ -1,5 +1,5 @@
 -- `unresolved_in_sets` meets its contract. The loop's invariant: the roles of the records before i are in their set. Assumes nothing.
-use mathlib.Core.Path.{_≡_, refl, sym, _∙_}
+use mathlib.Core.Path.{_≡_, refl, sym}
 use mathlib.Core.Bool.{true}
 use Prim.Native.Nat.{ℕ, _-_, _≤_}
 use native.Mathlib.Omega.{arith}
