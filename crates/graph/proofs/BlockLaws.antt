@@ -6,7 +6,7 @@
 --     including-past, excluding-is         what a store writes
 --     Ored, Anded, size-more, lowest-is, none-more         a word more of a loop
 --     ones-past, rank-more, rank-all       how many blocks are below one
---     zero-below, shift-below, word-below, below-is     a set's blocks are below n
+--     zero-below, shift-below, word-below     a set's blocks are below n
 -- Assumes nothing.
 use mathlib.Core.Path.{_≡_, refl, sym, ap, ap₂, _∙_}
 use mathlib.Core.Bool.{Bool, true, false, cond, not, _&&_, _||_}
@@ -19,7 +19,7 @@ use borrow.Author.Count.{below-more}
 use borrow.Author.Tests.{eq-eqb, ne-eqb, eqb-true, lt-ltb, le-ltb}
 use lib.Bits.{bitAnd, bitOr, bitXor, differ, and-step, and-shr}
 use lib.Count.{ones, trailingZeros}
-use lib.Dec.{T, eqb, ltb, ltb→lt}
+use lib.Dec.{eqb, ltb}
 use lib.Pow.{pow-pos, pow-mono}
 use lib.ListN.{length, getD, set, length-set, getD-replicate, List·getD-eq-default}
 use lib.Seq.{getD-set-same, getD-set-other, set-out}
@@ -27,8 +27,8 @@ use Rattle.graph.specs.Fold.{count}
 use Rattle.graph.specs.BlockSet.{member, none, including, excluding, Union, Common, sizeOf, LowestOf}
 use Rattle.graph.specs.WellFormed.{within}
 use Rattle.graph.specs.declared.blockset.Lowest.the-variants.{At}
-use Rattle.graph.proofs.FoldLaws.{all-at, count-same, count-none, count-add, count-one, count-le}
-use Rattle.graph.proofs.Bit.{bit, bit-shift, bit-below, bit-lt, bit-zero, bit-or, bit-xor, bit-power-same, bit-power-other, ones-bits, ones-none, ones-split, trailing-bit}
+use Rattle.graph.proofs.FoldLaws.{count-same, count-none, count-add, count-one, count-le}
+use Rattle.graph.proofs.Bit.{bit, bit-shift, bit-lt, bit-zero, bit-or, bit-xor, bit-power-same, bit-power-other, ones-bits, ones-none, ones-split, trailing-bit}
 
 -- digit b of the set
 abbrev digit : List ℕ → ℕ → ℕ
@@ -348,15 +348,3 @@ shift-below x k =
 
 pub word-below : (x k : ℕ) → x < 2 ^ 64 → 64 ≤ k → true ≡ ltb x (2 ^ k)
 word-below x k h le = sym (lt-ltb x (2 ^ k) (omega (arith, pow-mono le)))
-
-pub below-is : (n : ℕ) (w : List ℕ) → within n w ≡ true → (b : ℕ) → length w ≡ 16 → member w b ≡ true → b < n
-unfolding within
-below-is n w all b long m =
-    let h = member-below w b long m in
-    let t : T (within n w) = rw all tt in
-    let word = ltb→lt (getD w (b / 64) 0) (2 ^ (n - 64 * (b / 64))) (all-at _ 16 (b / 64) t (omega arith)) in
-    let one : digit w b ≡ 1 = eqb-true _ _ (sym (member-bit w b) ∙ m) in
-    elim (decLt b n) [
-      | yes lt ↦ lt
-      | no ge ↦ absurd (let z = bit-below (n - 64 * (b / 64)) (getD w (b / 64) 0) (b % 64) word (omega arith) in omega arith)
-    ]

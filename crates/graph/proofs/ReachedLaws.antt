@@ -1,7 +1,6 @@
 -- The reached blocks by computing are the least set: as many rounds as blocks reach everything, since each round takes in a block
 -- or changes nothing.
 --     listed, listed-reached     the computed list has the reached blocks and no other
---     member-listed              a set that has them has those of the list
 --     size-listed                and as many
 -- Assumes nothing.
 use mathlib.Core.Path.{_≡_, refl, sym, ap, _∙_}
@@ -205,9 +204,6 @@ module _ (g : Graph) (ends : Ends g) where
   -- ---- a set that has them
 
   module _ (w : List ℕ) (f : Finds g w) where
-    pub member-listed : (b : ℕ) → member w b ≡ among (reachedBlocks g) b
-    member-listed b = both-ways _ _ (λ is. listed b (f .sound b is)) (λ is. f .complete b (listed-reached b is))
-
     pub size-listed : size ≤ 1024 → sizeOf w ≡ length (reachedBlocks g)
     size-listed h =
         let whole : 1024 ≡ size + (1024 - size) = omega arith in

@@ -4,9 +4,8 @@
 --     emptied-then                 stores into an emptied graph: which words are as they were before it was
 --     held-nothing                 the emptied graph
 --     whole, more-whole            a section that is not cut, and a record more
---     X-more                       a graph with room, and a record more
+--     region-more, handler-more    a graph with room, and a record more
 --     all-held                     within the limits nothing is cut
--- for X of entry, block, edge, region, handler, unresolved, call.
 -- Assumes nothing.
 use mathlib.Core.Path.{_≡_, refl, sym, ap, _∙_}
 use mathlib.Core.Bool.{Bool, true, _&&_}
@@ -20,14 +19,9 @@ use Rattle.graph.specs.Section.{Section, size, records}
 use Rattle.graph.specs.Graph.{Graph, Held, held}
 use Rattle.graph.specs.WellFormed.{withinLimits}
 use Rattle.graph.specs.Words.{tableRows, blockRows, edgeRows, regionRows, handlerRows, unresolvedRows, callRows, entryOf, blockOf, edgeOf, regionOf, handlerOf, unresolvedOf, callOf, Part, part, holding, heldIn}
-use Rattle.graph.specs.Stored.{more, nothing, withEntry, withBlock, withEdge, withRegion, withHandler, withUnresolved, withCall, Untouched, Stored, Emptied}
-use Rattle.graph.specs.declared.record.TableEntry.{TableEntry}
-use Rattle.graph.specs.declared.record.Block.{Block}
-use Rattle.graph.specs.declared.record.Edge.{Edge}
+use Rattle.graph.specs.Stored.{more, nothing, withRegion, withHandler, Untouched, Stored, Emptied}
 use Rattle.graph.specs.declared.record.Region.{Region}
 use Rattle.graph.specs.declared.record.HandlerRecord.{HandlerRecord}
-use Rattle.graph.specs.declared.record.UnresolvedTransfer.{UnresolvedTransfer}
-use Rattle.graph.specs.declared.record.CallSite.{CallSite}
 use Rattle.graph.proofs.SectionLaws.{length-records}
 
 -- ---- one store behind another
@@ -66,18 +60,6 @@ unfolding more
 more-whole s p a h = rw (lt-ltb (length p) (s .most) h) (λ t. record { count = sym (length-append p (a ∷ [])) t; list = p ++ (a ∷ []) })
 
 module _ (g : Graph) where
-  pub entry-more : (r : TableEntry) → length (g .table) < 512 → withEntry (held g) r ≡ held (record { entry = g .entry; table = g .table ++ (r ∷ []); blocks = g .blocks; edges = g .edges; regions = g .regions; handlers = g .handlers; unresolved = g .unresolved; calls = g .calls })
-  unfolding held
-  entry-more r h = ap (λ (p : Part TableEntry). holding (g .entry) p (whole (g .blocks)) (whole (g .edges)) (whole (g .regions)) (whole (g .handlers)) (whole (g .unresolved)) (whole (g .calls))) (more-whole tableRows (g .table) r h)
-
-  pub block-more : (r : Block) → length (g .blocks) < 1024 → withBlock (held g) r ≡ held (record { entry = g .entry; table = g .table; blocks = g .blocks ++ (r ∷ []); edges = g .edges; regions = g .regions; handlers = g .handlers; unresolved = g .unresolved; calls = g .calls })
-  unfolding held
-  block-more r h = ap (λ (p : Part Block). holding (g .entry) (whole (g .table)) p (whole (g .edges)) (whole (g .regions)) (whole (g .handlers)) (whole (g .unresolved)) (whole (g .calls))) (more-whole blockRows (g .blocks) r h)
-
-  pub edge-more : (r : Edge) → length (g .edges) < 4096 → withEdge (held g) r ≡ held (record { entry = g .entry; table = g .table; blocks = g .blocks; edges = g .edges ++ (r ∷ []); regions = g .regions; handlers = g .handlers; unresolved = g .unresolved; calls = g .calls })
-  unfolding held
-  edge-more r h = ap (λ (p : Part Edge). holding (g .entry) (whole (g .table)) (whole (g .blocks)) p (whole (g .regions)) (whole (g .handlers)) (whole (g .unresolved)) (whole (g .calls))) (more-whole edgeRows (g .edges) r h)
-
   pub region-more : (r : Region) → length (g .regions) < 32 → withRegion (held g) r ≡ held (record { entry = g .entry; table = g .table; blocks = g .blocks; edges = g .edges; regions = g .regions ++ (r ∷ []); handlers = g .handlers; unresolved = g .unresolved; calls = g .calls })
   unfolding held
   region-more r h = ap (λ (p : Part Region). holding (g .entry) (whole (g .table)) (whole (g .blocks)) (whole (g .edges)) p (whole (g .handlers)) (whole (g .unresolved)) (whole (g .calls))) (more-whole regionRows (g .regions) r h)
@@ -85,14 +67,6 @@ module _ (g : Graph) where
   pub handler-more : (r : HandlerRecord) → length (g .handlers) < 32 → withHandler (held g) r ≡ held (record { entry = g .entry; table = g .table; blocks = g .blocks; edges = g .edges; regions = g .regions; handlers = g .handlers ++ (r ∷ []); unresolved = g .unresolved; calls = g .calls })
   unfolding held
   handler-more r h = ap (λ (p : Part HandlerRecord). holding (g .entry) (whole (g .table)) (whole (g .blocks)) (whole (g .edges)) (whole (g .regions)) p (whole (g .unresolved)) (whole (g .calls))) (more-whole handlerRows (g .handlers) r h)
-
-  pub unresolved-more : (r : UnresolvedTransfer) → length (g .unresolved) < 1024 → withUnresolved (held g) r ≡ held (record { entry = g .entry; table = g .table; blocks = g .blocks; edges = g .edges; regions = g .regions; handlers = g .handlers; unresolved = g .unresolved ++ (r ∷ []); calls = g .calls })
-  unfolding held
-  unresolved-more r h = ap (λ (p : Part UnresolvedTransfer). holding (g .entry) (whole (g .table)) (whole (g .blocks)) (whole (g .edges)) (whole (g .regions)) (whole (g .handlers)) p (whole (g .calls))) (more-whole unresolvedRows (g .unresolved) r h)
-
-  pub call-more : (r : CallSite) → length (g .calls) < 512 → withCall (held g) r ≡ held (record { entry = g .entry; table = g .table; blocks = g .blocks; edges = g .edges; regions = g .regions; handlers = g .handlers; unresolved = g .unresolved; calls = g .calls ++ (r ∷ []) })
-  unfolding held
-  call-more r h = ap (λ (p : Part CallSite). holding (g .entry) (whole (g .table)) (whole (g .blocks)) (whole (g .edges)) (whole (g .regions)) (whole (g .handlers)) (whole (g .unresolved)) p) (more-whole callRows (g .calls) r h)
 
 -- ---- words within the limits
 
