@@ -1,34 +1,27 @@
 -- The chart of an image with routes.
---     adds-own          the routes that are added are the image's own
 --     added-hops        what an addition that is not refused gives
 --     lines-told        its hops are told line for line
 -- Assumes nothing.
-use mathlib.Core.Path.{_≡_, refl, ap, sym, _∙_}
+use mathlib.Core.Path.{_≡_, refl, sym}
 use mathlib.Core.Bool.{Bool, true, false, cond}
 use mathlib.Core.List.{List}
 use Prim.Native.Nat.{ℕ}
 use native.Mathlib.Omega.{arith}
 use lib.ListN.{length}
 use Rattle.image.specs.Refusal.{Check, clear, refusal, _then_}
-use Rattle.image.specs.Image.{Image, RouteImage, table}
-use Rattle.image.specs.Read.{Reading, read, refusing, readImage, readRoutes}
+use Rattle.image.specs.Image.{RouteImage, table}
+use Rattle.image.specs.Read.{Reading, read, refusing, readRoutes}
 use Rattle.image.specs.Deal.{UnwindRoute, routesOf}
 use Rattle.image.proofs.Accepted.{accepted-routes}
 use Rattle.graph.specs.Fold.{flat, checks}
-use Rattle.graph.specs.Graph.{Graph, Held, held}
+use Rattle.graph.specs.Graph.{Graph, Held}
 use Rattle.graph.specs.WellFormed.{wellFormed}
 use Rattle.addition.specs.Trie.{tries, nodeAt}
-use Rattle.addition.specs.Ways.{ways, hopsOf}
-use Rattle.addition.specs.Add.{Addition, addition, Outcome, added, refused, outcome, routeCheck, nodeCheck, sizeCheck, addRoutesTo, addRead, addRoutes}
-use Rattle.text.specs.Chart.{hopLines, routeBytes}
+use Rattle.addition.specs.Add.{Addition, addition, added, refused, outcome, routeCheck, nodeCheck, sizeCheck, addRoutesTo, addRead, addRoutes}
+use Rattle.text.specs.Chart.{hopLines}
 use Rattle.text.specs.HopText.{hopIn, toldAt}
-use Rattle.text.proofs.HopTextLaws.{Short, all-told}
+use Rattle.text.proofs.HopTextLaws.{all-told}
 use Rattle.text.proofs.ShortLaws.{hops-short}
-use Rattle.text.proofs.RouteBytesLaws.{routes-alone}
-
-pub adds-own : (l : List ℕ) (m : Image) (g : Graph) → readImage l ≡ read m → addRoutes (held g) (routeBytes l) ≡ cond (wellFormed (held g)) (addRoutesTo g (routesOf (m .routes))) (refused (refusal 21 0 0))
-unfolding addRoutes addRead held
-adds-own l m g h = rw (routes-alone l m h)
 
 outcome-is : (c : Check) (x a : Addition) → outcome c x ≡ added a → x ≡ a
 unfolding outcome

@@ -1,7 +1,7 @@
 -- Charts, computed.
---     example       the one of document 01: the chart of the image's build is the text that stands there
---     each-kind     records of every kind, with what may be absent there and absent
---     each-hop      hops to a block and out of the function, with tags and without
+--     image, example     the one of document 01: the chart of the image's build is the text that stands there
+--     each-kind          records of every kind, with what may be absent there and absent
+--     each-hop           hops to a block and out of the function, with tags and without
 -- Assumes nothing.
 use mathlib.Core.Path.{_≡_, refl, ap, _∙_, sym}
 use mathlib.Core.Bool.{true, false}
@@ -19,7 +19,7 @@ use Rattle.graph.specs.Fold.{flat, among}
 use Rattle.graph.proofs.Computed.{computed, computed-is}
 use Rattle.text.specs.Line.{bytes, digitsOf, decimal, field, line}
 use Rattle.addition.specs.Lists.{joined}
-use Rattle.addition.specs.Ways.{HopEnd, Hop}
+use Rattle.addition.specs.Ways.{HopEnd}
 use Rattle.text.specs.Chart.{builtLine, blockLine, edgeLine, regionLine, handlerLine, computes, unresolvedLine, callLine, graphLines, endField, tagFields, hopLine, hopLines, reachedLine, refusedLine, chartLines, chartOf}
 
 abbrev op : ℕ → ℕ → ℕ → ℕ → Instruction

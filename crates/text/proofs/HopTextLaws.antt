@@ -5,11 +5,11 @@
 --     some-tags              the fields of tags, where there are any
 --     tags-put               those of one tag more
 --     lists-few              how many lists there are at most
---     calls-length           how many lists a hop has
---     list-there             where list k of hop i stands
+--     none-past, calls-length     how many lists a hop has; past the last hop there are none
+--     hop-there, list-there  where list k of hop i stands
 --     told-at                its line
 --     none-told              past the last list there is none
---     all-told               line for line, the lines of hops whose lists have no more than 512 tags
+--     Short, all-told        line for line, the lines of hops whose lists have no more than 512 tags
 -- Assumes nothing.
 use mathlib.Core.Path.{_≡_, refl, ap, sym, _∙_}
 use mathlib.Core.Logic.{⊎-elim}

@@ -2,23 +2,23 @@
 --     byte-same, four-same, eight-same     a number read from the bytes behind a place
 --     section-shift, routes-shift          what is clear there is clear by itself
 --     layout-same                          and holds the same records
---     routes-alone                         THE ROUTES OF AN IMAGE, READ BY THEMSELVES
+--     alone, routes-alone                  THE ROUTES OF AN IMAGE, READ BY THEMSELVES
 -- Assumes nothing.
 use mathlib.Core.Path.{_≡_, refl, ap, sym, _∙_}
 use mathlib.Core.Bool.{Bool, true, false, cond, not, _||_}
 use mathlib.Core.List.{List}
-use Prim.Native.Nat.{ℕ, zero, suc, _+_, _*_, _-_, _≤_, _<_, min}
+use Prim.Native.Nat.{ℕ, zero, suc, _+_, _*_, _≤_, _<_, min}
 use native.Mathlib.Omega.{arith}
 use borrow.Author.Tests.{leb-true, le-leb}
 use lib.Dec.{eqb, leb, ltb}
 use lib.ListN.{length, getD, drop, length-drop}
 use lib.Seq.{getD-drop}
 use Rattle.image.specs.Little.{le1, le4, le8}
-use Rattle.image.specs.Refusal.{Refusal, refusal, Check, clear, refused, _then_, unless, checks}
+use Rattle.image.specs.Refusal.{refusal, Check, clear, refused, _then_, unless, checks}
 use Rattle.image.specs.Record.{routeFrom, pathFrom, stepFrom}
-use Rattle.image.specs.Form.{bad, field, byte, used4, used8, headerForm, routeForm, pathForm, stepForm, formOf}
-use Rattle.image.specs.Image.{Image, RouteImage, table, placeIn, recordsIn, routesIn, imageIn}
-use Rattle.image.specs.Read.{widthOf, limitOf, childrenAt, recordForm, recordsForm, childrenIn, sectionAt, endOf, childrenOf, adds, countForm, sectionForm, endForm, pairForm, routeLayoutAt, routesForm, codeLayoutOf, codeForm, layoutOf, imageForm, Reading, read, refusing, reading, readImage, readRoutes}
+use Rattle.image.specs.Form.{bad, field, byte, used4, used8, headerForm, formOf}
+use Rattle.image.specs.Image.{Image, table, recordsIn, routesIn, imageIn}
+use Rattle.image.specs.Read.{widthOf, limitOf, childrenAt, recordForm, recordsForm, childrenIn, sectionAt, endOf, childrenOf, adds, countForm, sectionForm, endForm, routeLayoutAt, routesForm, codeLayoutOf, codeForm, layoutOf, imageForm, read, reading, readImage, readRoutes}
 use Rattle.image.specs.declared.form.Kind.{Kind}
 use Rattle.image.specs.declared.form.Kind.the-variants.{Instructions, Cases, Sources, Edges, Handlers, Routes, Paths, Steps}
 use Rattle.image.specs.declared.scan.Sum.{Sum}

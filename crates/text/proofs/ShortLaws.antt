@@ -5,13 +5,13 @@
 --     routes-brief                 the paths of routes that were read
 --     hops-short                   THE LISTS OF THE HOPS ARE SHORT
 -- Assumes nothing.
-use mathlib.Core.Path.{_≡_, refl, ap, sym, subst}
+use mathlib.Core.Path.{_≡_, refl, sym, subst}
 use mathlib.Core.Logic.{_⊎_, inl, inr}
-use mathlib.Core.List.{List, [], _∷_, _++_, map, zipWith, List·Memᴰ·head, List·Memᴰ·tail, List·Memᴰ·append-cases}
+use mathlib.Core.List.{List, [], _∷_, map, zipWith, List·Memᴰ·head, List·Memᴰ·tail, List·Memᴰ·append-cases}
 use mathlib.Core.Option.{Option, none, some}
 use Prim.Native.Nat.{ℕ, zero, suc, _+_, _≤_}
 use native.Mathlib.Omega.{arith}
-use lib.ListN.{length, getD, take, drop, length-append, length-map, length-take, length-drop}
+use lib.ListN.{length, take, drop, length-append, length-map, length-take, length-drop}
 use Rattle.image.specs.Image.{RouteImage}
 use Rattle.image.specs.Accepted.{AcceptedRoutes}
 use Rattle.image.specs.declared.record.Path.{Path}
@@ -21,13 +21,13 @@ use Rattle.image.specs.Deal.{UnwindStep, funclet, call, UnwindEnd, UnwindPath, 
 use Rattle.graph.specs.Graph.{Graph}
 use Rattle.graph.specs.Fold.{flat}
 use Rattle.addition.specs.Lists.{joined}
-use Rattle.addition.specs.Order.{Tagged, tagged, compareTagged, sorted}
+use Rattle.addition.specs.Order.{Tagged, compareTagged}
 use Rattle.addition.specs.Blocks.{guarded}
 use Rattle.addition.specs.Part.{funclets}
 use Rattle.addition.specs.Instance.{entryOf, returnsOf}
 use Rattle.addition.specs.Trie.{Node, endsOf, groups, rest, Interned, placeOf, created, create, internEach, nodeOf, intern, longest, internRoutes, tries, nodeAt}
 use Rattle.addition.specs.Walk.{_∈_}
-use Rattle.addition.specs.Ways.{HopEnd, Hop, Way, endAt, waysFrom, routeWays, nodeWays, ways, hopsOf}
+use Rattle.addition.specs.Ways.{HopEnd, Way, endAt, waysFrom, routeWays, nodeWays, ways, hopsOf}
 use Rattle.addition.proofs.Lists.{none-in, joined-mem, map-mem, flat-mem}
 use Rattle.addition.proofs.Order.{sorted-mem}
 use Rattle.addition.proofs.Paths.{path, steps-of, ends-mem, rest-mem, groups-mem}

@@ -1,10 +1,9 @@
 -- `put_tags` meets its contract. Assumes nothing.
-use mathlib.Core.Path.{_≡_, sym, ap, _∙_}
-use mathlib.Core.List.{[], _∷_, append-nil, map}
-use Prim.Native.Nat.{ℕ, _<_}
+use mathlib.Core.Path.{_≡_, ap}
+use mathlib.Core.List.{append-nil, map}
+use Prim.Native.Nat.{ℕ}
 use native.Mathlib.Omega.{arith}
 use borrow.Author.Needs.{needs}
-use lib.ListN.{length, take}
 use Rattle.image.specs.Image.{RouteImage, routesIn}
 use Rattle.unwind.specs.Nodes.{tagsIn}
 use Rattle.unwind.proofs.TriePaths.{length-tags}
