@@ -5,14 +5,13 @@ use mathlib.Core.Bool.{Bool, true, false}
 use mathlib.Core.Path.{_≡_, refl, sym, ap, _∙_}
 use Prim.Native.Nat.{ℕ}
 use native.Mathlib.Omega.{arith}
-use Rattle.image.specs.Refusal.{Check, clear, refused, refusal}
+use Rattle.image.specs.Refusal.{Check, clear, refused}
 use Rattle.graph.specs.Graph.{Held}
-use Rattle.graph.specs.Error.{refusalOf, checkOf}
+use Rattle.graph.specs.Error.{checkOf}
 use Rattle.graph.specs.WellFormed.{wellFormed}
 use Rattle.graph.specs.Answers.{ReachedIn}
 use Rattle.graph.specs.declared.reach.ReachedSet.{ReachedSet}
 use Rattle.graph.specs.declared.error.AddressBuildError.{AddressBuildError}
-use Rattle.graph.specs.declared.error.Checked.{Checked}
 use Rattle.graph.specs.declared.error.Checked.the-variants.{Clear, Refused}
 use Rattle.export.specs.declared.build.ReachedCount.{ReachedCount}
 use Rattle.export.specs.Answers.{toldReached}
