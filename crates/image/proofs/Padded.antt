@@ -1,6 +1,6 @@
 -- Bytes that are copied, with zeros past the end, say the same numbers.
 --     Same, same-none, same-more, same-all      the first k bytes are copied
---     moved4, moved8                            the numbers that it says
+--     moved1, moved4, moved8                    the numbers that it says
 --     moved-instruction, ..                     the records that it says
 -- Assumes nothing.
 use mathlib.Core.Path.{_≡_, refl, sym, ap, _∙_}

@@ -20,7 +20,6 @@ use Rattle.image.specs.Read.{widthOf, limitOf, adds, countForm, recordsF
 use Rattle.image.specs.declared.form.Kind.{Kind}
 use Rattle.image.specs.declared.form.Kind.the-variants.{Instructions, Cases, Sources, Edges, Handlers, Routes, Paths, Steps}
 use Rattle.image.specs.declared.scan.Sum.{Sum}
-use Rattle.image.specs.declared.section.Section.{Section}
 use Rattle.image.proofs.Checks.{then-left, then-right, unless-clear}
 
 module _ (k : Kind) (l : List ℕ) (at : ℕ) where

@@ -1,6 +1,6 @@
 -- What holds of each image that was read: its limits, sums and sets of values, as later crates use them.
 use mathlib.Core.Path.{_≡_}
-use mathlib.Core.List.{List, []}
+use mathlib.Core.List.{[]}
 use Prim.Native.Nat.{ℕ, suc, _≤_, _<_}
 use lib.ListN.{length, getD}
 use Rattle.image.specs.Record.{instructionFrom, sourceFrom, edgeFrom, handlerFrom, routeFrom, pathFrom, stepFrom}

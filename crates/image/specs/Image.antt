@@ -1,7 +1,7 @@
 -- What an image holds: its records, section by section.
 use mathlib.Core.List.{List, [], _∷_, _++_}
 use Prim.Native.Nat.{ℕ, zero, suc, _+_, _*_}
-use Rattle.image.specs.Record.{headerFrom, instructionFrom, caseFrom, sourceFrom, edgeFrom, handlerFrom, routeFrom, pathFrom, stepFrom}
+use Rattle.image.specs.Record.{instructionFrom, caseFrom, sourceFrom, edgeFrom, handlerFrom, routeFrom, pathFrom, stepFrom}
 use Rattle.image.specs.declared.record.Header.{Header}
 use Rattle.image.specs.declared.record.Instruction.{Instruction}
 use Rattle.image.specs.declared.record.Case.{Case}

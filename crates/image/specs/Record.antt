@@ -1,5 +1,5 @@
 -- The records of an image as bytes: the list of 'The sequence image', width by width.
-use mathlib.Core.Bool.{Bool, false}
+use mathlib.Core.Bool.{Bool}
 use mathlib.Core.List.{List}
 use Prim.Native.Nat.{ℕ, _+_}
 use lib.Dec.{eqb}

@@ -9,7 +9,7 @@ use crate::little::u32_at;
 use crate::section::Section;
 ghost use mathlib.Core.List.{List};
 ghost use mathlib.Core.Path.{_≡_};
-ghost use Prim.Native.Nat.{ℕ, _+_, _*_, _≤_, _<_};
+ghost use Prim.Native.Nat.{ℕ, _≤_, _<_};
 ghost use Rattle.image.specs.Read.{widthOf, limitOf, childrenAt, adds, sectionAt};
 ghost use Rattle.image.specs.Scanned.{Scanned, CountRead, SectionRead};
 

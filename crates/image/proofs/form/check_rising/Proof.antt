@@ -1,6 +1,5 @@
 -- The address is there; the first source has none before it. Assumes nothing.
 use mathlib.Core.Path.{ap, _∙_}
-use Prim.Native.Nat.{_-_}
 use Rattle.image.specs.Refusal.{clear}
 use Rattle.image.specs.Verdict.{checkOf}
 use Rattle.image.proofs.Checks.{there-fits, there-good, there-not}
