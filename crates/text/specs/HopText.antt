@@ -9,7 +9,8 @@ use Rattle.text.specs.Chart.{hopLine}
 abbrev pub hopIn : List Hop → ℕ → Hop
 hopIn hs i = getD hs i (record { source = 0; end = HopEnd.leave; calls = [] })
 
--- Words may name lists of any length. Of a list the first 512 tags are told: an image has no more steps.
+-- Words may name lists of any length. Of a list the first 512 tags are told: an image has no more steps, so of an addition's
+-- hops none is cut (`lines-told`).
 unfoldable pub toldLine : Hop → List ℕ → List ℕ
 toldLine h tags = hopLine h (take 512 tags)
 
