@@ -9,7 +9,7 @@
 --     flat-same, flat-front, flat-more     they hang on f below n alone; the first apart, and one more
 --     among-append, among-flat     a number among two lists, or among many
 --     count-same, count-none       the count hangs on f below n alone; f holds of none
---     count-front, count-add       the first number apart, and the first m
+--     count-add                    the first m numbers apart
 --     count-one                    f holds of one number more
 --     count-le                     there are n at most
 -- Assumes nothing.

@@ -5,7 +5,7 @@
 --     push                            words with a row more behind the last
 --     Away, records-away              THE FRAME: a store away from a section leaves its records alone
 --     size-push, records-push         the section itself after a push
---     Apart, push-away                a push into one section is away from another
+--     Apart, count-push-other, records-push-other     a push into one section is away from another
 --     sets-more                       one word more of those that are stored
 --     word-sets, word-push            the words that a store, or a push, leaves alone
 -- Assumes nothing.
