@@ -99,8 +99,8 @@ foldzine_answer foldzine_build(const uint8_t *image, size_t length, uint64_t wor
 /*
  * Adds the routes of a route image to the graph in `words`, and leaves the hops
  * of this addition in `hops`. Words that the graph and the hops do not use stay
- * as they were; refused, every word does. Words that hold no graph: 21; those that
- * foldzine_build or this function left always hold one.
+ * as they were; refused, every word does. Words that hold no graph: 21, which is
+ * never the answer on a graph that foldzine_build or this function stored.
  */
 foldzine_answer foldzine_add_routes(uint64_t words[FOLDZINE_WORDS], const uint8_t *routes, size_t length,
                                     uint64_t hops[FOLDZINE_HOP_WORDS]);
