@@ -1,20 +1,22 @@
 -- The table of f: which entry stands at i. The same of the records of a section.
 --     length-table, table-in, table-past
 --     length-records, records-in, records-past
+--     record-there                a record of a section that is there ends within the bytes
 --     records-none                a section that counts no record has none
 --     records-all                 what holds of the record of zeros and of each in the section holds at every i
 -- Assumes nothing.
 use mathlib.Core.Path.{_≡_, refl, _∙_}
 use mathlib.Core.Logic.{⊎-elim}
 use mathlib.Core.List.{List, [], _∷_}
-use Prim.Native.Nat.{ℕ, zero, suc, _<_, _≤_}
-use native.Mathlib.Nat.{eq-or-lt-of-le, le-of-suc-le-suc}
+use Prim.Native.Nat.{ℕ, zero, suc, _+_, _<_, _≤_}
+use native.Mathlib.Nat.{eq-or-lt-of-le, le-of-suc-le-suc, mul-suc, mul-le-mul-left}
 use native.Mathlib.Numerals.{add-one}
 use native.Mathlib.Omega.{arith}
 use native.Mathlib.Decide.{decLt}
 use lib.ListN.{length, getD, length-append, List·getD-append, List·getD-eq-default}
 use lib.Seq.{getD-at}
 use Rattle.image.specs.Image.{table, placeIn, recordsIn}
+use Rattle.image.specs.There.{Holds}
 use Rattle.image.specs.declared.section.Section.{Section}
 
 module _ {A : Type 0} (f : ℕ → A) (d : A) where
@@ -54,3 +56,6 @@ module _ {A : Type 0} (from : List ℕ → ℕ → A) (l : List ℕ) (y : Sectio
   pub records-all : (P : A → Type 0) → P (from [] 0) → ((i : ℕ) → i < y .count → P (from l (placeIn y i))) → (i : ℕ) → P (getD (recordsIn from l y) i (from [] 0))
   records-all P zeros each i =
       elim (decLt i (y .count)) [ yes h ↦ rw (records-in i h) (each i h) | no h ↦ rw (records-past i (omega arith)) zeros ]
+
+pub record-there : (l : List ℕ) (y : Section) (i w : ℕ) → Holds l y w → i < y .count → placeIn y i + w ≤ length l
+record-there l y i w h less = omega (arith, h .0, h .1, rw mul-suc at (mul-le-mul-left (y .width) less))

@@ -6,5 +6,6 @@ pub mod Verdict
 pub mod Image
 pub mod Read
 pub mod Scanned
+pub mod There
 pub mod Deal
 pub mod Accepted

@@ -15,10 +15,11 @@ use crate::section::Section;
 use crate::section::place;
 ghost use mathlib.Core.List.{[]};
 ghost use mathlib.Core.Path.{_≡_};
-ghost use Prim.Native.Nat.{_+_, _≤_};
+ghost use Prim.Native.Nat.{_+_, _≤_, _<_};
 ghost use lib.ListN.{length, getD};
 ghost use Rattle.image.specs.Record.{instructionFrom, caseFrom, sourceFrom, edgeFrom, handlerFrom, routeFrom, pathFrom, stepFrom};
 ghost use Rattle.image.specs.Image.{recordsIn};
+ghost use Rattle.image.specs.There.{Holds};
 
 pub fn instruction_at(s: &[u8], y: Section, i: usize) -> Instruction
     ensures { λ r. ⌜ r ≡ getD (recordsIn instructionFrom (now (s .entry)) y) i (instructionFrom [] 0) ⌝ }
@@ -135,6 +136,28 @@ pub fn step_at(s: &[u8], y: Section, i: usize) -> Step
     } else {
         Step { code: 0, value: 0 }
     }
+}
+
+// One of the records that are there. Nothing is tested.
+pub fn route_in(s: &[u8], y: Section, i: usize) -> Route
+    requires { ⌜ Holds (now s) y 20 × (i < y .count) ⌝ }
+    ensures { λ r. ⌜ r ≡ getD (recordsIn routeFrom (now (s .entry)) y) i (routeFrom [] 0) ⌝ }
+{
+    route_there(s, place(y, i))
+}
+
+pub fn path_in(s: &[u8], y: Section, i: usize) -> Path
+    requires { ⌜ Holds (now s) y 13 × (i < y .count) ⌝ }
+    ensures { λ r. ⌜ r ≡ getD (recordsIn pathFrom (now (s .entry)) y) i (pathFrom [] 0) ⌝ }
+{
+    path_there(s, place(y, i))
+}
+
+pub fn step_in(s: &[u8], y: Section, i: usize) -> Step
+    requires { ⌜ Holds (now s) y 9 × (i < y .count) ⌝ }
+    ensures { λ r. ⌜ r ≡ getD (recordsIn stepFrom (now (s .entry)) y) i (stepFrom [] 0) ⌝ }
+{
+    step_there(s, place(y, i))
 }
 
 // The instruction that stands at a place.

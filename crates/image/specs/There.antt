@@ -1,0 +1,25 @@
+-- Records that are there: each byte of them is one of the bytes that were read.
+use mathlib.Core.Path.{_≡_}
+use mathlib.Core.List.{List}
+use Prim.Native.Nat.{ℕ, _≤_}
+use lib.ListN.{length}
+use Rattle.image.specs.Image.{placeIn}
+use Rattle.image.specs.declared.section.Section.{Section}
+use Rattle.image.specs.declared.section.RouteLayout.{RouteLayout}
+use Rattle.image.specs.declared.read.ReadRoutes.{ReadRoutes}
+use Rattle.image.specs.declared.read.ReadRoutes.the-variants.{Read as Routed, Refused as NotRouted}
+
+-- all records of a section, w bytes each
+abbrev pub Holds : List ℕ → Section → ℕ → Type 0
+Holds l y w = (y .width ≡ w) × (placeIn y (y .count) ≤ length l)
+
+-- all of the three sections of routes
+pub record RoutesThere (l : List ℕ) (y : RouteLayout) : Type 0 where
+  pub routes-there : Holds l (y .routes) 20
+  pub paths-there : Holds l (y .paths) 13
+  pub steps-there : Holds l (y .steps) 9
+
+-- those of routes that were read
+abbrev pub ReadThere : List ℕ → ReadRoutes → Type 0
+ReadThere l (Routed y) = RoutesThere l y
+ReadThere l (NotRouted e) = Unit {0}
