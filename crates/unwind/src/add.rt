@@ -20,6 +20,7 @@ ghost use mathlib.Core.Path.{_≡_};
 ghost use mathlib.Core.Bool.{true};
 ghost use Rattle.image.specs.Image.{routesIn};
 ghost use Rattle.image.specs.Accepted.{AcceptedRoutes};
+ghost use Rattle.image.specs.There.{RoutesThere};
 ghost use Rattle.graph.specs.Words.{heldIn};
 ghost use Rattle.graph.specs.WellFormed.{wellFormed};
 ghost use Rattle.addition.specs.Add.{addRoutes};
@@ -45,7 +46,7 @@ pub fn add_unwind_routes(g: &mut Words, s: &[u8], h: &mut Hops) -> AddedRoutes
 
 // To a graph, and routes that were read.
 fn add_read(g: &mut Words, s: &[u8], y: RouteLayout, h: &mut Hops) -> AddedRoutes
-    requires { ⌜ (wellFormed (heldIn (now g)) ≡ true) × AcceptedRoutes (routesIn (now s) y) ⌝ }
+    requires { ⌜ (wellFormed (heldIn (now g)) ≡ true) × AcceptedRoutes (routesIn (now s) y) × RoutesThere (now s) y ⌝ }
     ensures { λ r. ⌜ Adds (routesIn (now (s .entry)) y) (now (g .entry)) (now (g .exit)) (now (h .entry)) (now (h .exit)) r ⌝ }
 {
     let built = built_count(g);

@@ -12,8 +12,8 @@ use graph::store::Words;
 use graph::store::blocks::block_at;
 use graph::store::table::table_at;
 use graph::store::table::table_count;
-use image::access::path_at;
-use image::access::route_at;
+use crate::routes::path_of;
+use image::access::route_in;
 use image::section::RouteLayout;
 ghost use mathlib.Core.Path.{_≡_};
 ghost use mathlib.Core.Bool.{_&&_};
@@ -24,6 +24,7 @@ ghost use lib.ListN.{length};
 ghost use Rattle.image.specs.Image.{routesIn};
 ghost use Rattle.image.specs.Deal.{UnwindPath, routesOf};
 ghost use Rattle.image.specs.Accepted.{AcceptedRoutes};
+ghost use Rattle.image.specs.There.{RoutesThere};
 ghost use Rattle.graph.specs.Graph.{block};
 ghost use Rattle.graph.specs.Words.{heldIn};
 ghost use Rattle.graph.specs.Error.{checkOf};
@@ -36,7 +37,7 @@ ghost use Rattle.addition.specs.Add.{leadCheck, rangeLeads, routeCheck};
 
 // The first refusal among those of the routes. The scan carries along where a route's paths and their steps start.
 pub fn check_routes(g: &Words, built: usize, s: &[u8], y: RouteLayout) -> Checked
-    requires { ⌜ Stands (heldIn (now g) .graph) × Built (heldIn (now g) .graph) built × AcceptedRoutes (routesIn (now s) y) ⌝ }
+    requires { ⌜ Stands (heldIn (now g) .graph) × Built (heldIn (now g) .graph) built × AcceptedRoutes (routesIn (now s) y) × RoutesThere (now s) y ⌝ }
     ensures { λ r. ⌜ checkOf r ≡ checks (routeCheck (heldIn (now (g .entry)) .graph) (routesOf (routesIn (now (s .entry)) y))) (length (routesOf (routesIn (now (s .entry)) y))) ⌝ }
 {
     let end = code_end(g);
@@ -49,7 +50,7 @@ pub fn check_routes(g: &Words, built: usize, s: &[u8], y: RouteLayout) -> Checke
         let Checked::Clear = found else {
             return found;
         };
-        let size = route_at(s, all, r).paths;
+        let size = route_in(s, all, r).paths;
         step = steps_behind(s, y, path, size, step);
         path += size;
     }
@@ -67,10 +68,10 @@ fn check_route(
     path: usize,
     step: usize,
 ) -> Checked
-    requires { ⌜ Stands (heldIn (now g) .graph) × Built (heldIn (now g) .graph) built × («code_end» ≡ codeEnd (heldIn (now g) .graph .table)) × Placed (routesIn (now s) y) r path step ⌝ }
+    requires { ⌜ Stands (heldIn (now g) .graph) × Built (heldIn (now g) .graph) built × («code_end» ≡ codeEnd (heldIn (now g) .graph .table)) × Placed (routesIn (now s) y) r path step × RoutesThere (now s) y ⌝ }
     ensures { λ c. ⌜ checkOf c ≡ routeCheck (heldIn (now (g .entry)) .graph) (routesOf (routesIn (now (s .entry)) y)) r ⌝ }
 {
-    let route = route_at(s, y.routes, r);
+    let route = route_in(s, y.routes, r);
     let start = route.start;
     let end = route.end;
     let found = check_range(g, code_end, start, end);
@@ -99,12 +100,12 @@ pub fn check_lead(g: &Words, built: usize, hints: &[u16], a: u64) -> Checked
 
 // Where the steps of the path behind the n paths from `path` on start, if theirs start at `step`.
 fn steps_behind(s: &[u8], y: RouteLayout, path: usize, n: usize, step: usize) -> usize
-    requires { ⌜ AcceptedRoutes (routesIn (now s) y) × (path + n ≤ length (routesIn (now s) y .paths)) × (step ≡ stepsBefore (routesIn (now s) y) path) ⌝ }
+    requires { ⌜ AcceptedRoutes (routesIn (now s) y) × (path + n ≤ length (routesIn (now s) y .paths)) × (step ≡ stepsBefore (routesIn (now s) y) path) × RoutesThere (now s) y ⌝ }
     ensures { λ r. ⌜ r ≡ stepsBefore (routesIn (now (s .entry)) y) (path + n) ⌝ }
 {
     let mut next = step;
     for k in 0..n {
-        next += path_at(s, y.paths, path + k).steps;
+        next += path_of(s, y, path + k).steps;
     }
     next
 }

@@ -8,6 +8,7 @@ pub mod hops;
 mod node_checks;
 mod part;
 mod place;
+mod routes;
 mod sides;
 mod slots;
 mod tries;

@@ -5,14 +5,15 @@ use crate::tries::store::node_at;
 use graph::error::Checked;
 use graph::resume::HANDLER;
 use graph::store::Words;
-use image::access::path_at;
-use image::access::step_at;
+use crate::routes::path_of;
+use crate::routes::step_of;
 use image::section::RouteLayout;
 ghost use mathlib.Core.Path.{_≡_};
 ghost use mathlib.Core.List.{List};
 ghost use Prim.Native.Nat.{ℕ, _+_, _<_};
 ghost use Rattle.image.specs.Image.{routesIn};
 ghost use Rattle.image.specs.Deal.{endOf};
+ghost use Rattle.image.specs.There.{RoutesThere};
 ghost use Rattle.graph.specs.Words.{heldIn};
 ghost use Rattle.graph.specs.Error.{checkOf};
 ghost use Rattle.graph.specs.Fold.{checks};
@@ -33,7 +34,7 @@ pub fn check_nodes(
     ends: &[u16],
     n: usize,
 ) -> Checked
-    requires { ⌜ Stands (heldIn (now g) .graph) × Built (heldIn (now g) .graph) built ⌝ }
+    requires { ⌜ Stands (heldIn (now g) .graph) × Built (heldIn (now g) .graph) built × RoutesThere (now s) y ⌝ }
     ensures { λ r. ⌜ ((edges : List ℕ) → checkOf r ≡ checks (λ i. nodeCheck (heldIn (now (g .entry)) .graph) (nodeAt (nodesIn (routesIn (now (s .entry)) y) (now (nodes .entry)) edges (now (ends .entry)) n) i)) n) ⌝ }
 {
     for i in 0..n {
@@ -56,7 +57,7 @@ fn check_node(
     ends: &[u16],
     i: usize,
 ) -> Checked
-    requires { ⌜ Stands (heldIn (now g) .graph) × Built (heldIn (now g) .graph) built ⌝ }
+    requires { ⌜ Stands (heldIn (now g) .graph) × Built (heldIn (now g) .graph) built × RoutesThere (now s) y ⌝ }
     ensures { λ r. ⌜ ((edges : List ℕ) → checkOf r ≡ nodeCheck (heldIn (now (g .entry)) .graph) (nodeIn (routesIn (now (s .entry)) y) edges (now (ends .entry)) (recordIn (now (nodes .entry)) i))) ⌝ }
 {
     let x = node_at(nodes, i);
@@ -76,13 +77,13 @@ fn check_funclet(
     y: RouteLayout,
     f: usize,
 ) -> Checked
-    requires { ⌜ Stands (heldIn (now g) .graph) × Built (heldIn (now g) .graph) built ⌝ }
+    requires { ⌜ Stands (heldIn (now g) .graph) × Built (heldIn (now g) .graph) built × RoutesThere (now s) y ⌝ }
     ensures { λ r. ⌜ checkOf r ≡ funcletCheck (heldIn (now (g .entry)) .graph) (funcletIn (routesIn (now (s .entry)) y) f) ⌝ }
 {
     if f == 0 {
         return Checked::Clear;
     }
-    check_lead(g, built, hints, step_at(s, y.steps, f - 1).value)
+    check_lead(g, built, hints, step_of(s, y, f - 1).value)
 }
 
 // The n ends from `first` on.
@@ -96,7 +97,7 @@ fn check_ends(
     first: usize,
     n: usize,
 ) -> Checked
-    requires { ⌜ Stands (heldIn (now g) .graph) × Built (heldIn (now g) .graph) built × (first < 65536) × (n < 65536) ⌝ }
+    requires { ⌜ Stands (heldIn (now g) .graph) × Built (heldIn (now g) .graph) built × (first < 65536) × (n < 65536) × RoutesThere (now s) y ⌝ }
     ensures { λ r. ⌜ checkOf r ≡ checks (λ k. endCheck (heldIn (now (g .entry)) .graph) (endOf (pathRecord (routesIn (now (s .entry)) y) (branchIn (now (ends .entry)) (first + k) .what)))) n ⌝ }
 {
     for k in 0..n {
@@ -110,10 +111,10 @@ fn check_ends(
 
 // The end of path p.
 fn check_end(g: &Words, built: usize, hints: &[u16], s: &[u8], y: RouteLayout, p: usize) -> Checked
-    requires { ⌜ Stands (heldIn (now g) .graph) × Built (heldIn (now g) .graph) built ⌝ }
+    requires { ⌜ Stands (heldIn (now g) .graph) × Built (heldIn (now g) .graph) built × RoutesThere (now s) y ⌝ }
     ensures { λ r. ⌜ checkOf r ≡ endCheck (heldIn (now (g .entry)) .graph) (endOf (pathRecord (routesIn (now (s .entry)) y) p)) ⌝ }
 {
-    let path = path_at(s, y.paths, p);
+    let path = path_of(s, y, p);
     if path.end == HANDLER {
         return check_lead(g, built, hints, path.handler);
     }

@@ -14,7 +14,7 @@ use graph::store::Words;
 use graph::store::blocks::block_count;
 use graph::store::edges::edge_at;
 use graph::store::edges::edge_count;
-use image::access::step_at;
+use crate::routes::step_of;
 use image::section::RouteLayout;
 ghost use mathlib.Core.Path.{_≡_};
 ghost use mathlib.Core.Bool.{true, not, _&&_};
@@ -24,6 +24,7 @@ ghost use lib.ListN.{length};
 ghost use Rattle.image.specs.Image.{routesIn};
 ghost use Rattle.image.specs.Deal.{routesOf};
 ghost use Rattle.image.specs.Accepted.{AcceptedRoutes};
+ghost use Rattle.image.specs.There.{RoutesThere};
 ghost use Rattle.graph.specs.Graph.{edge};
 ghost use Rattle.graph.specs.Words.{heldIn};
 ghost use Rattle.graph.specs.Search.{Linked, Roomy, Follows};
@@ -57,13 +58,13 @@ pub fn funclet_entries(
     s: &[u8],
     y: RouteLayout,
 ) -> [u64; 16]
-    requires { ⌜ Stands (heldIn (now g) .graph) × Built (heldIn (now g) .graph) built × (0 < length (routesIn (now s) y .steps) → 0 < length (heldIn (now g) .graph .table)) × AcceptedRoutes (routesIn (now s) y) ⌝ }
+    requires { ⌜ Stands (heldIn (now g) .graph) × Built (heldIn (now g) .graph) built × (0 < length (routesIn (now s) y .steps) → 0 < length (heldIn (now g) .graph .table)) × AcceptedRoutes (routesIn (now s) y) × RoutesThere (now s) y ⌝ }
     ensures { λ r. ⌜ Barriers (heldIn (now (g .entry)) .graph) (routesOf (routesIn (now (s .entry)) y)) r ⌝ }
 {
     let n = y.steps.count as usize;
     let mut set = [0u64; 16];
     for j in 0..n {
-        let x = step_at(s, y.steps, j);
+        let x = step_of(s, y, j);
         if x.code == FUNCLET {
             put_entry(g, built, hints, x.value, &mut set);
         }

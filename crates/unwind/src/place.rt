@@ -13,7 +13,7 @@ use graph::error::AddressBuildError;
 use graph::error::Checked;
 use graph::store::Words;
 use graph::store::blocks::block_count;
-use image::access::step_at;
+use crate::routes::step_of;
 use image::section::RouteLayout;
 ghost use mathlib.Core.Path.{_≡_};
 ghost use mathlib.Core.Bool.{true};
@@ -21,6 +21,7 @@ ghost use Prim.Native.Nat.{ℕ, _+_, _*_, _≤_, _<_};
 ghost use lib.ListN.{length, getD};
 ghost use Rattle.image.specs.Refusal.{clear};
 ghost use Rattle.image.specs.Image.{routesIn};
+ghost use Rattle.image.specs.There.{RoutesThere};
 ghost use Rattle.graph.specs.Words.{heldIn};
 ghost use Rattle.graph.specs.Error.{checkOf};
 ghost use Rattle.graph.specs.Fold.{count};
@@ -56,7 +57,7 @@ pub fn place_nodes(
     returns: &mut [u64],
     firsts: &mut [u16],
 ) -> Checked
-    requires { ⌜ Ready (heldIn (now g) .graph) (routesIn (now s) y) built (now head) (now next) (now barriers) (now returners) × ((i : ℕ) → i < n → funcletCheck (heldIn (now g) .graph) (funcletAt (routesIn (now s) y) (now nodes) i) ≡ clear) × Slots n (now bases) (now entries) (now parts) (now returns) × Firsts (heldIn (now g) .graph) (routesIn (now s) y) (now nodes) (now firsts) 0 × (n ≤ 544) ⌝ }
+    requires { ⌜ Ready (heldIn (now g) .graph) (routesIn (now s) y) built (now head) (now next) (now barriers) (now returners) × ((i : ℕ) → i < n → funcletCheck (heldIn (now g) .graph) (funcletAt (routesIn (now s) y) (now nodes) i) ≡ clear) × Slots n (now bases) (now entries) (now parts) (now returns) × Firsts (heldIn (now g) .graph) (routesIn (now s) y) (now nodes) (now firsts) 0 × (n ≤ 544) × RoutesThere (now s) y ⌝ }
     ensures { λ r. ⌜ PlacedAll (heldIn (now (g .entry)) .graph) (routesIn (now (s .entry)) y) (now (nodes .entry)) n (now (bases .exit)) (now (entries .exit)) (now (parts .exit)) (now (returns .exit)) (checkOf r) ⌝ }
 {
     let mut base = block_count(g);
@@ -107,7 +108,7 @@ fn place_node(
     returns: &mut [u64],
     firsts: &mut [u16],
 ) -> usize
-    requires { ⌜ Ready (heldIn (now g) .graph) (routesIn (now s) y) built (now head) (now next) (now barriers) (now returners) × ((j : ℕ) → j ≤ i → funcletCheck (heldIn (now g) .graph) (funcletAt (routesIn (now s) y) (now nodes) j) ≡ clear) × Slots (i + 1) (now bases) (now entries) (now parts) (now returns) × Firsts (heldIn (now g) .graph) (routesIn (now s) y) (now nodes) (now firsts) i × (i < 544) × (base ≤ 1024) ⌝ }
+    requires { ⌜ Ready (heldIn (now g) .graph) (routesIn (now s) y) built (now head) (now next) (now barriers) (now returners) × ((j : ℕ) → j ≤ i → funcletCheck (heldIn (now g) .graph) (funcletAt (routesIn (now s) y) (now nodes) j) ≡ clear) × Slots (i + 1) (now bases) (now entries) (now parts) (now returns) × Firsts (heldIn (now g) .graph) (routesIn (now s) y) (now nodes) (now firsts) i × (i < 544) × (base ≤ 1024) × RoutesThere (now s) y ⌝ }
     ensures { λ r. ⌜ Placing (heldIn (now (g .entry)) .graph) (routesIn (now (s .entry)) y) (now (nodes .entry)) i base r (now (bases .entry)) (now (entries .entry)) (now (parts .entry)) (now (returns .entry)) (now (bases .exit)) (now (entries .exit)) (now (parts .exit)) (now (returns .exit)) × Firsts (heldIn (now (g .entry)) .graph) (routesIn (now (s .entry)) y) (now (nodes .entry)) (now (firsts .exit)) (i + 1) ⌝ }
 {
     let f = node_at(nodes, i).funclet;
@@ -157,13 +158,13 @@ fn slot_of(f: usize, entry: usize) -> usize
 
 // The entry of the funclet that step f - 1 names; 0 at the root of a route.
 fn entry_of(g: &Words, built: usize, hints: &[u16], s: &[u8], y: RouteLayout, f: usize) -> usize
-    requires { ⌜ Stands (heldIn (now g) .graph) × Built (heldIn (now g) .graph) built ⌝ }
+    requires { ⌜ Stands (heldIn (now g) .graph) × Built (heldIn (now g) .graph) built × RoutesThere (now s) y ⌝ }
     ensures { λ r. ⌜ r ≡ entryBlock (heldIn (now (g .entry)) .graph) (funcletIn (routesIn (now (s .entry)) y) f) ⌝ }
 {
     if f == 0 {
         return 0;
     }
-    match leading_block(g, built, hints, step_at(s, y.steps, f - 1).value) {
+    match leading_block(g, built, hints, step_of(s, y, f - 1).value) {
         Lead::Leads(b) => b,
         Lead::Inside => 0,
         Lead::Absent => 0,

@@ -12,10 +12,11 @@ use crate::tries::intern::intern;
 use crate::tries::paths::Group;
 use crate::tries::paths::path_starts;
 use crate::tries::store::Counts;
-use image::access::route_at;
+use image::access::route_in;
 use image::section::RouteLayout;
 ghost use Rattle.image.specs.Image.{routesIn};
 ghost use Rattle.image.specs.Accepted.{AcceptedRoutes};
+ghost use Rattle.image.specs.There.{RoutesThere};
 ghost use Rattle.unwind.specs.Routed.{Scratch, TriesIn};
 
 // The nodes of all routes, and the root of each; how much is stored of them.
@@ -29,7 +30,7 @@ pub fn intern_routes(
     stack: &mut [u16],
     roots: &mut [u16],
 ) -> Counts
-    requires { ⌜ AcceptedRoutes (routesIn (now s) y) × Scratch (routesIn (now s) y) (now starts) (now nodes) (now edges) (now ends) (now stack) (now roots) ⌝ }
+    requires { ⌜ AcceptedRoutes (routesIn (now s) y) × Scratch (routesIn (now s) y) (now starts) (now nodes) (now edges) (now ends) (now stack) (now roots) × RoutesThere (now s) y ⌝ }
     ensures { λ r. ⌜ TriesIn (routesIn (now (s .entry)) y) (now (nodes .exit)) (now (edges .exit)) (now (ends .exit)) (now (roots .exit)) r ⌝ }
 {
     path_starts(s, y, starts);
@@ -42,7 +43,7 @@ pub fn intern_routes(
     let mut seen = [0u64; 16];
     let mut first = 0;
     for r in 0..n {
-        let count = route_at(s, y.routes, r).paths;
+        let count = route_in(s, y.routes, r).paths;
         let group = Group {
             route: r,
             first,

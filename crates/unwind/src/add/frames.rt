@@ -10,6 +10,7 @@ use image::section::RouteLayout;
 ghost use mathlib.Core.Path.{_≡_};
 ghost use mathlib.Core.Bool.{true};
 ghost use Rattle.image.specs.Image.{routesIn};
+ghost use Rattle.image.specs.There.{RoutesThere};
 ghost use Rattle.graph.specs.Words.{heldIn};
 ghost use Rattle.unwind.specs.Answers.{Adds, RoutesChecked};
 ghost use Rattle.unwind.specs.Frames.{Few, Small};
@@ -22,7 +23,7 @@ pub fn add_checked(
     y: RouteLayout,
     h: &mut Hops,
 ) -> AddedRoutes
-    requires { ⌜ RoutesChecked (heldIn (now g)) built (routesIn (now s) y) ⌝ }
+    requires { ⌜ RoutesChecked (heldIn (now g)) built (routesIn (now s) y) × RoutesThere (now s) y ⌝ }
     ensures { λ r. ⌜ Adds (routesIn (now (s .entry)) y) (now (g .entry)) (now (g .exit)) (now (h .entry)) (now (h .exit)) r ⌝ }
 {
     if !is_small(g) {
@@ -53,7 +54,7 @@ fn is_few(y: RouteLayout, steps: u32, paths: u32, routes: u32) -> bool
 
 // Few routes, to a small graph.
 fn add_tiny(g: &mut Words, built: usize, s: &[u8], y: RouteLayout, h: &mut Hops) -> AddedRoutes
-    requires { ⌜ RoutesChecked (heldIn (now g)) built (routesIn (now s) y) × Few y 8 8 4 × Small (heldIn (now g) .graph) 64 256 ⌝ }
+    requires { ⌜ RoutesChecked (heldIn (now g)) built (routesIn (now s) y) × Few y 8 8 4 × Small (heldIn (now g) .graph) 64 256 × RoutesThere (now s) y ⌝ }
     ensures { λ r. ⌜ Adds (routesIn (now (s .entry)) y) (now (g .entry)) (now (g .exit)) (now (h .entry)) (now (h .exit)) r ⌝ }
 {
     let mut starts = [0u16; 9];
@@ -107,7 +108,7 @@ fn add_tiny(g: &mut Words, built: usize, s: &[u8], y: RouteLayout, h: &mut Hops)
 
 // More of them.
 fn add_small(g: &mut Words, built: usize, s: &[u8], y: RouteLayout, h: &mut Hops) -> AddedRoutes
-    requires { ⌜ RoutesChecked (heldIn (now g)) built (routesIn (now s) y) × Few y 64 32 8 × Small (heldIn (now g) .graph) 64 256 ⌝ }
+    requires { ⌜ RoutesChecked (heldIn (now g)) built (routesIn (now s) y) × Few y 64 32 8 × Small (heldIn (now g) .graph) 64 256 × RoutesThere (now s) y ⌝ }
     ensures { λ r. ⌜ Adds (routesIn (now (s .entry)) y) (now (g .entry)) (now (g .exit)) (now (h .entry)) (now (h .exit)) r ⌝ }
 {
     let mut starts = [0u16; 33];
@@ -161,7 +162,7 @@ fn add_small(g: &mut Words, built: usize, s: &[u8], y: RouteLayout, h: &mut Hops
 
 // Any routes, to any graph.
 fn add_full(g: &mut Words, built: usize, s: &[u8], y: RouteLayout, h: &mut Hops) -> AddedRoutes
-    requires { ⌜ RoutesChecked (heldIn (now g)) built (routesIn (now s) y) ⌝ }
+    requires { ⌜ RoutesChecked (heldIn (now g)) built (routesIn (now s) y) × RoutesThere (now s) y ⌝ }
     ensures { λ r. ⌜ Adds (routesIn (now (s .entry)) y) (now (g .entry)) (now (g .exit)) (now (h .entry)) (now (h .exit)) r ⌝ }
 {
     let mut starts = [0u16; 129];

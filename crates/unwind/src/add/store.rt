@@ -27,6 +27,7 @@ ghost use lib.ListN.{length};
 ghost use Rattle.image.specs.Refusal.{refusal, clear, _then_, unless};
 ghost use Rattle.image.specs.Image.{routesIn};
 ghost use Rattle.image.specs.Deal.{routesOf};
+ghost use Rattle.image.specs.There.{RoutesThere};
 ghost use Rattle.graph.specs.Words.{heldIn};
 ghost use Rattle.graph.specs.Error.{checkOf};
 ghost use Rattle.graph.specs.Answers.{Laid};
@@ -56,7 +57,7 @@ pub fn add_placed(
     stored: Counts,
     exits: &mut [u16],
 ) -> AddedRoutes
-    requires { ⌜ AtHand (heldIn (now g)) (routesIn (now s) y) (now nodes) (now edges) (now ends) (now roots) (now head) (now next) (now bases) (now heads) (now parts) (now returns) (now guards) (now landings) (now exits) stored ⌝ }
+    requires { ⌜ AtHand (heldIn (now g)) (routesIn (now s) y) (now nodes) (now edges) (now ends) (now roots) (now head) (now next) (now bases) (now heads) (now parts) (now returns) (now guards) (now landings) (now exits) stored × RoutesThere (now s) y ⌝ }
     ensures { λ r. ⌜ Sized (routesIn (now (s .entry)) y) (now (g .entry)) (now (g .exit)) (now (h .entry)) (now (h .exit)) r ⌝ }
 {
     if let Checked::Refused(e) = check_sizes(
@@ -123,7 +124,7 @@ fn check_sizes(
     stored: Counts,
     exits: &mut [u16],
 ) -> Checked
-    requires { ⌜ AtHand (heldIn (now g)) (routesIn (now s) y) (now nodes) (now edges) (now ends) (now roots) (now head) (now next) (now bases) (now heads) (now parts) (now returns) (now guards) (now landings) (now exits) stored ⌝ }
+    requires { ⌜ AtHand (heldIn (now g)) (routesIn (now s) y) (now nodes) (now edges) (now ends) (now roots) (now head) (now next) (now bases) (now heads) (now parts) (now returns) (now guards) (now landings) (now exits) stored × RoutesThere (now s) y ⌝ }
     ensures { λ r. ⌜ checkOf r ≡ sizeCheck (addition (heldIn (now (g .entry)) .graph) (routesOf (routesIn (now (s .entry)) y))) ⌝ }
 {
     let copies = clone_edge_count(g, head, next, bases, parts, stored.nodes);
@@ -205,7 +206,7 @@ fn store_addition(
     stored: Counts,
     exits: &mut [u16],
 )
-    requires { ⌜ AtHand (heldIn (now g)) (routesIn (now s) y) (now nodes) (now edges) (now ends) (now roots) (now head) (now next) (now bases) (now heads) (now parts) (now returns) (now guards) (now landings) (now exits) stored × (sizeCheck (addition (heldIn (now g) .graph) (routesOf (routesIn (now s) y))) ≡ clear) ⌝ }
+    requires { ⌜ AtHand (heldIn (now g)) (routesIn (now s) y) (now nodes) (now edges) (now ends) (now roots) (now head) (now next) (now bases) (now heads) (now parts) (now returns) (now guards) (now landings) (now exits) stored × (sizeCheck (addition (heldIn (now g) .graph) (routesOf (routesIn (now s) y))) ≡ clear) × RoutesThere (now s) y ⌝ }
     ensures { λ _. ⌜ Laid (now (g .entry)) (now (g .exit)) (addition (heldIn (now (g .entry)) .graph) (routesOf (routesIn (now (s .entry)) y)) .graph) × HopsLaid (routesIn (now (s .entry)) y) (now (h .entry)) (now (h .exit)) (addition (heldIn (now (g .entry)) .graph) (routesOf (routesIn (now (s .entry)) y)) .hops) ⌝ }
 {
     add_hops(

@@ -8,6 +8,7 @@ ghost use Prim.Native.Nat.{_+_, _*_, _/_, _≤_, _<_};
 ghost use lib.ListN.{length, getD};
 ghost use Rattle.image.specs.Image.{routesIn};
 ghost use Rattle.image.specs.Accepted.{AcceptedRoutes};
+ghost use Rattle.image.specs.There.{RoutesThere};
 ghost use Rattle.graph.specs.Fold.{flat};
 ghost use Rattle.unwind.specs.Nodes.{recordIn};
 ghost use Rattle.unwind.specs.Gather.{NodeFits, AllFit, routeRecords, returnRecords, Pooled, Adds};
@@ -34,7 +35,7 @@ pub fn gather_block(
     b: usize,
     exits: &mut [u16],
 ) -> usize
-    requires { ⌜ AcceptedRoutes (routesIn (now s) y) × TriesIn (routesIn (now s) y) (now nodes) (now edges) (now ends) (now roots) stored × (b < 65536) × (2 * (length (now edges) + length (now ends)) ≤ length (now exits)) × Originals (now bases) (now returns) (now originals) (stored .nodes) (b / 64) listed ⌝ }
+    requires { ⌜ AcceptedRoutes (routesIn (now s) y) × TriesIn (routesIn (now s) y) (now nodes) (now edges) (now ends) (now roots) stored × (b < 65536) × (2 * (length (now edges) + length (now ends)) ≤ length (now exits)) × Originals (now bases) (now returns) (now originals) (stored .nodes) (b / 64) listed × RoutesThere (now s) y ⌝ }
     ensures { λ r. ⌜ BlockHeld (routesIn (now (s .entry)) y) b (blockRecords (routesIn (now (s .entry)) y) b (now (nodes .entry)) (now (edges .entry)) (now (ends .entry)) (now (heads .entry)) (now (landings .entry)) (now (roots .entry)) (now (guards .entry)) (now (bases .entry)) (now (returns .entry)) stored) (now (edges .entry)) (now (ends .entry)) (now (exits .entry)) (now (exits .exit)) r ⌝ }
 {
     let count = y.routes.count as usize;
@@ -86,7 +87,7 @@ fn gather_routes(
     exits: &mut [u16],
     held: usize,
 ) -> usize
-    requires { ⌜ Pooled (routesIn (now s) y) b (now edges) (now ends) (now heads) (now landings) (now exits) held × (b < 65536) × (count < 65536) × AllFit (now nodes) (now edges) (now ends) (λ r. getD (now roots) r 0) count ⌝ }
+    requires { ⌜ Pooled (routesIn (now s) y) b (now edges) (now ends) (now heads) (now landings) (now exits) held × (b < 65536) × (count < 65536) × AllFit (now nodes) (now edges) (now ends) (λ r. getD (now roots) r 0) count × RoutesThere (now s) y ⌝ }
     ensures { λ r. ⌜ Adds (routesIn (now (s .entry)) y) b (now (edges .entry)) (now (ends .entry)) (now (heads .entry)) (now (landings .entry)) (now (exits .entry)) held (flat (routeRecords (routesIn (now (s .entry)) y) b (now (edges .entry)) (now (ends .entry)) (now (heads .entry)) (now (landings .entry)) (now (nodes .entry)) (now (roots .entry)) (now (guards .entry))) count) (now (exits .exit)) r ⌝ }
 {
     let mut n = held;
@@ -126,7 +127,7 @@ fn gather_route(
     exits: &mut [u16],
     held: usize,
 ) -> usize
-    requires { ⌜ Pooled (routesIn (now s) y) b (now edges) (now ends) (now heads) (now landings) (now exits) held × (b < 65536) × (r < 65536) × NodeFits (now edges) (now ends) (recordIn (now nodes) (getD (now roots) r 0)) ⌝ }
+    requires { ⌜ Pooled (routesIn (now s) y) b (now edges) (now ends) (now heads) (now landings) (now exits) held × (b < 65536) × (r < 65536) × NodeFits (now edges) (now ends) (recordIn (now nodes) (getD (now roots) r 0)) × RoutesThere (now s) y ⌝ }
     ensures { λ n. ⌜ Adds (routesIn (now (s .entry)) y) b (now (edges .entry)) (now (ends .entry)) (now (heads .entry)) (now (landings .entry)) (now (exits .entry)) held (routeRecords (routesIn (now (s .entry)) y) b (now (edges .entry)) (now (ends .entry)) (now (heads .entry)) (now (landings .entry)) (now (nodes .entry)) (now (roots .entry)) (now (guards .entry)) r) (now (exits .exit)) n ⌝ }
 {
     if in_set(guards, r, b) {
@@ -152,7 +153,7 @@ fn gather_nodes(
     exits: &mut [u16],
     held: usize,
 ) -> usize
-    requires { ⌜ Pooled (routesIn (now s) y) b (now edges) (now ends) (now heads) (now landings) (now exits) held × (b < 65536) × AllFit (now nodes) (now edges) (now ends) (λ k. getD (now originals) k 0) count ⌝ }
+    requires { ⌜ Pooled (routesIn (now s) y) b (now edges) (now ends) (now heads) (now landings) (now exits) held × (b < 65536) × AllFit (now nodes) (now edges) (now ends) (λ k. getD (now originals) k 0) count × RoutesThere (now s) y ⌝ }
     ensures { λ r. ⌜ Adds (routesIn (now (s .entry)) y) b (now (edges .entry)) (now (ends .entry)) (now (heads .entry)) (now (landings .entry)) (now (exits .entry)) held (flat (λ k. returnRecords (routesIn (now (s .entry)) y) b (now (edges .entry)) (now (ends .entry)) (now (heads .entry)) (now (landings .entry)) (now (nodes .entry)) (now (returns .entry)) (getD (now (originals .entry)) k 0)) count) (now (exits .exit)) r ⌝ }
 {
     let mut n = held;
@@ -191,7 +192,7 @@ fn gather_returned(
     exits: &mut [u16],
     held: usize,
 ) -> usize
-    requires { ⌜ Pooled (routesIn (now s) y) b (now edges) (now ends) (now heads) (now landings) (now exits) held × (b < 65536) × (i < 65536) × NodeFits (now edges) (now ends) (recordIn (now nodes) i) ⌝ }
+    requires { ⌜ Pooled (routesIn (now s) y) b (now edges) (now ends) (now heads) (now landings) (now exits) held × (b < 65536) × (i < 65536) × NodeFits (now edges) (now ends) (recordIn (now nodes) i) × RoutesThere (now s) y ⌝ }
     ensures { λ r. ⌜ Adds (routesIn (now (s .entry)) y) b (now (edges .entry)) (now (ends .entry)) (now (heads .entry)) (now (landings .entry)) (now (exits .entry)) held (returnRecords (routesIn (now (s .entry)) y) b (now (edges .entry)) (now (ends .entry)) (now (heads .entry)) (now (landings .entry)) (now (nodes .entry)) (now (returns .entry)) i) (now (exits .exit)) r ⌝ }
 {
     if in_set(returns, i, b) {

@@ -10,6 +10,7 @@ use image::section::RouteLayout;
 ghost use Prim.Native.Nat.{_+_, _*_, _≤_};
 ghost use lib.ListN.{length};
 ghost use Rattle.image.specs.Image.{routesIn};
+ghost use Rattle.image.specs.There.{RoutesThere};
 ghost use Rattle.unwind.specs.Nodes.{BranchSmall};
 ghost use Rattle.unwind.specs.Entries.{Ordered, Compared, PlaceOf, EntryPut, Shifted};
 
@@ -25,7 +26,7 @@ pub enum Place {
 // Puts x among n entries, and answers how many there are then. Of two with the same end and the same tags the one whose
 // calls stand first is kept.
 pub fn put_entry(s: &[u8], y: RouteLayout, entries: &mut [u16], n: usize, x: Branch) -> usize
-    requires { ⌜ Ordered (routesIn (now s) y) (now entries) n × BranchSmall x × (3 * n + 3 ≤ length (now entries)) ⌝ }
+    requires { ⌜ Ordered (routesIn (now s) y) (now entries) n × BranchSmall x × (3 * n + 3 ≤ length (now entries)) × RoutesThere (now s) y ⌝ }
     ensures { λ r. ⌜ EntryPut (routesIn (now (s .entry)) y) (now (entries .entry)) n x (now (entries .exit)) r ⌝ }
 {
     match entry_place(s, y, entries, n, x) {
@@ -44,7 +45,7 @@ pub fn put_entry(s: &[u8], y: RouteLayout, entries: &mut [u16], n: usize, x: Bra
 }
 
 fn entry_place(s: &[u8], y: RouteLayout, entries: &[u16], n: usize, x: Branch) -> Place
-    requires { ⌜ Ordered (routesIn (now s) y) (now entries) n × BranchSmall x ⌝ }
+    requires { ⌜ Ordered (routesIn (now s) y) (now entries) n × BranchSmall x × RoutesThere (now s) y ⌝ }
     ensures { λ r. ⌜ PlaceOf (routesIn (now (s .entry)) y) (now (entries .entry)) n x r ⌝ }
 {
     let mut lo = 0;
@@ -63,7 +64,7 @@ fn entry_place(s: &[u8], y: RouteLayout, entries: &[u16], n: usize, x: Branch) -
 
 // By end, then by tags.
 fn compare_entries(s: &[u8], y: RouteLayout, a: Branch, b: Branch) -> Order
-    requires { ⌜ BranchSmall a × BranchSmall b ⌝ }
+    requires { ⌜ BranchSmall a × BranchSmall b × RoutesThere (now s) y ⌝ }
     ensures { λ r. ⌜ Compared (routesIn (now (s .entry)) y) a b r ⌝ }
 {
     match compare_numbers(a.what as u64, b.what as u64) {

@@ -10,6 +10,7 @@ ghost use mathlib.Core.Path.{_≡_};
 ghost use Prim.Native.Nat.{_+_, _*_, _≤_, _<_};
 ghost use lib.ListN.{length};
 ghost use Rattle.image.specs.Image.{routesIn};
+ghost use Rattle.image.specs.There.{RoutesThere};
 ghost use Rattle.unwind.specs.Nodes.{recordIn, BranchSmall};
 ghost use Rattle.unwind.specs.Entries.{Ordered};
 ghost use Rattle.unwind.specs.Gather.{EntryTo, endNumber, endExits, recordExits, Gathers, GathersEdges};
@@ -28,7 +29,7 @@ pub fn gather_node(
     exits: &mut [u16],
     held: usize,
 ) -> usize
-    requires { ⌜ Ordered (routesIn (now s) y) (now exits) held × (b < 65536) × (3 * (held + (recordIn (now nodes) i .edges + recordIn (now nodes) i .ends)) ≤ length (now exits)) ⌝ }
+    requires { ⌜ Ordered (routesIn (now s) y) (now exits) held × (b < 65536) × (3 * (held + (recordIn (now nodes) i .edges + recordIn (now nodes) i .ends)) ≤ length (now exits)) × RoutesThere (now s) y ⌝ }
     ensures { λ r. ⌜ Gathers (routesIn (now (s .entry)) y) b (now (exits .entry)) held (recordExits (routesIn (now (s .entry)) y) b (now (edges .entry)) (now (ends .entry)) (now (heads .entry)) (now (landings .entry)) (recordIn (now (nodes .entry)) i)) (now (exits .exit)) r ⌝ }
 {
     let node = node_at(nodes, i);
@@ -47,7 +48,7 @@ fn gather_edges(
     exits: &mut [u16],
     held: usize,
 ) -> usize
-    requires { ⌜ Ordered (routesIn (now s) y) (now exits) held × (first < 65536) × (3 * (held + count) ≤ length (now exits)) ⌝ }
+    requires { ⌜ Ordered (routesIn (now s) y) (now exits) held × (first < 65536) × (3 * (held + count) ≤ length (now exits)) × RoutesThere (now s) y ⌝ }
     ensures { λ r. ⌜ GathersEdges (routesIn (now (s .entry)) y) (now (exits .entry)) held (now (edges .entry)) (now (heads .entry)) first count (now (exits .exit)) r ⌝ }
 {
     let mut n = held;
@@ -71,7 +72,7 @@ fn gather_ends(
     exits: &mut [u16],
     held: usize,
 ) -> usize
-    requires { ⌜ Ordered (routesIn (now s) y) (now exits) held × (first < 65536) × (b < 65536) × (3 * (held + count) ≤ length (now exits)) ⌝ }
+    requires { ⌜ Ordered (routesIn (now s) y) (now exits) held × (first < 65536) × (b < 65536) × (3 * (held + count) ≤ length (now exits)) × RoutesThere (now s) y ⌝ }
     ensures { λ r. ⌜ Gathers (routesIn (now (s .entry)) y) b (now (exits .entry)) held (endExits (routesIn (now (s .entry)) y) b (now (ends .entry)) (now (landings .entry)) first count) (now (exits .exit)) r ⌝ }
 {
     let mut n = held;

@@ -12,6 +12,7 @@ ghost use lib.ListN.{length};
 ghost use Rattle.image.specs.Image.{routesIn};
 ghost use Rattle.image.specs.Deal.{routesOf};
 ghost use Rattle.image.specs.Accepted.{AcceptedRoutes};
+ghost use Rattle.image.specs.There.{RoutesThere};
 ghost use Rattle.graph.specs.Words.{heldIn};
 ghost use Rattle.addition.specs.Ways.{ways, hopsOf};
 ghost use Rattle.unwind.specs.Routed.{TriesIn};
@@ -37,7 +38,7 @@ pub fn count_hops(
     stored: Counts,
     exits: &mut [u16],
 ) -> Sizes
-    requires { ⌜ AcceptedRoutes (routesIn (now s) y) × TriesIn (routesIn (now s) y) (now nodes) (now edges) (now ends) (now roots) stored × Leads (heldIn (now g) .graph) (routesIn (now s) y) (now ends) (now heads) (now landings) stored × Sides (heldIn (now g) .graph) (routesIn (now s) y) (now guards) (now bases) (now returns) stored × PartsIn (heldIn (now g) .graph) (routesIn (now s) y) (now parts) stored × BasesFew (now bases) (stored .nodes) × Bounded (heldIn (now g) .graph) (routesOf (routesIn (now s) y)) × Roomy (now edges) (now ends) (now exits) × (16 * stored .nodes ≤ length (now parts)) × (16 * stored .nodes ≤ length (now returns)) × (16 * length (routesIn (now s) y .routes) ≤ length (now guards)) ⌝ }
+    requires { ⌜ AcceptedRoutes (routesIn (now s) y) × TriesIn (routesIn (now s) y) (now nodes) (now edges) (now ends) (now roots) stored × Leads (heldIn (now g) .graph) (routesIn (now s) y) (now ends) (now heads) (now landings) stored × Sides (heldIn (now g) .graph) (routesIn (now s) y) (now guards) (now bases) (now returns) stored × PartsIn (heldIn (now g) .graph) (routesIn (now s) y) (now parts) stored × BasesFew (now bases) (stored .nodes) × Bounded (heldIn (now g) .graph) (routesOf (routesIn (now s) y)) × Roomy (now edges) (now ends) (now exits) × (16 * stored .nodes ≤ length (now parts)) × (16 * stored .nodes ≤ length (now returns)) × (16 * length (routesIn (now s) y .routes) ≤ length (now guards)) × RoutesThere (now s) y ⌝ }
     ensures { λ r. ⌜ HopsSize (hopsOf (ways (heldIn (now (g .entry)) .graph) (routesOf (routesIn (now (s .entry)) y)))) r ⌝ }
 {
     let blocks = block_count(g);

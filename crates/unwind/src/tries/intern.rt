@@ -16,6 +16,7 @@ ghost use mathlib.Core.Path.{_≡_};
 ghost use Prim.Native.Nat.{suc, _+_, _≤_, _<_};
 ghost use lib.ListN.{length};
 ghost use Rattle.image.specs.Image.{routesIn};
+ghost use Rattle.image.specs.There.{RoutesThere};
 ghost use Rattle.unwind.specs.Nodes.{nodesIn, Stored};
 ghost use Rattle.unwind.specs.Interning.{pathsOf};
 ghost use Rattle.unwind.specs.Laid.{endsList};
@@ -38,7 +39,7 @@ pub fn intern(
     counts: Counts,
     top: usize,
 ) -> Interned
-    requires { ⌜ Grouped (routesIn (now s) y) (now starts) g × Stored (now nodes) (now edges) (now ends) counts × Room (now nodes) (now edges) (now ends) (now stack) counts top (suc (weight (pathsOf (routesIn (now s) y) g))) (weight (pathsOf (routesIn (now s) y) g)) (length (pathsOf (routesIn (now s) y) g)) × Lower (nodesIn (routesIn (now s) y) (now nodes) (now edges) (now ends) (counts .nodes)) × Seen (routesIn (now s) y) (now nodes) (counts .nodes) (now seen) ⌝ }
+    requires { ⌜ Grouped (routesIn (now s) y) (now starts) g × Stored (now nodes) (now edges) (now ends) counts × Room (now nodes) (now edges) (now ends) (now stack) counts top (suc (weight (pathsOf (routesIn (now s) y) g))) (weight (pathsOf (routesIn (now s) y) g)) (length (pathsOf (routesIn (now s) y) g)) × Lower (nodesIn (routesIn (now s) y) (now nodes) (now edges) (now ends) (counts .nodes)) × Seen (routesIn (now s) y) (now nodes) (counts .nodes) (now seen) × RoutesThere (now s) y ⌝ }
     ensures { λ r. ⌜ Interns (routesIn (now (s .entry)) y) g (now (nodes .entry)) (now (edges .entry)) (now (ends .entry)) (now (stack .entry)) counts top (now (nodes .exit)) (now (edges .exit)) (now (ends .exit)) (now (stack .exit)) r × Seen (routesIn (now (s .entry)) y) (now (nodes .exit)) (r .counts .nodes) (now (seen .exit)) ⌝ }
 {
     let mut stored = counts;
@@ -106,7 +107,7 @@ fn close_node(
     top: usize,
     n: usize,
 ) -> Interned
-    requires { ⌜ Grouped (routesIn (now s) y) (now starts) g × Stored (now nodes) (now edges) (now ends) counts × Room (now nodes) (now edges) (now ends) (now stack) counts top 1 n (length (endsList (pathsOf (routesIn (now s) y) g))) × Lower (nodesIn (routesIn (now s) y) (now nodes) (now edges) (now ends) (counts .nodes)) × Seen (routesIn (now s) y) (now nodes) (counts .nodes) (now seen) ⌝ }
+    requires { ⌜ Grouped (routesIn (now s) y) (now starts) g × Stored (now nodes) (now edges) (now ends) counts × Room (now nodes) (now edges) (now ends) (now stack) counts top 1 n (length (endsList (pathsOf (routesIn (now s) y) g))) × Lower (nodesIn (routesIn (now s) y) (now nodes) (now edges) (now ends) (counts .nodes)) × Seen (routesIn (now s) y) (now nodes) (counts .nodes) (now seen) × RoutesThere (now s) y ⌝ }
     ensures { λ r. ⌜ Closes (routesIn (now (s .entry)) y) g (now (nodes .entry)) (now (edges .entry)) (now (ends .entry)) (now (stack .entry)) counts top n (now (nodes .exit)) (now (edges .exit)) (now (ends .exit)) r × Seen (routesIn (now (s .entry)) y) (now (nodes .exit)) (r .counts .nodes) (now (seen .exit)) ⌝ }
 {
     let first_edge = counts.edges;

@@ -7,13 +7,14 @@ use crate::tries::paths::Group;
 use crate::tries::paths::Left;
 use crate::tries::paths::cut_at;
 use crate::tries::paths::left_of;
-use image::access::step_at;
+use crate::routes::step_of;
 use image::section::RouteLayout;
 ghost use mathlib.Core.Path.{_≡_};
 ghost use Prim.Native.Nat.{_+_, _<_, _≤_, compare};
 ghost use lib.ListN.{length};
 ghost use Rattle.image.specs.Image.{routesIn};
 ghost use Rattle.image.specs.Accepted.{AcceptedRoutes};
+ghost use Rattle.image.specs.There.{RoutesThere};
 ghost use Rattle.addition.specs.Order.{compareTagged};
 ghost use Rattle.unwind.specs.Interning.{orderingOf, after, Starts, GroupIn, pathsOf};
 ghost use Rattle.unwind.specs.Keys.{keysOf, keyIn, keyOf, followedBy, merged, KeySmall, KeyIn, isFinal, Final, KeyOf, NextAmong, NextOf};
@@ -35,7 +36,7 @@ pub enum NextKey {
 
 // The key that comes next after `last`, or the first one. Where `last` says that there is none, the paths are not looked at.
 pub fn next_key(s: &[u8], y: RouteLayout, starts: &[u16], g: Group, last: NextKey) -> NextKey
-    requires { ⌜ AcceptedRoutes (routesIn (now s) y) × Starts (routesIn (now s) y) (now starts) × GroupIn (routesIn (now s) y) g × KeyIn (routesIn (now s) y) g last × Final (routesIn (now s) y) (keysOf (pathsOf (routesIn (now s) y) g)) last ⌝ }
+    requires { ⌜ AcceptedRoutes (routesIn (now s) y) × Starts (routesIn (now s) y) (now starts) × GroupIn (routesIn (now s) y) g × KeyIn (routesIn (now s) y) g last × Final (routesIn (now s) y) (keysOf (pathsOf (routesIn (now s) y) g)) last × RoutesThere (now s) y ⌝ }
     ensures { λ r. ⌜ NextOf (routesIn (now (s .entry)) y) g last r ⌝ }
 {
     if is_final(last) {
@@ -69,7 +70,7 @@ fn nearer_key(
     best: NextKey,
     k: usize,
 ) -> NextKey
-    requires { ⌜ AcceptedRoutes (routesIn (now s) y) × Starts (routesIn (now s) y) (now starts) × GroupIn (routesIn (now s) y) g × KeyIn (routesIn (now s) y) g last × NextAmong (routesIn (now s) y) g last k best × (k < g .count) ⌝ }
+    requires { ⌜ AcceptedRoutes (routesIn (now s) y) × Starts (routesIn (now s) y) (now starts) × GroupIn (routesIn (now s) y) g × KeyIn (routesIn (now s) y) g last × NextAmong (routesIn (now s) y) g last k best × (k < g .count) × RoutesThere (now s) y ⌝ }
     ensures { λ r. ⌜ NextAmong (routesIn (now (s .entry)) y) g last (k + 1) r ⌝ }
 {
     let NextKey::At(key) = key_of(s, y, starts, g, g.first + k) else {
@@ -86,7 +87,7 @@ fn nearer_key(
 
 // The key of path q, if it is one of the group's and enters a funclet.
 pub fn key_of(s: &[u8], y: RouteLayout, starts: &[u16], g: Group, q: usize) -> NextKey
-    requires { ⌜ AcceptedRoutes (routesIn (now s) y) × Starts (routesIn (now s) y) (now starts) × GroupIn (routesIn (now s) y) g × (q < length (routesIn (now s) y .paths)) ⌝ }
+    requires { ⌜ AcceptedRoutes (routesIn (now s) y) × Starts (routesIn (now s) y) (now starts) × GroupIn (routesIn (now s) y) g × (q < length (routesIn (now s) y .paths)) × RoutesThere (now s) y ⌝ }
     ensures { λ r. ⌜ KeyOf (routesIn (now (s .entry)) y) g q r ⌝ }
 {
     let Left::Steps { first, count } = left_of(s, y, starts, g, q) else {
@@ -106,7 +107,7 @@ pub fn key_of(s: &[u8], y: RouteLayout, starts: &[u16], g: Group, q: usize) -> N
 
 // Whether a key comes after `last`.
 fn is_after(s: &[u8], y: RouteLayout, last: NextKey, key: Key) -> bool
-    requires { ⌜ KeySmall last × (key .step + key .calls ≤ 512) ⌝ }
+    requires { ⌜ KeySmall last × (key .step + key .calls ≤ 512) × RoutesThere (now s) y ⌝ }
     ensures { λ r. ⌜ r ≡ after (compareTagged compare) (keyOf (routesIn (now (s .entry)) y) last) (keyIn (routesIn (now (s .entry)) y) key) ⌝ }
 {
     let NextKey::At(other) = last else {
@@ -122,7 +123,7 @@ fn is_after(s: &[u8], y: RouteLayout, last: NextKey, key: Key) -> bool
 // Which of a path's key and `best`, which comes after `last`, comes next. If they are the same, the path is the last that
 // has it. Only a key that comes before `best` is compared with `last`.
 fn merge_key(s: &[u8], y: RouteLayout, last: NextKey, key: Key, best: Key) -> Key
-    requires { ⌜ KeySmall last × (key .step + key .calls ≤ 512) × (best .step + best .calls ≤ 512) ⌝ }
+    requires { ⌜ KeySmall last × (key .step + key .calls ≤ 512) × (best .step + best .calls ≤ 512) × RoutesThere (now s) y ⌝ }
     ensures { λ r. ⌜ r ≡ merged (routesIn (now (s .entry)) y) last key best ⌝ }
 {
     match compare_keys(s, y, key, best) {
@@ -157,15 +158,15 @@ fn followed(key: Key) -> Key
 }
 
 fn compare_keys(s: &[u8], y: RouteLayout, a: Key, b: Key) -> Order
-    requires { ⌜ (a .step + a .calls ≤ 512) × (b .step + b .calls ≤ 512) ⌝ }
+    requires { ⌜ (a .step + a .calls ≤ 512) × (b .step + b .calls ≤ 512) × RoutesThere (now s) y ⌝ }
     ensures { λ r. ⌜ orderingOf r ≡ compareTagged compare (keyIn (routesIn (now (s .entry)) y) a) (keyIn (routesIn (now (s .entry)) y) b) ⌝ }
 {
     match compare_calls(s, y, a.step, a.calls, b.step, b.calls) {
         Order::Less => Order::Less,
         Order::Greater => Order::Greater,
         Order::Equal => {
-            let x = step_at(s, y.steps, a.step + a.calls);
-            let z = step_at(s, y.steps, b.step + b.calls);
+            let x = step_of(s, y, a.step + a.calls);
+            let z = step_of(s, y, b.step + b.calls);
             compare_numbers(x.value, z.value)
         }
     }

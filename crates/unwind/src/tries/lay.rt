@@ -13,6 +13,7 @@ ghost use Prim.Native.Nat.{_+_, _*_, _≤_, _<_};
 ghost use lib.ListN.{length};
 ghost use Rattle.image.specs.Image.{routesIn};
 ghost use Rattle.image.specs.Accepted.{AcceptedRoutes};
+ghost use Rattle.image.specs.There.{RoutesThere};
 ghost use Rattle.unwind.specs.Interning.{Starts, GroupIn, leftAt, pathsOf};
 ghost use Rattle.unwind.specs.Laid.{endsList, EndOf, EndLaid, EndsLaid, EdgesLaid};
 
@@ -31,7 +32,7 @@ pub fn lay_ends(
     ends: &mut [u16],
     at: usize,
 ) -> usize
-    requires { ⌜ AcceptedRoutes (routesIn (now s) y) × Starts (routesIn (now s) y) (now starts) × GroupIn (routesIn (now s) y) g × (at + length (endsList (pathsOf (routesIn (now s) y) g)) < 65536) × (3 * (at + length (endsList (pathsOf (routesIn (now s) y) g))) ≤ length (now ends)) ⌝ }
+    requires { ⌜ AcceptedRoutes (routesIn (now s) y) × Starts (routesIn (now s) y) (now starts) × GroupIn (routesIn (now s) y) g × (at + length (endsList (pathsOf (routesIn (now s) y) g)) < 65536) × (3 * (at + length (endsList (pathsOf (routesIn (now s) y) g))) ≤ length (now ends)) × RoutesThere (now s) y ⌝ }
     ensures { λ r. ⌜ EndsLaid (routesIn (now (s .entry)) y) g (now (ends .entry)) at (now (ends .exit)) r ⌝ }
 {
     let first = g.first;
@@ -54,7 +55,7 @@ fn lay_end(
     n: usize,
     q: usize,
 ) -> usize
-    requires { ⌜ AcceptedRoutes (routesIn (now s) y) × Starts (routesIn (now s) y) (now starts) × GroupIn (routesIn (now s) y) g × (q < length (routesIn (now s) y .paths)) × (at + n + length (endsList (leftAt (routesIn (now s) y) g q)) < 65536) × (3 * (at + n + length (endsList (leftAt (routesIn (now s) y) g q))) ≤ length (now ends)) ⌝ }
+    requires { ⌜ AcceptedRoutes (routesIn (now s) y) × Starts (routesIn (now s) y) (now starts) × GroupIn (routesIn (now s) y) g × (q < length (routesIn (now s) y .paths)) × (at + n + length (endsList (leftAt (routesIn (now s) y) g q)) < 65536) × (3 * (at + n + length (endsList (leftAt (routesIn (now s) y) g q))) ≤ length (now ends)) × RoutesThere (now s) y ⌝ }
     ensures { λ r. ⌜ EndLaid (routesIn (now (s .entry)) y) g q (now (ends .entry)) at n (now (ends .exit)) r ⌝ }
 {
     match end_of(s, y, starts, g, q) {
@@ -65,7 +66,7 @@ fn lay_end(
 
 // The end of path q, if it is one of the group's and enters no funclet.
 fn end_of(s: &[u8], y: RouteLayout, starts: &[u16], g: Group, q: usize) -> Ending
-    requires { ⌜ AcceptedRoutes (routesIn (now s) y) × Starts (routesIn (now s) y) (now starts) × GroupIn (routesIn (now s) y) g × (q < length (routesIn (now s) y .paths)) ⌝ }
+    requires { ⌜ AcceptedRoutes (routesIn (now s) y) × Starts (routesIn (now s) y) (now starts) × GroupIn (routesIn (now s) y) g × (q < length (routesIn (now s) y .paths)) × RoutesThere (now s) y ⌝ }
     ensures { λ r. ⌜ EndOf (routesIn (now (s .entry)) y) g q r ⌝ }
 {
     let Left::Steps { first, count } = left_of(s, y, starts, g, q) else {
@@ -91,7 +92,7 @@ pub fn lay_edges(
     edges: &mut [u16],
     at: usize,
 ) -> usize
-    requires { ⌜ AcceptedRoutes (routesIn (now s) y) × (top + n < 65536) × (at + n < 65536) × (3 * (at + n) ≤ length (now edges)) ⌝ }
+    requires { ⌜ AcceptedRoutes (routesIn (now s) y) × (top + n < 65536) × (at + n < 65536) × (3 * (at + n) ≤ length (now edges)) × RoutesThere (now s) y ⌝ }
     ensures { λ r. ⌜ EdgesLaid (routesIn (now (s .entry)) y) (now (stack .entry)) top n (now (edges .entry)) at (now (edges .exit)) r ⌝ }
 {
     let mut count = 0;

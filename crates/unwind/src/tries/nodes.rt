@@ -10,7 +10,7 @@ use crate::tries::store::number_at;
 use crate::tries::store::put_node;
 use graph::blockset::has_in;
 use graph::blockset::put_in;
-use image::access::step_at;
+use crate::routes::step_of;
 use image::section::RouteLayout;
 ghost use mathlib.Core.Path.{_≡_};
 ghost use mathlib.Core.Bool.{_&&_};
@@ -20,6 +20,7 @@ ghost use lib.Dec.{eqb};
 ghost use lib.ListN.{length};
 ghost use Rattle.image.specs.Image.{routesIn};
 ghost use Rattle.image.specs.Accepted.{AcceptedRoutes};
+ghost use Rattle.image.specs.There.{RoutesThere};
 ghost use Rattle.addition.specs.Order.{same};
 ghost use Rattle.addition.specs.Trie.{sameFunclet, sameNode, placeOf};
 ghost use Rattle.unwind.specs.Nodes.{recordIn, branches, funcletIn, valueOf, nodeIn, nodesIn, Stored, NodeSmall};
@@ -52,7 +53,7 @@ pub fn keep_node(
     counts: Counts,
     x: NodeRecord,
 ) -> Interned
-    requires { ⌜ AcceptedRoutes (routesIn (now s) y) × Stored (now nodes) (now edges) (now ends) counts × Behind (now nodes) (now edges) (now ends) counts x × Lower (nodesIn (routesIn (now s) y) (now nodes) (now edges) (now ends) (counts .nodes)) × Seen (routesIn (now s) y) (now nodes) (counts .nodes) (now seen) ⌝ }
+    requires { ⌜ AcceptedRoutes (routesIn (now s) y) × Stored (now nodes) (now edges) (now ends) counts × Behind (now nodes) (now edges) (now ends) counts x × Lower (nodesIn (routesIn (now s) y) (now nodes) (now edges) (now ends) (counts .nodes)) × Seen (routesIn (now s) y) (now nodes) (counts .nodes) (now seen) × RoutesThere (now s) y ⌝ }
     ensures { λ r. ⌜ Kept (routesIn (now (s .entry)) y) (now (nodes .entry)) (now (edges .entry)) (now (ends .entry)) counts x (now (nodes .exit)) r × Seen (routesIn (now (s .entry)) y) (now (nodes .exit)) (r .counts .nodes) (now (seen .exit)) ⌝ }
 {
     let n = counts.nodes;
@@ -84,7 +85,7 @@ fn find_node(
     n: usize,
     x: NodeRecord,
 ) -> Place
-    requires { ⌜ AcceptedRoutes (routesIn (now s) y) × NodeSmall x × (6 * n ≤ length (now nodes)) × Lower (nodesIn (routesIn (now s) y) (now nodes) (now edges) (now ends) n) × Seen (routesIn (now s) y) (now nodes) n (now seen) ⌝ }
+    requires { ⌜ AcceptedRoutes (routesIn (now s) y) × NodeSmall x × (6 * n ≤ length (now nodes)) × Lower (nodesIn (routesIn (now s) y) (now nodes) (now edges) (now ends) n) × Seen (routesIn (now s) y) (now nodes) n (now seen) × RoutesThere (now s) y ⌝ }
     ensures { λ r. ⌜ placeIn r ≡ placeOf (nodeIn (routesIn (now (s .entry)) y) (now (edges .entry)) (now (ends .entry)) x) (nodesIn (routesIn (now (s .entry)) y) (now (nodes .entry)) (now (edges .entry)) (now (ends .entry)) n) ⌝ }
 {
     let low = behind_children(edges, x.first_edge, x.edges);
@@ -129,7 +130,7 @@ fn stands_at(
     x: NodeRecord,
     value: u64,
 ) -> bool
-    requires { ⌜ AcceptedRoutes (routesIn (now s) y) × NodeSmall x × (6 * i + 6 ≤ length (now nodes)) × (value ≡ valueOf (funcletIn (routesIn (now s) y) (x .funclet))) ⌝ }
+    requires { ⌜ AcceptedRoutes (routesIn (now s) y) × NodeSmall x × (6 * i + 6 ≤ length (now nodes)) × (value ≡ valueOf (funcletIn (routesIn (now s) y) (x .funclet))) × RoutesThere (now s) y ⌝ }
     ensures { λ r. ⌜ r ≡ sameNode (nodeIn (routesIn (now (s .entry)) y) (now (edges .entry)) (now (ends .entry)) x) (nodeIn (routesIn (now (s .entry)) y) (now (edges .entry)) (now (ends .entry)) (recordIn (now (nodes .entry)) i)) ⌝ }
 {
     if counts_match(nodes, i, x.edges, x.ends) {
@@ -154,12 +155,13 @@ fn counts_match(nodes: &[u16], i: usize, edges: usize, ends: usize) -> bool
 
 // The number that names a funclet, or 0 if there is none.
 fn funclet_value(s: &[u8], y: RouteLayout, a: usize) -> u64
+    requires { ⌜ RoutesThere (now s) y ⌝ }
     ensures { λ r. ⌜ r ≡ valueOf (funcletIn (routesIn (now (s .entry)) y) a) ⌝ }
 {
     if a == 0 {
         return 0;
     }
-    step_at(s, y.steps, a - 1).value
+    step_of(s, y, a - 1).value
 }
 
 // The mark of a funclet: one of fewer numbers than a set has room for, drawn from its value.
@@ -178,7 +180,7 @@ fn same_node(
     a: NodeRecord,
     b: NodeRecord,
 ) -> bool
-    requires { ⌜ AcceptedRoutes (routesIn (now s) y) × NodeSmall a × NodeSmall b ⌝ }
+    requires { ⌜ AcceptedRoutes (routesIn (now s) y) × NodeSmall a × NodeSmall b × RoutesThere (now s) y ⌝ }
     ensures { λ r. ⌜ r ≡ sameNode (nodeIn (routesIn (now (s .entry)) y) (now (edges .entry)) (now (ends .entry)) a) (nodeIn (routesIn (now (s .entry)) y) (now (edges .entry)) (now (ends .entry)) b) ⌝ }
 {
     if same_funclet(s, y, a.funclet, b.funclet) {
@@ -208,6 +210,7 @@ fn same_node(
 }
 
 fn same_funclet(s: &[u8], y: RouteLayout, a: usize, b: usize) -> bool
+    requires { ⌜ RoutesThere (now s) y ⌝ }
     ensures { λ r. ⌜ r ≡ sameFunclet (funcletIn (routesIn (now (s .entry)) y) a) (funcletIn (routesIn (now (s .entry)) y) b) ⌝ }
 {
     if a == 0 {
@@ -216,8 +219,8 @@ fn same_funclet(s: &[u8], y: RouteLayout, a: usize, b: usize) -> bool
     if b == 0 {
         return false;
     }
-    let x = step_at(s, y.steps, a - 1);
-    let z = step_at(s, y.steps, b - 1);
+    let x = step_of(s, y, a - 1);
+    let z = step_of(s, y, b - 1);
     x.value == z.value
 }
 
@@ -232,7 +235,7 @@ fn same_runs(
     b: usize,
     k: usize,
 ) -> bool
-    requires { ⌜ AcceptedRoutes (routesIn (now s) y) × (a + n < 1048576) × (b + k < 1048576) ⌝ }
+    requires { ⌜ AcceptedRoutes (routesIn (now s) y) × (a + n < 1048576) × (b + k < 1048576) × RoutesThere (now s) y ⌝ }
     ensures { λ r. ⌜ r ≡ same (ordered kind) (map (meaning (routesIn (now (s .entry)) y) kind) (branches (now (list .entry)) a n)) (map (meaning (routesIn (now (s .entry)) y) kind) (branches (now (list .entry)) b k)) ⌝ }
 {
     if n != k {

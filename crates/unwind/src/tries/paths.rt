@@ -1,14 +1,15 @@
 // The paths of a route that begin with the same steps, and what is left of them. Nothing is copied: the steps stand in the
 // image.
 use crate::tries::store::number_at;
-use image::access::path_at;
-use image::access::step_at;
+use crate::routes::path_of;
+use crate::routes::step_of;
 use image::section::RouteLayout;
 ghost use mathlib.Core.Path.{_≡_};
 ghost use Prim.Native.Nat.{_+_, _≤_, _<_};
 ghost use lib.ListN.{length};
 ghost use Rattle.image.specs.Image.{routesIn};
 ghost use Rattle.image.specs.Accepted.{AcceptedRoutes};
+ghost use Rattle.image.specs.There.{RoutesThere};
 ghost use Rattle.unwind.specs.Interning.{sameSteps, Starts, GroupIn, LeftOf, Cuts};
 
 pub const FUNCLET: u64 = 0;
@@ -36,21 +37,21 @@ pub enum CutAt {
 
 // Where the steps of each path start, and where those of the last one end.
 pub fn path_starts(s: &[u8], y: RouteLayout, starts: &mut [u16])
-    requires { ⌜ AcceptedRoutes (routesIn (now s) y) × (length (routesIn (now s) y .paths) < length (now starts)) ⌝ }
+    requires { ⌜ AcceptedRoutes (routesIn (now s) y) × (length (routesIn (now s) y .paths) < length (now starts)) × RoutesThere (now s) y ⌝ }
     ensures { λ _. ⌜ Starts (routesIn (now (s .entry)) y) (now (starts .exit)) ⌝ }
 {
     let n = y.paths.count as usize;
     let mut next = 0;
     for p in 0..n {
         starts[p] = next as u16;
-        next += path_at(s, y.paths, p).steps;
+        next += path_of(s, y, p).steps;
     }
     starts[n] = next as u16;
 }
 
 // What is left of path q of a group.
 pub fn left_of(s: &[u8], y: RouteLayout, starts: &[u16], g: Group, q: usize) -> Left
-    requires { ⌜ AcceptedRoutes (routesIn (now s) y) × Starts (routesIn (now s) y) (now starts) × GroupIn (routesIn (now s) y) g × (q < length (routesIn (now s) y .paths)) ⌝ }
+    requires { ⌜ AcceptedRoutes (routesIn (now s) y) × Starts (routesIn (now s) y) (now starts) × GroupIn (routesIn (now s) y) g × (q < length (routesIn (now s) y .paths)) × RoutesThere (now s) y ⌝ }
     ensures { λ r. ⌜ LeftOf (routesIn (now (s .entry)) y) g q r ⌝ }
 {
     let first = number_at(starts, q);
@@ -70,15 +71,15 @@ pub fn left_of(s: &[u8], y: RouteLayout, starts: &[u16], g: Group, q: usize) -> 
 
 // Whether the n steps from a on are those from b on.
 fn same_steps(s: &[u8], y: RouteLayout, a: usize, b: usize, n: usize) -> bool
-    requires { ⌜ AcceptedRoutes (routesIn (now s) y) × (a + n ≤ 1024) × (b + n ≤ 1024) ⌝ }
+    requires { ⌜ AcceptedRoutes (routesIn (now s) y) × (a + n ≤ 1024) × (b + n ≤ 1024) × RoutesThere (now s) y ⌝ }
     ensures { λ r. ⌜ r ≡ sameSteps (routesIn (now (s .entry)) y) a b n ⌝ }
 {
     if a == b {
         return true;
     }
     for i in 0..n {
-        let x = step_at(s, y.steps, a + i);
-        let z = step_at(s, y.steps, b + i);
+        let x = step_of(s, y, a + i);
+        let z = step_of(s, y, b + i);
         if x.code != z.code {
             return false;
         }
@@ -91,11 +92,11 @@ fn same_steps(s: &[u8], y: RouteLayout, a: usize, b: usize, n: usize) -> bool
 
 // The n steps from a on, cut at the first funclet.
 pub fn cut_at(s: &[u8], y: RouteLayout, a: usize, n: usize) -> CutAt
-    requires { ⌜ a + n ≤ 1024 ⌝ }
+    requires { ⌜ a + n ≤ 1024 × RoutesThere (now s) y ⌝ }
     ensures { λ r. ⌜ Cuts (routesIn (now (s .entry)) y) a n r ⌝ }
 {
     for i in 0..n {
-        if step_at(s, y.steps, a + i).code == FUNCLET {
+        if step_of(s, y, a + i).code == FUNCLET {
             return CutAt::Enters(i);
         }
     }

@@ -11,6 +11,7 @@ ghost use Prim.Native.Nat.{_+_, _*_, _≤_, _<_};
 ghost use lib.ListN.{length};
 ghost use Rattle.image.specs.Image.{routesIn};
 ghost use Rattle.image.specs.Accepted.{AcceptedRoutes};
+ghost use Rattle.image.specs.There.{RoutesThere};
 ghost use Rattle.unwind.specs.Nodes.{branches, BranchSmall};
 ghost use Rattle.unwind.specs.Interning.{ordered, meaning};
 ghost use Rattle.unwind.specs.Runs.{SpotOf, Inserted, RunPut};
@@ -31,7 +32,7 @@ pub fn put_sorted(
     n: usize,
     b: Branch,
 ) -> usize
-    requires { ⌜ AcceptedRoutes (routesIn (now s) y) × BranchSmall b × (at + n < 65536) × (3 * (at + n) + 3 ≤ length (now list)) ⌝ }
+    requires { ⌜ AcceptedRoutes (routesIn (now s) y) × BranchSmall b × (at + n < 65536) × (3 * (at + n) + 3 ≤ length (now list)) × RoutesThere (now s) y ⌝ }
     ensures { λ r. ⌜ RunPut (ordered kind) (meaning (routesIn (now (s .entry)) y) kind) (now (list .entry)) at n b (now (list .exit)) r ⌝ }
 {
     if n == 0 {
@@ -51,7 +52,7 @@ fn put_among(
     n: usize,
     b: Branch,
 ) -> usize
-    requires { ⌜ AcceptedRoutes (routesIn (now s) y) × BranchSmall b × (at + n < 65536) × (3 * (at + n) + 3 ≤ length (now list)) ⌝ }
+    requires { ⌜ AcceptedRoutes (routesIn (now s) y) × BranchSmall b × (at + n < 65536) × (3 * (at + n) + 3 ≤ length (now list)) × RoutesThere (now s) y ⌝ }
     ensures { λ r. ⌜ RunPut (ordered kind) (meaning (routesIn (now (s .entry)) y) kind) (now (list .entry)) at n b (now (list .exit)) r ⌝ }
 {
     match spot_of(s, y, kind, list, at, n, b) {
@@ -73,7 +74,7 @@ fn spot_of(
     n: usize,
     b: Branch,
 ) -> Spot
-    requires { ⌜ AcceptedRoutes (routesIn (now s) y) × BranchSmall b × (at + n < 65536) ⌝ }
+    requires { ⌜ AcceptedRoutes (routesIn (now s) y) × BranchSmall b × (at + n < 65536) × RoutesThere (now s) y ⌝ }
     ensures { λ r. ⌜ SpotOf (ordered kind) (meaning (routesIn (now (s .entry)) y) kind b) (map (meaning (routesIn (now (s .entry)) y) kind) (branches (now (list .entry)) at n)) r ⌝ }
 {
     for j in 0..n {

@@ -107,3 +107,40 @@ pub fn number_at(list: &[u16], k: usize) -> usize
 {
     if k < list.len() { list[k] as usize } else { 0 }
 }
+
+// Node i, one of those that there is room for. Nothing is tested.
+pub fn node_in(nodes: &[u16], i: usize) -> NodeRecord
+    requires { ⌜ 6 * i + 6 ≤ length (now nodes) ⌝ }
+    ensures { λ r. ⌜ NodeRead (now (nodes .entry)) i r ⌝ }
+{
+    let at = 6 * i;
+    NodeRecord {
+        funclet: number_in(nodes, at),
+        route: number_in(nodes, at + 1),
+        first_edge: number_in(nodes, at + 2),
+        edges: number_in(nodes, at + 3),
+        first_end: number_in(nodes, at + 4),
+        ends: number_in(nodes, at + 5),
+    }
+}
+
+// Edge or end k, likewise.
+pub fn branch_in(list: &[u16], k: usize) -> Branch
+    requires { ⌜ 3 * k + 3 ≤ length (now list) ⌝ }
+    ensures { λ r. ⌜ BranchRead (now (list .entry)) k r ⌝ }
+{
+    let at = 3 * k;
+    Branch {
+        step: number_in(list, at),
+        calls: number_in(list, at + 1),
+        what: number_in(list, at + 2),
+    }
+}
+
+// Number k of a slice that has it.
+pub fn number_in(list: &[u16], k: usize) -> usize
+    requires { ⌜ k < length (now list) ⌝ }
+    ensures { λ r. ⌜ (r ≡ getD (now (list .entry)) k 0) × (r < 65536) ⌝ }
+{
+    list[k] as usize
+}

@@ -13,7 +13,7 @@ use Rattle.unwind.proofs.add.add_read.Tie as tie
 check-routes-requires : tie.Need-check-routes-requires
 check-routes-requires c κs =
     let start = c .before .before .before .before in
-    (stands-of (heldIn (start .args .g .now)) (start .pre .0), c .before .built-count .ensures, start .pre .1)
+    (stands-of (heldIn (start .args .g .now)) (start .pre .0), c .before .built-count .ensures, start .pre .1, search needs)
 
 returns : tie.Need-returns
 returns c =
@@ -25,12 +25,12 @@ returns c =
 add-checked-requires : tie.Need-add-checked-requires
 add-checked-requires c κs =
     let start = c .before .before .before .before .before .before .before .before .before in
-    record {
+    (record {
       graphed = start .pre .0;
       built = c .before .before .before .before .before .before .built-count .ensures;
       accepted = start .pre .1;
       passed = sym (rw (c .before .before .enum-told .given .1) at (c .before .before .before .before .check-routes .ensures));
-    }
+    }, search needs)
 
 pub add-read-spec : {M : Type 1} → statement M
 add-read-spec =

@@ -19,6 +19,7 @@ add-read-requires c κs =
     let a = c .before .before .before .before .before .before .before .before .before .before .args in (
       sym (c .before .before .before .before .before .before .before .is-graph .ensures) ∙ not-false _ (c .before .before .before .before .before .before .if1 .left),
       accepted-routes (a .s .now) (routesIn (a .s .now) _) (sym (rw (c .before .before .before .y .given .1) at (c .before .before .before .before .before .read-routes .ensures))),
+      search needs,
     )
 
 returns-2 : tie.Need-returns-2

@@ -39,7 +39,7 @@ check-route-requires : tie.Need-check-route-requires Inv-loop μ-loop
 check-route-requires c κs =
     let p = c .before .before .before .before .before .before .pre in
     let top = c .before .loop in
-    (p .0, p .1, c .before .before .before .before .code-end .ensures, (p .2, among c, top .inv .1, top .inv .2))
+    (p .0, p .1, c .before .before .before .before .code-end .ensures, (p .2, among c, top .inv .1, top .inv .2), search needs)
 
 returns : tie.Need-returns Inv-loop μ-loop
 returns c =
@@ -51,15 +51,15 @@ returns c =
     told ∙ sym (checks-stop (routeCheck (heldIn (a .g .now) .graph) (routesOf m)) (top .r) _ _ within (top .inv .3) (sym (c .before .before .check-route .ensures) ∙ told))
 
 -- the paths of route r stand among all
-paths : (c : tie.After-route-at Inv-loop μ-loop) → let a = c .before .before .before .before .before .before .before .before .before .before .args in c .before .before .before .before .before .loop .path + c .route-at .result .paths ≤ length (routesIn (a .s .now) (a .y) .paths)
+paths : (c : tie.After-route-in Inv-loop μ-loop) → let a = c .before .before .before .before .before .before .before .before .before .before .args in c .before .before .before .before .before .loop .path + c .route-in .result .paths ≤ length (routesIn (a .s .now) (a .y) .paths)
 paths c =
     let a = c .before .before .before .before .before .before .before .before .before .before .args in
     let m = routesIn (a .s .now) (a .y) in
     let top = c .before .before .before .before .before .loop in
-    omega (arith, paths-in m (c .before .before .before .before .before .before .before .before .before .before .pre .2) (top .r) (among (c .before .before .before .before)), top .inv .1, ap (λ (x : Route). x .paths) (c .route-at .ensures))
+    omega (arith, paths-in m (c .before .before .before .before .before .before .before .before .before .before .pre .2) (top .r) (among (c .before .before .before .before)), top .inv .1, ap (λ (x : Route). x .paths) (c .route-in .ensures))
 
 steps-behind-requires : tie.Need-steps-behind-requires Inv-loop μ-loop
-steps-behind-requires c κs = (c .before .before .before .before .before .before .before .before .before .before .pre .2, paths c, c .before .before .before .before .before .loop .inv .2)
+steps-behind-requires c κs = (c .before .before .before .before .before .before .before .before .before .before .pre .2, paths c, c .before .before .before .before .before .loop .inv .2, search needs)
 
 add-path : tie.Need-add-path Inv-loop μ-loop
 add-path c = omega (arith, paths (c .before), c .before .before .before .before .before .before .before .before .before .before .before .pre .2 .paths-most)
@@ -72,7 +72,7 @@ loop-again c =
     let a = c .before .before .before .before .before .before .before .before .before .before .before .args in
     let m = routesIn (a .s .now) (a .y) in
     let top = c .before .before .before .before .before .before .loop in
-    let next : top .path + c .before .route-at .result .paths ≡ pathsBefore m (top .r + 1) = omega (arith, paths-next m (top .r), top .inv .1, ap (λ (x : Route). x .paths) (c .before .route-at .ensures)) in
+    let next : top .path + c .before .route-in .result .paths ≡ pathsBefore m (top .r + 1) = omega (arith, paths-next m (top .r), top .inv .1, ap (λ (x : Route). x .paths) (c .before .route-in .ensures)) in
     (search needs, next, c .steps-behind .ensures, checks-more _ (top .r) (top .inv .3) ∙ sym (c .before .before .before .before .check-route .ensures) ∙ ap checkOf (c .before .before .enum-told .given .1))
 
 returns-2 : tie.Need-returns-2 Inv-loop μ-loop

@@ -23,18 +23,18 @@ loop-holds c =
     let here : a .path ≡ a .path + 0 = omega arith in
     (omega arith, c .before .pre .2 ∙ ap (stepsBefore (routesIn (a .s .now) (a .y))) here)
 
-add-path-at : tie.Need-add-path-at Inv-loop μ-loop
-add-path-at c = omega (arith, c .before .before .before .pre .1, c .before .before .before .pre .0 .paths-most)
+add-path-of : tie.Need-add-path-of Inv-loop μ-loop
+add-path-of c = omega (arith, c .before .before .before .pre .1, c .before .before .before .pre .0 .paths-most)
 
 -- the path of this turn
-among : (c : tie.After-path-at Inv-loop μ-loop) → c .before .before .loop .next + c .path-at .result .steps ≤ 512
+among : (c : tie.After-path-of Inv-loop μ-loop) → c .before .before .loop .next + c .path-of .result .steps ≤ 512
 among c =
     let a = c .before .before .before .before .args in
     let p = c .before .before .before .before .pre in
     let m = routesIn (a .s .now) (a .y) in
     let top = c .before .before .loop in
     let lt : a .path + top .k < length (m .paths) = omega (arith, p .1, c .before .loop-test .taken) in
-    omega (arith, steps-in m (p .0) (a .path + top .k) lt, p .0 .steps-most, top .inv .1, ap (λ (x : Path). x .steps) (c .path-at .ensures))
+    omega (arith, steps-in m (p .0) (a .path + top .k) lt, p .0 .steps-most, top .inv .1, ap (λ (x : Path). x .steps) (c .path-of .ensures))
 
 add-next : tie.Need-add-next Inv-loop μ-loop
 add-next c = omega (arith, among (c .before))
@@ -48,7 +48,7 @@ loop-again c =
     let m = routesIn (a .s .now) (a .y) in
     let top = c .before .before .before .loop in
     let on : a .path + (top .k + 1) ≡ a .path + top .k + 1 = omega arith in
-    (omega arith, omega (arith, ap (stepsBefore m) on, steps-next m (a .path + top .k), top .inv .1, ap (λ (x : Path). x .steps) (c .before .path-at .ensures)))
+    (omega arith, omega (arith, ap (stepsBefore m) on, steps-next m (a .path + top .k), top .inv .1, ap (λ (x : Path). x .steps) (c .before .path-of .ensures)))
 
 returns : tie.Need-returns Inv-loop μ-loop
 returns c =
@@ -58,4 +58,4 @@ returns c =
     end .inv .1 ∙ ap (stepsBefore (routesIn (a .s .now) (a .y))) all
 
 pub steps-behind-spec : {M : Type 1} → statement M
-steps-behind-spec = tie.close (tie.spec Inv-loop μ-loop loop-holds add-path-at (λ c κs. search needs) add-next add-k (λ c. search needs) loop-again returns)
+steps-behind-spec = tie.close (tie.spec Inv-loop μ-loop loop-holds add-path-of (λ c κs. search needs) add-next add-k (λ c. search needs) loop-again returns)

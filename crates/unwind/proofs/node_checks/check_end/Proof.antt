@@ -13,14 +13,14 @@ returns : tie.Need-returns
 returns c =
     let a = c .before .before .before .before .before .before .args in
     let p = pathRecord (routesIn (a .s .now) (a .y)) (a .p) in
-    let read = c .before .before .before .path-at .ensures in
+    let read = c .before .before .before .path-of .ensures in
     rw read at (c .check-lead .ensures) ∙ sym (end-handler (heldIn (a .g .now) .graph) p (ap (λ (x : Path). x .end) (sym read) ∙ c .before .if1 .taken))
 
 returns-2 : tie.Need-returns-2
 returns-2 c =
     let a = c .before .before .before .before .before .args in
     let p = pathRecord (routesIn (a .s .now) (a .y)) (a .p) in
-    let read = c .before .before .path-at .ensures in
+    let read = c .before .before .path-of .ensures in
     sym (end-other (heldIn (a .g .now) .graph) p (λ e. c .if1 .left (ap (λ (x : Path). x .end) read ∙ e)))
 
 pub check-end-spec : {M : Type 1} → statement M

@@ -21,7 +21,7 @@ check-ends-requires : tie.Need-check-ends-requires
 check-ends-requires c κs =
     let pre = c .before .before .before .before .before .before .before .before .pre in
     let small = c .before .before .before .node-at .ensures .small in
-    (pre .0, pre .1, small .first-end, small .ends)
+    (pre .0, pre .1, small .first-end, small .ends, search needs)
 
 returns-2 : tie.Need-returns-2
 returns-2 c =

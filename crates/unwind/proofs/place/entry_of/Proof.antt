@@ -15,28 +15,28 @@ returns c =
     let a = c .before .before .before .args in
     sym (entry-root (heldIn (a .g .now) .graph) (routesIn (a .s .now) (a .y)) (a .f) (c .if1 .taken))
 
-sub-step-at : tie.Need-sub-step-at
-sub-step-at c = let ne = c .if1 .left in omega arith
+sub-step-of : tie.Need-sub-step-of
+sub-step-of c = let ne = c .if1 .left in omega arith
 
 returns-2 : tie.Need-returns-2
 unfolding blockIn
 returns-2 c =
     let a = c .before .before .before .before .before .before .before .before .args in
-    let lead = rw (c .before .before .before .before .step-at .ensures) at (c .before .before .before .leading-block .ensures) in
+    let lead = rw (c .before .before .before .before .step-of .ensures) at (c .before .before .before .leading-block .ensures) in
     sym (entry-named (heldIn (a .g .now) .graph) (routesIn (a .s .now) (a .y)) (a .f) (c .before .before .before .before .before .if1 .left) ∙ ap blockIn (sym lead ∙ ap leadingOf (c .before .b .given .1)))
 
 returns-3 : tie.Need-returns-3
 unfolding blockIn
 returns-3 c =
     let a = c .before .before .before .before .before .before .before .args in
-    let lead = rw (c .before .before .before .step-at .ensures) at (c .before .before .leading-block .ensures) in
+    let lead = rw (c .before .before .before .step-of .ensures) at (c .before .before .leading-block .ensures) in
     sym (entry-named (heldIn (a .g .now) .graph) (routesIn (a .s .now) (a .y)) (a .f) (c .before .before .before .before .if1 .left) ∙ ap blockIn (sym lead ∙ ap leadingOf (c .enum-told .given .1)))
 
 returns-4 : tie.Need-returns-4
 unfolding blockIn
 returns-4 c =
     let a = c .before .before .before .before .before .before .before .args in
-    let lead = rw (c .before .before .before .step-at .ensures) at (c .before .before .leading-block .ensures) in
+    let lead = rw (c .before .before .before .step-of .ensures) at (c .before .before .leading-block .ensures) in
     sym (entry-named (heldIn (a .g .now) .graph) (routesIn (a .s .now) (a .y)) (a .f) (c .before .before .before .before .if1 .left) ∙ ap blockIn (sym lead ∙ ap leadingOf (c .enum-told2 .given .1)))
 
 pub entry-of-spec : {M : Type 1} → statement M
@@ -44,7 +44,7 @@ entry-of-spec =
     tie.close
     (tie.spec
     returns
-    sub-step-at
+    sub-step-of
     (λ c κs. search needs)
     (λ c κs. search needs)
     (λ c. search needs)

@@ -21,7 +21,7 @@ use Rattle.unwind.proofs.place.place_node.Statement.{statement}
 use Rattle.unwind.proofs.place.place_node.Tie as tie
 
 entry-of-requires : tie.Need-entry-of-requires
-entry-of-requires c κs = let ready = c .before .before .before .before .before .before .before .before .before .before .before .pre .0 in (ready .stands, ready .built)
+entry-of-requires c κs = let ready = c .before .before .before .before .before .before .before .before .before .before .before .pre .0 in (ready .stands, ready .built, search needs)
 
 -- the check of node i
 leads : (c : tie.Start) → funcletCheck (heldIn (c .args .g .now) .graph) (funcletAt (routesIn (c .args .s .now) (c .args .y)) (c .args .nodes .now) (c .args .i)) ≡ clear

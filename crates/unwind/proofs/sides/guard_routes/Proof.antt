@@ -33,7 +33,7 @@ loop-again : tie.Need-loop-again Inv-loop μ-loop
 loop-again c =
     let a = c .before .before .before .before .before .before .before .before .before .before .before .before .args in
     let top = c .before .before .before .before .before .before .before .before .loop in
-    let found = rw (c .before .before .before .before .before .before .route-at .ensures) at (c .before .before .before .before .before .guarded-by .ensures) in (
+    let found = rw (c .before .before .before .before .before .before .route-in .ensures) at (c .before .before .before .before .before .guarded-by .ensures) in (
       omega arith,
       c .before .before .put-set .ensures .long ∙ top .inv .1,
       guards-more (heldIn (a .g .now) .graph) (routesIn (a .s .now) (a .y)) (top .guards) _ _ (top .r) (among (c .before .before .before .before .before .before .before)) found (c .before .before .put-set .ensures) (top .inv .2),

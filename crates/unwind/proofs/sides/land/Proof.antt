@@ -17,13 +17,13 @@ use Rattle.unwind.proofs.sides.land.Tie as tie
 returns : tie.Need-returns
 returns c =
     let a = c .before .before .before .before .before .args in
-    let read = c .before .before .path-at .ensures in
+    let read = c .before .before .path-of .ensures in
     (sym (land-propagate (heldIn (a .g .now) .graph) (pathRecord (routesIn (a .s .now) (a .y)) (a .p)) (ap (λ (x : Path). x .end) (sym read) ∙ c .if1 .taken)), omega arith)
 
 returns-2 : tie.Need-returns-2
 returns-2 c =
     let a = c .before .before .before .before .before .before .before .args in
-    let here = ap (λ (x : Path). x .end) (c .before .before .before .before .path-at .ensures) in
+    let here = ap (λ (x : Path). x .end) (c .before .before .before .before .path-of .ensures) in
     (sym (land-resume (heldIn (a .g .now) .graph) (pathRecord (routesIn (a .s .now) (a .y)) (a .p)) (λ e. c .if2 .taken (here ∙ e)) (λ e. c .before .before .if1 .left (here ∙ e))), omega arith)
 
 returns-3 : tie.Need-returns-3
@@ -32,7 +32,7 @@ returns-3 c =
     let a = c .before .before .before .before .before .before .before .before .before .before .before .args in
     let g = heldIn (a .g .now) .graph in
     let p = pathRecord (routesIn (a .s .now) (a .y)) (a .p) in
-    let read = c .before .before .before .before .before .before .before .before .path-at .ensures in
+    let read = c .before .before .before .before .before .before .before .before .path-of .ensures in
     let lead = sym (rw read at (c .before .before .before .leading-block .ensures)) ∙ ap leadingOf (c .before .b .given .1) in
     (sym (land-handler g p (ap (λ (x : Path). x .end) (sym read) ∙ c .before .before .before .before .if2 .left) ∙ ap blockIn lead), omega (arith, leads-begins g (p .handler) _ lead .built .exists, block-most (a .g .now)))
 
@@ -42,7 +42,7 @@ returns-4 c =
     let a = c .before .before .before .before .before .before .before .before .before .before .args in
     let g = heldIn (a .g .now) .graph in
     let p = pathRecord (routesIn (a .s .now) (a .y)) (a .p) in
-    let read = c .before .before .before .before .before .before .before .path-at .ensures in
+    let read = c .before .before .before .before .before .before .before .path-of .ensures in
     let lead = sym (rw read at (c .before .before .leading-block .ensures)) ∙ ap leadingOf (c .enum-told .given .1) in
     (sym (land-handler g p (ap (λ (x : Path). x .end) (sym read) ∙ c .before .before .before .if2 .left) ∙ ap blockIn lead), omega arith)
 
@@ -52,7 +52,7 @@ returns-5 c =
     let a = c .before .before .before .before .before .before .before .before .before .before .args in
     let g = heldIn (a .g .now) .graph in
     let p = pathRecord (routesIn (a .s .now) (a .y)) (a .p) in
-    let read = c .before .before .before .before .before .before .before .path-at .ensures in
+    let read = c .before .before .before .before .before .before .before .path-of .ensures in
     let lead = sym (rw read at (c .before .before .leading-block .ensures)) ∙ ap leadingOf (c .enum-told2 .given .1) in
     (sym (land-handler g p (ap (λ (x : Path). x .end) (sym read) ∙ c .before .before .before .if2 .left) ∙ ap blockIn lead), omega arith)
 

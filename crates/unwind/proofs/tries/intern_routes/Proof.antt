@@ -24,7 +24,7 @@ abbrev μ-loop : tie.MeasureT-loop
 μ-loop s y starts nodes₀ edges₀ ends₀ stack₀ roots₀ n stored₀ seen₀ first₀ r₀ nodes edges ends stack roots stored seen first r = n - r
 
 path-starts-requires : tie.Need-path-starts-requires Inv-loop μ-loop
-path-starts-requires c κs = (c .before .before .before .before .before .before .before .before .pre .0, c .before .before .before .before .before .before .before .before .pre .1 .starts-fit)
+path-starts-requires c κs = (c .before .before .before .before .before .before .before .before .pre .0, c .before .before .before .before .before .before .before .before .pre .1 .starts-fit, search needs)
 
 loop-holds : tie.Need-loop-holds Inv-loop μ-loop
 loop-holds c = (search needs, route-start _ (c .before .before .before .before .before .before .before .before .before .before .before .before .pre .0) _ _ _ _ _ _ (c .before .before .before .before .before .before .before .before .before .before .before .before .pre .1), seen-none _ _)
@@ -36,17 +36,18 @@ among c = rw (length-records routeFrom (c .before .before .before .before .befor
 intern-requires : tie.Need-intern-requires Inv-loop μ-loop
 intern-requires c κs =
     let h = among (c .before .before .before .before .before .before .before) in
-    rw (c .before .before .before .before .before .before .route-at .ensures) (
+    rw (c .before .before .before .before .before .before .route-in .ensures) (
       route-grouped _ (c .before .before .before .before .before .before .before .before .before .before .before .before .before .before .before .before .before .before .before .before .before .pre .0) _ _ _ _ _ _ (c .before .before .before .before .before .before .before .before .before .before .before .before .before .before .before .before .before .before .before .before .before .pre .1) _ _ _ _ _ _ _ _ (c .before .before .before .before .before .before .before .before .loop .inv .1) h _ (c .before .before .before .before .before .before .before .before .before .before .before .before .path-starts .ensures),
       c .before .before .before .before .before .before .before .before .loop .inv .1 .stored,
       route-room _ (c .before .before .before .before .before .before .before .before .before .before .before .before .before .before .before .before .before .before .before .before .before .pre .0) _ _ _ _ _ _ (c .before .before .before .before .before .before .before .before .before .before .before .before .before .before .before .before .before .before .before .before .before .pre .1) _ _ _ _ _ _ _ _ (c .before .before .before .before .before .before .before .before .loop .inv .1) h,
       c .before .before .before .before .before .before .before .before .loop .inv .1 .lower,
       c .before .before .before .before .before .before .before .before .loop .inv .2,
+      search needs,
     )
 
 cast-roots : tie.Need-cast-roots Inv-loop μ-loop
 cast-roots c =
-    let done = rw (c .before .before .before .before .before .before .before .before .before .before .before .before .before .before .before .before .route-at .ensures) at (c .before .before .before .before .before .before .before .before .before .intern .ensures .0) in
+    let done = rw (c .before .before .before .before .before .before .before .before .before .before .before .before .before .before .before .before .route-in .ensures) at (c .before .before .before .before .before .before .before .before .before .intern .ensures .0) in
     omega (arith, place-small _ (c .before .before .before .before .before .before .before .before .before .before .before .before .before .before .before .before .before .before .before .before .before .before .before .before .before .before .before .before .before .before .before .pre .0) _ _ _ _ _ _ (c .before .before .before .before .before .before .before .before .before .before .before .before .before .before .before .before .before .before .before .before .before .before .before .before .before .before .before .before .before .before .before .pre .1) _ _ _ _ _ _ _ _ (c .before .before .before .before .before .before .before .before .before .before .before .before .before .before .before .before .before .before .loop .inv .1) (among (c .before .before .before .before .before .before .before .before .before .before .before .before .before .before .before .before .before)) _ _ _ _ _ done)
 
 mul-roots : tie.Need-mul-roots Inv-loop μ-loop
@@ -57,15 +58,15 @@ slice-write-roots c = omega (arith, among (c .before .before .before .before .be
 
 add-first : tie.Need-add-first Inv-loop μ-loop
 add-first c =
-    omega (arith, paths-in (routesIn (c .before .before .before .before .before .before .before .before .before .before .before .before .before .before .before .before .before .before .before .before .before .before .before .before .before .before .before .before .before .before .before .before .args .s .now) (c .before .before .before .before .before .before .before .before .before .before .before .before .before .before .before .before .before .before .before .before .before .before .before .before .before .before .before .before .before .before .before .before .args .y)) (c .before .before .before .before .before .before .before .before .before .before .before .before .before .before .before .before .before .before .before .before .before .before .before .before .before .before .before .before .before .before .before .before .pre .0) (c .before .before .before .before .before .before .before .before .before .before .before .before .before .before .before .before .before .before .before .loop .r) (among (c .before .before .before .before .before .before .before .before .before .before .before .before .before .before .before .before .before .before)), c .before .before .before .before .before .before .before .before .before .before .before .before .before .before .before .before .before .before .before .before .before .before .before .before .before .before .before .before .before .before .before .before .pre .0 .paths-most, c .before .before .before .before .before .before .before .before .before .before .before .before .before .before .before .before .before .before .before .loop .inv .1 .first-is, ap (λ (x : Route). x .paths) (c .before .before .before .before .before .before .before .before .before .before .before .before .before .before .before .before .before .route-at .ensures))
+    omega (arith, paths-in (routesIn (c .before .before .before .before .before .before .before .before .before .before .before .before .before .before .before .before .before .before .before .before .before .before .before .before .before .before .before .before .before .before .before .before .args .s .now) (c .before .before .before .before .before .before .before .before .before .before .before .before .before .before .before .before .before .before .before .before .before .before .before .before .before .before .before .before .before .before .before .before .args .y)) (c .before .before .before .before .before .before .before .before .before .before .before .before .before .before .before .before .before .before .before .before .before .before .before .before .before .before .before .before .before .before .before .before .pre .0) (c .before .before .before .before .before .before .before .before .before .before .before .before .before .before .before .before .before .before .before .loop .r) (among (c .before .before .before .before .before .before .before .before .before .before .before .before .before .before .before .before .before .before)), c .before .before .before .before .before .before .before .before .before .before .before .before .before .before .before .before .before .before .before .before .before .before .before .before .before .before .before .before .before .before .before .before .pre .0 .paths-most, c .before .before .before .before .before .before .before .before .before .before .before .before .before .before .before .before .before .before .before .loop .inv .1 .first-is, ap (λ (x : Route). x .paths) (c .before .before .before .before .before .before .before .before .before .before .before .before .before .before .before .before .before .route-in .ensures))
 
 add-r : tie.Need-add-r Inv-loop μ-loop
 add-r c = omega (arith, among (c .before .before .before .before .before .before .before .before .before .before .before .before .before .before .before .before .before .before), c .before .before .before .before .before .before .before .before .before .before .before .before .before .before .before .before .before .before .before .before .before .before .before .before .before .before .before .before .before .before .before .before .pre .0 .routes-most)
 
 loop-again : tie.Need-loop-again Inv-loop μ-loop
 loop-again c =
-    let done = rw (c .before .before .before .before .before .before .before .before .before .before .before .before .before .before .before .before .before .route-at .ensures) at (c .before .before .before .before .before .before .before .before .before .before .intern .ensures .0) in
-    rw (c .before .before .before .before .before .before .before .before .before .before .before .before .before .before .before .before .before .route-at .ensures) (
+    let done = rw (c .before .before .before .before .before .before .before .before .before .before .before .before .before .before .before .before .before .route-in .ensures) at (c .before .before .before .before .before .before .before .before .before .before .intern .ensures .0) in
+    rw (c .before .before .before .before .before .before .before .before .before .before .before .before .before .before .before .before .before .route-in .ensures) (
       search needs,
       route-next _ (c .before .before .before .before .before .before .before .before .before .before .before .before .before .before .before .before .before .before .before .before .before .before .before .before .before .before .before .before .before .before .before .before .pre .0) _ _ _ _ _ _ (c .before .before .before .before .before .before .before .before .before .before .before .before .before .before .before .before .before .before .before .before .before .before .before .before .before .before .before .before .before .before .before .before .pre .1) _ _ _ _ _ _ _ _ (c .before .before .before .before .before .before .before .before .before .before .before .before .before .before .before .before .before .before .before .loop .inv .1) (among (c .before .before .before .before .before .before .before .before .before .before .before .before .before .before .before .before .before .before)) _ _ _ _ _ done
           (c .before .before .before .before .before .before .before .before .before .before .intern .kept .1 .1 .1 .1 .0) (c .before .before .before .before .before .before .before .before .before .before .intern .kept .1 .1 .1 .1 .1 .0) (c .before .before .before .before .before .before .before .before .before .before .intern .kept .1 .1 .1 .1 .1 .1 .0) (c .before .before .before .before .before .before .before .before .before .before .intern .kept .1 .1 .1 .1 .1 .1 .1 .0),

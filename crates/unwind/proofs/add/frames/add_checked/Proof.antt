@@ -5,10 +5,10 @@ use Rattle.unwind.proofs.add.frames.add_checked.Statement.{statement}
 use Rattle.unwind.proofs.add.frames.add_checked.Tie as tie
 
 add-tiny-requires : tie.Need-add-tiny-requires
-add-tiny-requires c κs = (c .before .before .before .before .before .before .before .before .pre, c .before .before .before .is-few .ensures (c .before .before .if2 .taken), c .before .before .before .before .before .is-small .ensures (not-false _ (c .before .before .before .before .if1 .left)))
+add-tiny-requires c κs = (c .before .before .before .before .before .before .before .before .pre .0, c .before .before .before .is-few .ensures (c .before .before .if2 .taken), c .before .before .before .before .before .is-small .ensures (not-false _ (c .before .before .before .before .if1 .left)), search needs)
 
 add-small-requires : tie.Need-add-small-requires
-add-small-requires c κs = (c .before .before .before .before .before .before .before .before .before .before .pre, c .before .before .before .is-few2 .ensures (c .before .before .if3 .taken), c .before .before .before .before .before .before .before .is-small .ensures (not-false _ (c .before .before .before .before .before .before .if1 .left)))
+add-small-requires c κs = (c .before .before .before .before .before .before .before .before .before .before .pre .0, c .before .before .before .is-few2 .ensures (c .before .before .if3 .taken), c .before .before .before .before .before .before .before .is-small .ensures (not-false _ (c .before .before .before .before .before .before .if1 .left)), search needs)
 
 pub add-checked-spec : {M : Type 1} → statement M
 add-checked-spec =

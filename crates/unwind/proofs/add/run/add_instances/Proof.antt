@@ -13,7 +13,7 @@ guard-routes-requires c κs =
     let a = start .args in
     let k = start .pre .0 in
     let p = start .pre .1 in
-    (stands-of (heldIn (a .g .now)) (k .graphed), k .built, p .guards-fit)
+    (stands-of (heldIn (a .g .now)) (k .graphed), k .built, p .guards-fit, search needs)
 
 land-ends-requires : tie.Need-land-ends-requires
 land-ends-requires c κs =
@@ -21,7 +21,7 @@ land-ends-requires c κs =
     let a = start .args in
     let k = start .pre .0 in
     let p = start .pre .1 in
-    (stands-of (heldIn (a .g .now)) (k .graphed), k .built, p .landings-fit)
+    (stands-of (heldIn (a .g .now)) (k .graphed), k .built, p .landings-fit, search needs)
 
 add-placed-requires : tie.Need-add-placed-requires
 add-placed-requires c κs =
@@ -30,7 +30,7 @@ add-placed-requires c κs =
     let k = start .pre .0 in
     let p = start .pre .1 in
     let guarded = c .before .before .before .before .before .before .before .before .before .before .before .before .guard-routes in
-    at-hand (heldIn (a .g .now)) (a .built) (routesIn (a .s .now) (a .y)) k (a .nodes .now) (a .edges .now) (a .ends .now) (a .roots .now) (a .stored) p (guarded .ensures) (guarded .kept .1 .1 .1 .1 .0) (c .before .before .before .before .before .before .before .land-ends .ensures)
+    (at-hand (heldIn (a .g .now)) (a .built) (routesIn (a .s .now) (a .y)) k (a .nodes .now) (a .edges .now) (a .ends .now) (a .roots .now) (a .stored) p (guarded .ensures) (guarded .kept .1 .1 .1 .1 .0) (c .before .before .before .before .before .before .before .land-ends .ensures), search needs)
 
 pub add-instances-spec : {M : Type 1} → statement M
 add-instances-spec =

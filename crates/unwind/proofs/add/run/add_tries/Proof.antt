@@ -19,7 +19,7 @@ check-nodes-requires : tie.Need-check-nodes-requires
 check-nodes-requires c κs =
     let start = c .before .before .before .before .before .before .before .before .before .before .before .before .before .before .before .before .before .before .before .before .before .before in
     let k = start .pre .0 in
-    (stands-of (heldIn (start .args .g .now)) (k .graphed), k .built)
+    (stands-of (heldIn (start .args .g .now)) (k .graphed), k .built, search needs)
 
 returns : tie.Need-returns
 returns c =
@@ -44,7 +44,7 @@ place-requires c κs =
     let k = start .pre .0 in
     let linked = c .before .before .before .before .before .before .before .before .before .before .before .before .before .link .ensures in
     let passed = sym (rw (c .before .before .before .before .before .before .before .before .before .before .before .before .before .before .before .before .before .enum-told .given .1) at (c .before .before .before .before .before .before .before .before .before .before .before .before .before .before .before .before .before .before .before .check-nodes .ensures (a .edges .now))) in
-    (k, linked .1, linked .0, λ i h. funclets-lead (heldIn (a .g .now) .graph) m (a .edges .now) (a .ends .now) (a .nodes .now) (a .stored .nodes) passed i h, start .pre .2 .slots, firsts-none (heldIn (a .g .now) .graph) m (a .nodes .now) (a .exits .now) (start .pre .2 .firsts-fit) (start .pre .2 .unplaced), start .pre .1 .nodes-most)
+    (k, linked .1, linked .0, λ i h. funclets-lead (heldIn (a .g .now) .graph) m (a .edges .now) (a .ends .now) (a .nodes .now) (a .stored .nodes) passed i h, start .pre .2 .slots, firsts-none (heldIn (a .g .now) .graph) m (a .nodes .now) (a .exits .now) (start .pre .2 .firsts-fit) (start .pre .2 .unplaced), start .pre .1 .nodes-most, search needs)
 
 same-length-2 : tie.Need-same-length-2
 same-length-2 c = c .before .before .before .before .before .before .before .before .before .before .before .before .before .before .before .before .before .before .before .before .before .before .before .before .before .before .before .before .before .before .before .before .before .before .before .before .before .before .hint-blocks .kept .1 .1 .0
@@ -69,7 +69,7 @@ add-instances-requires c κs =
     let k = start .pre .0 in
     let linked = c .before .before .before .before .before .before .before .before .before .before .before .before .before .before .before .before .before .before .before .before .before .before .before .before .before .before .before .before .before .before .before .before .before .before .before .before .before .before .link .ensures in
     let placed = rw (c .before .before .before .before .before .before .before .before .before .before .before .before .enum-told2 .given .1) at (c .before .before .before .before .before .before .before .before .before .before .before .before .before .before .before .before .before .before .before .before .before .before .before .before .place .ensures) in
-    (k, placements (heldIn (a .g .now)) (a .built) m k (a .nodes .now) (a .edges .now) (a .ends .now) (a .roots .now) (a .stored) (start .pre .1) (start .pre .2) (linked .0) (linked .1) placed (c .before .before .before .before .before .before .before .before .before .before .before .before .before .before .before .before .before .before .before .before .before .before .before .before .place .kept .1 .1 .1 .1 .1 .1 .1 .1 .1 .1 .1 .1 .1 .0))
+    (k, placements (heldIn (a .g .now)) (a .built) m k (a .nodes .now) (a .edges .now) (a .ends .now) (a .roots .now) (a .stored) (start .pre .1) (start .pre .2) (linked .0) (linked .1) placed (c .before .before .before .before .before .before .before .before .before .before .before .before .before .before .before .before .before .before .before .before .before .before .before .before .place .kept .1 .1 .1 .1 .1 .1 .1 .1 .1 .1 .1 .1 .1 .0), search needs)
 
 same-length-10 : tie.Need-same-length-10
 same-length-10 c = c .before .before .before .before .before .before .before .before .before .before .before .before .before .before .before .before .before .before .before .before .before .before .before .before .before .before .before .before .before .before .before .before .before .before .before .before .before .before .before .before .before .before .before .before .before .before .before .before .before .before .before .before .before .before .before .before .hint-blocks .kept .1 .1 .0

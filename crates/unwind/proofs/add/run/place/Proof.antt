@@ -12,7 +12,7 @@ funclet-entries-requires c κs =
     let start = c .before .before .before .before .before .before .before .before .before .before in
     let a = start .args in
     let k = start .pre .0 in
-    (stands-of (heldIn (a .g .now)) (k .graphed), k .built, table-stepped (heldIn (a .g .now) .graph) (routesIn (a .s .now) (a .y)) (k .accepted) (k .passed), k .accepted)
+    (stands-of (heldIn (a .g .now)) (k .graphed), k .built, table-stepped (heldIn (a .g .now) .graph) (routesIn (a .s .now) (a .y)) (k .accepted) (k .passed), k .accepted, search needs)
 
 returning-blocks-requires : tie.Need-returning-blocks-requires
 returning-blocks-requires c κs =
@@ -35,6 +35,7 @@ place-nodes-requires c κs =
       start .pre .4,
       start .pre .5,
       start .pre .6,
+      search needs,
     )
 
 pub place-spec : {M : Type 1} → statement M

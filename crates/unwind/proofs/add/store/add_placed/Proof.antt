@@ -15,8 +15,9 @@ store-addition-requires : tie.Need-store-addition-requires
 store-addition-requires c κs =
     let start = c .before .before .before .before .before .before .before .before .before .before .before .before .before .before .before .before .before .before .before .before .before .before .before .before in
     let sizes = c .before .before .before .before .before .before .before .check-sizes in (
-      exits-kept (start .args .g .now) (routesIn (start .args .s .now) (start .args .y)) (start .pre) (sizes .kept .1 .1 .1 .1 .1 .1 .1 .1 .1 .1 .1 .1 .1 .1 .1 .1 .0),
+      exits-kept (start .args .g .now) (routesIn (start .args .s .now) (start .args .y)) (start .pre .0) (sizes .kept .1 .1 .1 .1 .1 .1 .1 .1 .1 .1 .1 .1 .1 .1 .1 .1 .0),
       sym (rw (c .before .before .before .enum-told .given .1) at (sizes .ensures)),
+      search needs,
     )
 
 returns-2 : tie.Need-returns-2

@@ -17,7 +17,7 @@ use Rattle.unwind.proofs.add.store.check_sizes.Tie as tie
 clone-edge-count-requires : tie.Need-clone-edge-count-requires
 clone-edge-count-requires c κs =
     let start = c .before .before .before .before .before .before .before .before .before .before .before .before .before .before in
-    links-lent (start .args .g .now) (routesIn (start .args .s .now) (start .args .y)) (start .pre)
+    links-lent (start .args .g .now) (routesIn (start .args .s .now) (start .args .y)) (start .pre .0)
 
 -- the routes that there are
 routes : (c : tie.Start) → length (routesIn (c .args .s .now) (c .args .y) .routes) ≡ c .args .y .routes .count
@@ -26,7 +26,7 @@ routes c = length-records routeFrom (c .args .s .now) (c .args .y .routes)
 most-ways-requires : tie.Need-most-ways-requires
 most-ways-requires c κs =
     let start = c .before .before .before .before .before .before .before .before .before .before .before .before .before .before .before .before .before in
-    let x = start .pre in
+    let x = start .pre .0 in
     let i = x .instances in
     let many = routes (c .before .before .before .before .before .before .before .before .before .before .before .before .before .before .before .before .before) in
     (omega (arith, many, x .accepted .routes-most), omega (arith, i .trie .nodes-most), omega (arith, c .block-count .ensures, block-most (start .args .g .now)), omega (arith, many, i .guards-fit), i .slots .returns-fit)
@@ -39,18 +39,19 @@ returns : tie.Need-returns
 returns c =
     let start = c .before .before .before .before .before .before .before .before .before .before .before .before .before .before .before .before .before .before .before .before .before in
     let clear = rw (c .enum-told .given .1) at (c .before .before .check-counts .ensures) in
-    most-check (start .args .g .now) (routesIn (start .args .s .now) (start .args .y)) (start .pre) (c .before .before .before .before .before .before .clone-edge-count .result) (c .before .before .before .most-ways .result) (c .before .before .before .before .before .before .clone-edge-count .ensures) (above (c .before .before .before)) clear
+    most-check (start .args .g .now) (routesIn (start .args .s .now) (start .args .y)) (start .pre .0) (c .before .before .before .before .before .before .clone-edge-count .result) (c .before .before .before .most-ways .result) (c .before .before .before .before .before .before .clone-edge-count .ensures) (above (c .before .before .before)) clear
 
 count-hops-requires : tie.Need-count-hops-requires
 count-hops-requires c κs =
     let start = c .before .before .before .before .before .before .before .before .before .before .before .before .before .before .before .before .before .before .before .before .before .before in
-    all-lent (start .args .g .now) (routesIn (start .args .s .now) (start .args .y)) (start .pre)
+    let l = all-lent (start .args .g .now) (routesIn (start .args .s .now) (start .args .y)) (start .pre .0) in
+    (l .0, l .1, l .2, l .3, l .4, l .5, l .6, l .7, l .8, l .9, l .10, start .pre .1)
 
 returns-2 : tie.Need-returns-2
 returns-2 c =
     let start = c .before .before .before .before .before .before .before .before .before .before .before .before .before .before .before .before .before .before .before .before .before .before .before .before .before .before in
     c .check-counts2 .ensures
-    ∙ counts-check (start .args .g .now) (routesIn (start .args .s .now) (start .args .y)) (start .pre) (c .before .before .before .before .before .before .before .before .before .before .before .clone-edge-count .result) (c .before .before .before .count-hops .result) (c .before .before .before .before .before .before .before .before .before .before .before .clone-edge-count .ensures) (c .before .before .before .count-hops .ensures)
+    ∙ counts-check (start .args .g .now) (routesIn (start .args .s .now) (start .args .y)) (start .pre .0) (c .before .before .before .before .before .before .before .before .before .before .before .clone-edge-count .result) (c .before .before .before .count-hops .result) (c .before .before .before .before .before .before .before .before .before .before .before .clone-edge-count .ensures) (c .before .before .before .count-hops .ensures)
 
 pub check-sizes-spec : {M : Type 1} → statement M
 check-sizes-spec =

@@ -22,6 +22,7 @@ add-blocks-requires c κs =
       c .before .before .empty-hops .ensures .holds,
       fit-stood (heldIn (a .g .now) .graph) m (a .nodes .now) (a .edges .now) (a .ends .now) (a .roots .now) (a .heads .now) (a .landings .now) (a .guards .now) (a .bases .now) (a .parts .now) (a .returns .now) (a .stored) (start .pre .1) (start .pre .2) (start .pre .3) (start .pre .4) (start .pre .5) (c .before .before .before .before .block-count .result) (c .before .before .before .before .block-count .ensures) (start .pre .7),
       rw (c .before .before .before .before .block-count .ensures) (block-sets (heldIn (a .g .now) .graph) (routesIn (a .s .now) (a .y)) (a .guards .now) (a .bases .now) (a .returns .now) (a .stored) (start .pre .3) (start .pre .10) (start .pre .9)),
+      search needs,
     )
 
 add-nodes-requires : tie.Need-add-nodes-requires
@@ -40,6 +41,7 @@ add-nodes-requires c κs =
       held-below (stood .0),
       fit-others (heldIn (a .g .now) .graph) m (a .nodes .now) (a .edges .now) (a .ends .now) (a .roots .now) (a .heads .now) (a .landings .now) (a .guards .now) (a .bases .now) (a .parts .now) (a .returns .now) (a .stored) (start .pre .1) (start .pre .2) (start .pre .3) (start .pre .4) (start .pre .5) (c .before .before .before .before .before .before .before .before .before .block-count .result) (c .before .before .before .before .before .before .before .before .before .block-count .ensures) (stood .0 .holds) (start .pre .7),
       rw (c .before .before .before .before .before .before .before .before .before .block-count .ensures) (nodes-sets (heldIn (a .g .now) .graph) (routesIn (a .s .now) (a .y)) (a .guards .now) (a .bases .now) (a .parts .now) (a .returns .now) (a .stored) (start .pre .3) (start .pre .8) (start .pre .9)),
+      search needs,
     )
 
 returns : tie.Need-returns

@@ -27,6 +27,7 @@ add-copies-requires c κs =
       held-up first (start .pre .5) (omega (arith, is, rises .rises (λ e. copies (is ∙ e)))),
       node-fit m (a .nodes .now) (a .edges .now) (a .ends .now) (a .heads .now) (a .landings .now) (a .bases .now) (a .parts .now) (a .returns .now) (a .blocks) (a .i) first is copies (hopsIn m (a .h .now)) (start .pre .6),
       start .pre .7,
+      search needs,
     )
 
 returns : tie.Need-returns

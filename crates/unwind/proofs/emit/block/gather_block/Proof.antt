@@ -21,6 +21,7 @@ gather-routes-requires c κs =
       start .pre .2,
       omega (arith, count, start .pre .0 .routes-most),
       record { fits = λ r h. node-fits (routesIn (a .s .now) (a .y)) (a .nodes .now) (a .edges .now) (a .ends .now) (a .roots .now) (a .stored) t (getD (a .roots .now) r 0) (t .roots-in r (omega (arith, count, h))) },
+      search needs,
     )
 
 gather-nodes-requires : tie.Need-gather-nodes-requires
@@ -31,6 +32,7 @@ gather-nodes-requires c κs =
       c .before .before .before .gather-routes .ensures .pooled,
       start .pre .2,
       record { fits = λ k h. node-fits (routesIn (a .s .now) (a .y)) (a .nodes .now) (a .edges .now) (a .ends .now) (a .roots .now) (a .stored) t (getD (a .originals .now) k 0) (start .pre .4 .within k h) },
+      search needs,
     )
 
 returns : tie.Need-returns

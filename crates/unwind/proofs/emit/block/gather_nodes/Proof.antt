@@ -35,7 +35,7 @@ gather-returned-requires c κs =
     let read = c .before .number-at .ensures in
     let here = ap (recordIn (a .nodes .now)) (sym (read .0)) in
     let fits = subst (λ (x : NodeRecord). NodeFits (a .edges .now) (a .ends .now) x) here (start .pre .2 .fits (top .k) (omega (arith, c .before .before .loop-test .taken))) in
-    (top .inv .1 .pooled, start .pre .1, read .1, fits)
+    (top .inv .1 .pooled, start .pre .1, read .1, fits, search needs)
 
 loop-again : tie.Need-loop-again Inv-loop μ-loop
 loop-again c =

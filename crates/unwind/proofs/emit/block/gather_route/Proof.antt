@@ -15,7 +15,7 @@ gather-node-requires c κs =
     let a = start .args in
     let here = ap (recordIn (a .nodes .now)) (sym (c .before .number-at .ensures .0)) in
     let fits = subst (λ (x : NodeRecord). NodeFits (a .edges .now) (a .ends .now) x) here (start .pre .3) in
-    (start .pre .0 .ordered, start .pre .1, node-room (routesIn (a .s .now) (a .y)) (a .b) (a .edges .now) (a .ends .now) (a .heads .now) (a .landings .now) (a .exits .now) (a .held) (recordIn (a .nodes .now) (c .before .number-at .result)) (start .pre .0) fits)
+    (start .pre .0 .ordered, start .pre .1, node-room (routesIn (a .s .now) (a .y)) (a .b) (a .edges .now) (a .ends .now) (a .heads .now) (a .landings .now) (a .exits .now) (a .held) (recordIn (a .nodes .now) (c .before .number-at .result)) (start .pre .0) fits, search needs)
 
 same-length : tie.Need-same-length
 same-length c = c .before .before .gather-node .ensures .long

@@ -79,6 +79,7 @@ add-copy-requires c κs =
       record { edges-few = room .edges-few; ends-few = room .ends-few; room = omega (arith, room .room, top .inv .0) },
       subst (λ (b : ℕ). HopsBelow m b (top .h)) (sym at) (held-below here),
       subst (λ (t : List Hop). HopsFit (t ++ own)) (sym (here .holds)) fit,
+      search needs,
     )
 
 loop-less : tie.Need-loop-less Inv-loop μ-loop

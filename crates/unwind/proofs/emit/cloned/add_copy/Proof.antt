@@ -4,6 +4,7 @@ use Rattle.image.specs.Image.{routesIn}
 use Rattle.unwind.specs.HopWords.{hopsIn}
 use Rattle.unwind.proofs.LentLaws.{pooled-none}
 use Rattle.unwind.proofs.HeldLaws.{held-room, held-more, copy-own, fit-own, held-own}
+use borrow.Author.Needs.{needs}
 use Rattle.unwind.proofs.emit.cloned.add_copy.Statement.{statement}
 use Rattle.unwind.proofs.emit.cloned.add_copy.Tie as tie
 
@@ -12,7 +13,7 @@ gather-node-requires c κs =
     let start = c .before .before .before .before .before .before .before .before in
     let a = start .args in
     let fits = start .pre .0 in
-    (pooled-none (routesIn (a .s .now) (a .y)) (a .b) (a .edges .now) (a .ends .now) (a .heads .now) (a .landings .now) (a .exits .now) (start .pre .2 .room) .ordered, start .pre .1, omega (arith, fits .edges-in, fits .ends-in, start .pre .2 .room))
+    (pooled-none (routesIn (a .s .now) (a .y)) (a .b) (a .edges .now) (a .ends .now) (a .heads .now) (a .landings .now) (a .exits .now) (start .pre .2 .room) .ordered, start .pre .1, omega (arith, fits .edges-in, fits .ends-in, start .pre .2 .room), search needs)
 
 add-exits-requires : tie.Need-add-exits-requires
 add-exits-requires c κs =

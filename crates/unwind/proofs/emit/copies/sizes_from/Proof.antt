@@ -4,6 +4,7 @@ use Rattle.image.specs.Image.{routesIn}
 use Rattle.unwind.specs.Nodes.{recordIn}
 use Rattle.unwind.proofs.LentLaws.{pooled-none}
 use Rattle.unwind.proofs.CopyLaws.{record-length, few-from}
+use borrow.Author.Needs.{needs}
 use Rattle.unwind.proofs.emit.copies.sizes_from.Statement.{statement}
 use Rattle.unwind.proofs.emit.copies.sizes_from.Tie as tie
 
@@ -13,7 +14,7 @@ gather-node-requires c κs =
     let a = start .args in
     let fits = start .pre .0 in
     let room = start .pre .2 .room in
-    (pooled-none (routesIn (a .s .now) (a .y)) (a .b) (a .edges .now) (a .ends .now) (a .heads .now) (a .landings .now) (a .exits .now) room .ordered, start .pre .1, omega (arith, fits .edges-in, fits .ends-in))
+    (pooled-none (routesIn (a .s .now) (a .y)) (a .b) (a .edges .now) (a .ends .now) (a .heads .now) (a .landings .now) (a .exits .now) room .ordered, start .pre .1, omega (arith, fits .edges-in, fits .ends-in), search needs)
 
 sizes-of-requires : tie.Need-sizes-of-requires
 sizes-of-requires c κs =

@@ -100,7 +100,7 @@ gather-block-requires c κs =
     let start = c .before .before .before .before .before .before .before .before .before .before .before .before .before .before .before .before .before .before .before .before .before .before .before .before .before .before .before .before .before in
     let top = c .before .before .before .before .before .before .before .before .before .before .before .before .before .loop in
     let low = rw (c .before .before .before .before .before .before .before .before .before .b .given .1) at (c .before .before .before .before .before .before .before .before .before .before .before .lowest-in .ensures) in
-    (start .pre .0, start .pre .1, omega (arith, low .0), omega (arith, start .pre .3 .room, top .inv .0), listed (c .before .before .before .before .before) .1)
+    (start .pre .0, start .pre .1, omega (arith, low .0), omega (arith, start .pre .3 .room, top .inv .0), listed (c .before .before .before .before .before) .1, search needs)
 
 loop-less : tie.Need-loop-less Inv-loop μ-loop
 loop-less c =

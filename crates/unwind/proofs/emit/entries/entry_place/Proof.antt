@@ -31,7 +31,7 @@ add-mid : tie.Need-add-mid Inv-loop μ-loop
 add-mid c = omega (arith, c .before .before .before .before .pre .0 .fit, c .before .loop .inv .most)
 
 compare-entries-requires : tie.Need-compare-entries-requires Inv-loop μ-loop
-compare-entries-requires c κs = (c .before .before .before .before .before .pre .1, c .branch-at .ensures .small)
+compare-entries-requires c κs = (c .before .before .before .before .before .pre .1, c .branch-at .ensures .small, search needs)
 
 add-lo : tie.Need-add-lo Inv-loop μ-loop
 add-lo c = omega (arith, c .before .before .before .before .before .before .before .before .pre .0 .fit, c .before .before .before .before .before .loop .inv .most)

@@ -33,7 +33,7 @@ put-entry-requires c κs =
     let start = c .before .before .before .before .before .before .before .before .before .before in
     let top = c .before .before .before .before .before .loop in
     let all = top .inv .2 in
-    (all .ordered, c .entry-to .ensures .small, omega (arith, top .inv .1, start .pre .3, all .long))
+    (all .ordered, c .entry-to .ensures .small, omega (arith, top .inv .1, start .pre .3, all .long), search needs)
 
 loop-again : tie.Need-loop-again Inv-loop μ-loop
 unfolding endExits

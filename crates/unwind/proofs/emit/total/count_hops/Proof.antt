@@ -19,6 +19,7 @@ count-blocks-requires c κs =
       omega (arith, blocks, start .pre .6 .few),
       start .pre .7,
       rw blocks (block-sets (heldIn (a .g .now) .graph) (routesIn (a .s .now) (a .y)) (a .guards .now) (a .bases .now) (a .returns .now) (a .stored) (start .pre .3) (start .pre .10) (start .pre .9)),
+      search needs,
     )
 
 count-nodes-requires : tie.Need-count-nodes-requires
@@ -34,6 +35,7 @@ count-nodes-requires c κs =
       omega (arith, blocks, start .pre .6 .few),
       record { edges-few = room .edges-few; ends-few = room .ends-few; room = omega (arith, room .room, c .before .before .before .count-blocks .ensures .long) },
       rw (blocks) (nodes-sets (heldIn (a .g .now) .graph) (routesIn (a .s .now) (a .y)) (a .guards .now) (a .bases .now) (a .parts .now) (a .returns .now) (a .stored) (start .pre .3) (start .pre .8) (start .pre .9)),
+      search needs,
     )
 
 returns : tie.Need-returns

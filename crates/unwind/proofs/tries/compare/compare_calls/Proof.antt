@@ -26,7 +26,7 @@ loop-holds c = let a = c .before .args in (search needs, search needs, calls-sta
 told : (c : tie.After-compare-numbers Inv-loop μ-loop) → let a = c .before .before .before .before .before .before .before .args in let m = routesIn (a .s .now) (a .y) in
     compare (stepIn m (a .a + c .before .before .before .before .before .loop .i) .value) (stepIn m (a .b + c .before .before .before .before .before .loop .i) .value) ≡ orderingOf (c .compare-numbers .result)
 told c =
-    ap₂ (λ (x z : Step). compare (x .value) (z .value)) (sym (c .before .before .step-at .ensures)) (sym (c .before .step-at2 .ensures))
+    ap₂ (λ (x z : Step). compare (x .value) (z .value)) (sym (c .before .before .step-of .ensures)) (sym (c .before .step-of2 .ensures))
     ∙ sym (c .compare-numbers .ensures)
 
 returns : tie.Need-returns Inv-loop μ-loop

@@ -76,7 +76,7 @@ intern-next-key-requires : (t : ℕ) → intern-lts.Need-next-key-requires (
   put-branch-reads.Asked,
   put-branch-reads.Learnt,
 ) (intern-at t) intern.Post intern-Inv-loop intern-μ-loop
-intern-next-key-requires t c κs = (c .before .before .before .before .before .before .before .pre .1 .0 .accepted, c .before .before .before .before .before .before .before .pre .1 .0 .starts, c .before .before .before .before .before .before .before .pre .1 .0 .within, c .loop .inv .0 .key, c .loop .inv .0 .final)
+intern-next-key-requires t c κs = (c .before .before .before .before .before .before .before .pre .1 .0 .accepted, c .before .before .before .before .before .before .before .pre .1 .0 .starts, c .before .before .before .before .before .before .before .pre .1 .0 .within, c .loop .inv .0 .key, c .loop .inv .0 .final, c .before .before .before .before .before .before .before .pre .1 .5)
 
 intern-enum-known-next : (t : ℕ) → intern-lts.Need-enum-known-next (
   next-key-reads.Asked,
@@ -121,7 +121,7 @@ intern-close-node-requires : (t : ℕ) → intern-lts.Need-close-node-requires (
 intern-close-node-requires t c κs =
     let m = routesIn (c .before .before .before .before .before .before .before .before .before .before .before .before .before .before .before .args .s .now) (c .before .before .before .before .before .before .before .before .before .before .before .before .before .before .before .args .y) in
     let next : NextOf m (c .before .before .before .before .before .before .before .before .before .before .before .before .before .before .before .args .g) (c .before .before .before .before .before .before .before .before .loop .last) Nothing = rw (c .before .before .before .before .before .enum-told .given .1) at (c .before .before .before .before .before .before .before .next-key .ensures) in
-    (c .before .before .before .before .before .before .before .before .before .before .before .before .before .before .before .pre .1 .0, c .before .before .before .before .before .before .before .before .loop .inv .0 .stored, close-room m (c .before .before .before .before .before .before .before .before .before .before .before .before .before .before .before .args .g) (c .before .before .before .before .before .before .before .before .before .before .before .before .before .before .before .args .nodes .now) (c .before .before .before .before .before .before .before .before .before .before .before .before .before .before .before .args .edges .now) (c .before .before .before .before .before .before .before .before .before .before .before .before .before .before .before .args .ends .now) (c .before .before .before .before .before .before .before .before .before .before .before .before .before .before .before .args .stack .now) (c .before .before .before .before .before .before .before .before .before .before .before .before .before .before .before .args .counts) (c .before .before .before .before .before .before .before .before .before .before .before .before .before .before .before .args .top) (c .before .before .before .before .before .before .before .before .before .before .before .before .before .before .before .pre .1 .2) (c .before .before .before .before .before .before .before .before .loop .nodes) (c .before .before .before .before .before .before .before .before .loop .edges) (c .before .before .before .before .before .before .before .before .loop .ends) (c .before .before .before .before .before .before .before .before .loop .stack) (c .before .before .before .before .before .before .before .before .loop .stored) (c .before .before .before .before .before .before .before .before .loop .n) (c .before .before .before .before .before .before .before .before .loop .last) (c .before .before .before .before .before .before .before .before .loop .inv .0) next, c .before .before .before .before .before .before .before .before .loop .inv .0 .lower, c .before .before .before .before .before .before .before .before .loop .inv .1)
+    (c .before .before .before .before .before .before .before .before .before .before .before .before .before .before .before .pre .1 .0, c .before .before .before .before .before .before .before .before .loop .inv .0 .stored, close-room m (c .before .before .before .before .before .before .before .before .before .before .before .before .before .before .before .args .g) (c .before .before .before .before .before .before .before .before .before .before .before .before .before .before .before .args .nodes .now) (c .before .before .before .before .before .before .before .before .before .before .before .before .before .before .before .args .edges .now) (c .before .before .before .before .before .before .before .before .before .before .before .before .before .before .before .args .ends .now) (c .before .before .before .before .before .before .before .before .before .before .before .before .before .before .before .args .stack .now) (c .before .before .before .before .before .before .before .before .before .before .before .before .before .before .before .args .counts) (c .before .before .before .before .before .before .before .before .before .before .before .before .before .before .before .args .top) (c .before .before .before .before .before .before .before .before .before .before .before .before .before .before .before .pre .1 .2) (c .before .before .before .before .before .before .before .before .loop .nodes) (c .before .before .before .before .before .before .before .before .loop .edges) (c .before .before .before .before .before .before .before .before .loop .ends) (c .before .before .before .before .before .before .before .before .loop .stack) (c .before .before .before .before .before .before .before .before .loop .stored) (c .before .before .before .before .before .before .before .before .loop .n) (c .before .before .before .before .before .before .before .before .loop .last) (c .before .before .before .before .before .before .before .before .loop .inv .0) next, c .before .before .before .before .before .before .before .before .loop .inv .0 .lower, c .before .before .before .before .before .before .before .before .loop .inv .1, c .before .before .before .before .before .before .before .before .before .before .before .before .before .before .before .pre .1 .5)
 
 intern-same-length : (t : ℕ) → intern-lts.Need-same-length (
   next-key-reads.Asked,
@@ -245,7 +245,7 @@ intern-intern-requires t c κs =
     let next = found _ _ _ _ (c .before .before .before .before .before .before .before .next .given .1) (c .before .before .before .before .before .before .before .before .before .next-key .ensures) in
     rw (c .before .before .before .before .before .group-behind .ensures) (
       omega (arith, next-falls _ _ _ _ next, c .before .before .before .before .before .before .before .before .before .before .before .before .before .before .before .before .before .pre .0),
-      (child-grouped _ _ _ _ next _ (c .before .before .before .before .before .before .before .before .before .before .before .before .before .before .before .before .before .pre .1 .0), c .before .before .before .before .before .before .before .before .before .before .loop .inv .0 .stored, child-room _ _ _ _ _ _ _ _ (c .before .before .before .before .before .before .before .before .before .before .before .before .before .before .before .before .before .pre .1 .2) _ _ _ _ _ _ _ (c .before .before .before .before .before .before .before .before .before .before .loop .inv .0) _ next, c .before .before .before .before .before .before .before .before .before .before .loop .inv .0 .lower, c .before .before .before .before .before .before .before .before .before .before .loop .inv .1),
+      (child-grouped _ _ _ _ next _ (c .before .before .before .before .before .before .before .before .before .before .before .before .before .before .before .before .before .pre .1 .0), c .before .before .before .before .before .before .before .before .before .before .loop .inv .0 .stored, child-room _ _ _ _ _ _ _ _ (c .before .before .before .before .before .before .before .before .before .before .before .before .before .before .before .before .before .pre .1 .2) _ _ _ _ _ _ _ (c .before .before .before .before .before .before .before .before .before .before .loop .inv .0) _ next, c .before .before .before .before .before .before .before .before .before .before .loop .inv .0 .lower, c .before .before .before .before .before .before .before .before .before .before .loop .inv .1, c .before .before .before .before .before .before .before .before .before .before .before .before .before .before .before .before .before .pre .1 .5),
     )
 
 intern-add-put-branch : (t : ℕ) → intern-lts.Need-add-put-branch (

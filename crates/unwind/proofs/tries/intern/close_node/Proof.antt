@@ -8,13 +8,13 @@ use Rattle.unwind.proofs.tries.intern.close_node.Statement.{statement}
 use Rattle.unwind.proofs.tries.intern.close_node.Tie as tie
 
 lay-edges-requires : tie.Need-lay-edges-requires
-lay-edges-requires c κs = let pre = c .before .before .before .before .before .before .before .pre in let r = pre .2 in (pre .0 .accepted, omega (arith, r .stack-few), omega (arith, r .edges-few), r .edges-fit)
+lay-edges-requires c κs = let pre = c .before .before .before .before .before .before .before .pre in let r = pre .2 in (pre .0 .accepted, omega (arith, r .stack-few), omega (arith, r .edges-few), r .edges-fit, search needs)
 
 lay-ends-requires : tie.Need-lay-ends-requires
 lay-ends-requires c κs =
     let p = c .before .before .before .before .before .before .before .before .before .before .before .pre .0 in
     let r = c .before .before .before .before .before .before .before .before .before .before .before .pre .2 in
-    (p .accepted, p .starts, p .within, omega (arith, r .ends-few), r .ends-fit)
+    (p .accepted, p .starts, p .within, omega (arith, r .ends-few), r .ends-fit, search needs)
 
 funclet-of-requires : tie.Need-funclet-of-requires
 funclet-of-requires c κs = let p = c .before .before .before .before .before .before .before .before .before .before .before .before .before .before .pre .0 in omega (arith, p .within .steps, p .accepted .steps-most)
@@ -34,6 +34,7 @@ keep-node-requires c κs =
       behind-laid m (a .starts .now) (a .g) (start .pre .0) (a .nodes .now) (a .edges .now) (a .ends .now) (a .stack .now) (a .counts) (a .top) (a .n) (start .pre .1) (start .pre .2) _ _ (f .result) (edges .result) (ends .result) (f .ensures) (edges .ensures) (ends .ensures) p q,
       lower-laid m (a .starts .now) (a .g) (start .pre .0) (a .nodes .now) (a .edges .now) (a .ends .now) (a .stack .now) (a .counts) (a .top) (a .n) (start .pre .1) (start .pre .2) _ _ (f .result) (edges .result) (ends .result) (f .ensures) (edges .ensures) (ends .ensures) (start .pre .3),
       start .pre .4,
+      search needs,
     )
 
 returns : tie.Need-returns

@@ -30,7 +30,7 @@ returns-3 c =
     let a = c .before .before .before .before .before .before .before .before .before .args in
     let m = routesIn (a .s .now) (a .y) in
     c .compare-numbers .ensures
-    ∙ ap₂ (λ (u v : Step). compare (u .value) (v .value)) (c .before .before .before .step-at .ensures) (c .before .step-at2 .ensures)
+    ∙ ap₂ (λ (u v : Step). compare (u .value) (v .value)) (c .before .before .before .step-of .ensures) (c .before .step-of2 .ensures)
     ∙ sym (tagged-equal compare (keyIn m (a .a)) (keyIn m (a .b)) (sym (c .before .before .before .before .before .before .before .compare-calls .ensures) ∙ ap orderingOf (c .before .before .before .before .before .enum-told3 .given .1)))
 
 pub compare-keys-spec : {M : Type 1} → statement M

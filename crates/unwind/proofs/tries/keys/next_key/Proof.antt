@@ -25,7 +25,7 @@ loop-holds c = (search needs, among-none _ _ _)
 nearer-key-requires : tie.Need-nearer-key-requires Inv-loop μ-loop
 nearer-key-requires c κs =
     let pre = c .before .before .before .before .before .before .pre in
-    (pre .0, pre .1, pre .2, pre .3, c .before .loop .inv .1, omega arith)
+    (pre .0, pre .1, pre .2, pre .3, c .before .loop .inv .1, omega arith, search needs)
 
 loop-again : tie.Need-loop-again Inv-loop μ-loop
 loop-again c = (search needs, c .nearer-key .ensures)

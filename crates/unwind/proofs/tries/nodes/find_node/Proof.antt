@@ -56,7 +56,7 @@ loop-holds c =
 stands-at-requires : tie.Need-stands-at-requires Inv-loop μ-loop
 stands-at-requires c κs =
     let start = c .before .before .before .before .before .before .before .before .before .before .before .before in
-    (start .pre .0, start .pre .1, omega (arith, c .loop-test .taken, start .pre .2), c .before .before .before .before .before .funclet-value .ensures)
+    (start .pre .0, start .pre .1, omega (arith, c .loop-test .taken, start .pre .2), c .before .before .before .before .before .funclet-value .ensures, search needs)
 
 returns-3 : tie.Need-returns-3 Inv-loop μ-loop
 returns-3 c =

@@ -13,7 +13,7 @@ returns c = let a = c .before .before .args in value-root (routesIn (a .s .now) 
 returns-2 : tie.Need-returns-2
 returns-2 c =
     let a = c .before .before .before .args in
-    ap (λ (x : Step). x .value) (c .step-at .ensures) ∙ value-other (routesIn (a .s .now) (a .y)) (a .a) (c .before .if1 .left)
+    ap (λ (x : Step). x .value) (c .step-of .ensures) ∙ value-other (routesIn (a .s .now) (a .y)) (a .a) (c .before .if1 .left)
 
 pub funclet-value-spec : {M : Type 1} → statement M
 funclet-value-spec = tie.close (tie.spec returns (λ c. search needs) (λ c κs. search needs) returns-2)

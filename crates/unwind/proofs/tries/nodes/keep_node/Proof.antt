@@ -10,7 +10,7 @@ use Rattle.unwind.proofs.tries.nodes.keep_node.Statement.{statement}
 use Rattle.unwind.proofs.tries.nodes.keep_node.Tie as tie
 
 find-node-requires : tie.Need-find-node-requires
-find-node-requires c κs = let pre = c .before .before .before .before .before .before .pre in (pre .0, pre .2 .small, pre .1 .nodes-fit, pre .3, pre .4)
+find-node-requires c κs = let pre = c .before .before .before .before .before .before .pre in (pre .0, pre .2 .small, pre .1 .nodes-fit, pre .3, pre .4, search needs)
 
 put-node-requires : tie.Need-put-node-requires
 put-node-requires c κs = let pre = c .before .before .before .before .before .before .before .before .before .before .pre in (pre .2 .room, pre .2 .small)

@@ -16,7 +16,7 @@ returns-2 c = funclet-other (routesIn (c .before .before .before .args .s .now) 
 
 returns-3 : tie.Need-returns-3
 returns-3 c =
-    ap₂ (λ (x z : Step). eqb (x .value) (z .value)) (c .before .before .before .step-at .ensures) (c .before .before .step-at2 .ensures)
+    ap₂ (λ (x z : Step). eqb (x .value) (z .value)) (c .before .before .before .step-of .ensures) (c .before .before .step-of2 .ensures)
     ∙ funclet-both (routesIn (c .before .before .before .before .before .before .before .args .s .now) (c .before .before .before .before .before .before .before .args .y)) (c .before .before .before .before .before .before .before .args .a) (c .before .before .before .before .before .before .before .args .b) (c .before .before .before .before .before .if1 .left) (c .before .before .before .before .if2 .left)
 
 pub same-funclet-spec : {M : Type 1} → statement M

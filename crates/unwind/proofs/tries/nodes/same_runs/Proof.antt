@@ -35,7 +35,7 @@ loop-holds : tie.Need-loop-holds Inv-loop μ-loop
 loop-holds c = (search needs, refl)
 
 compare-branches-requires : tie.Need-compare-branches-requires Inv-loop μ-loop
-compare-branches-requires c κs = (c .before .before .before .before .before .before .before .pre .0, c .before .branch-at .ensures .small, c .branch-at2 .ensures .small)
+compare-branches-requires c κs = (c .before .before .before .before .before .before .before .pre .0, c .before .branch-at .ensures .small, c .branch-at2 .ensures .small, search needs)
 
 -- what the comparison says of the two that stand there
 told : (c : tie.After-compare-branches Inv-loop μ-loop) → let m = routesIn (c .before .before .before .before .before .before .before .before .args .s .now) (c .before .before .before .before .before .before .before .before .args .y) in let d = meaning m (c .before .before .before .before .before .before .before .before .args .kind) (branchIn (c .before .before .before .before .before .before .before .before .args .list .now) 0) in

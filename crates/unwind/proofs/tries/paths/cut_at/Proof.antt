@@ -24,7 +24,7 @@ unfolding cutOf
 returns c =
     let m = routesIn (c .before .before .before .before .before .before .args .s .now) (c .before .before .before .before .before .before .args .y) in
     let i = c .before .before .before .before .loop .i in
-    let here = sym (ap (λ (x : Step). x .code) (c .before .before .step-at .ensures)) ∙ c .if1 .taken in
+    let here = sym (ap (λ (x : Step). x .code) (c .before .before .step-of .ensures)) ∙ c .if1 .taken in
     record {
       is = cut-enters m (c .before .before .before .before .before .before .args .a) (c .before .before .before .before .before .before .args .n) i (c .before .before .before .loop-test .taken) (c .before .before .before .before .loop .inv .1) here;
       stands = (c .before .before .before .loop-test .taken, key-steps m (c .before .before .before .before .before .before .args .a) (c .before .before .before .before .before .before .args .n) i (c .before .before .before .loop-test .taken) (c .before .before .before .before .loop .inv .1) here);
@@ -33,7 +33,7 @@ returns c =
 loop-again : tie.Need-loop-again Inv-loop μ-loop
 loop-again c =
     let m = routesIn (c .before .before .before .before .before .before .args .s .now) (c .before .before .before .before .before .before .args .y) in
-    let read = ap (λ (x : Step). x .code) (c .before .before .step-at .ensures) in
+    let read = ap (λ (x : Step). x .code) (c .before .before .step-of .ensures) in
     (search needs, cut-on m (c .before .before .before .before .before .before .args .a) (c .before .before .before .before .before .before .args .n) (c .before .before .before .before .loop .i) (c .before .before .before .loop-test .taken) (c .before .before .before .before .loop .inv .1) (λ e. c .if1 .left (read ∙ e)))
 
 returns-2 : tie.Need-returns-2 Inv-loop μ-loop

@@ -45,7 +45,7 @@ slice-write-starts : tie.Need-slice-write-starts Inv-loop μ-loop
 slice-write-starts c = omega (arith, among c .0, c .before .loop .inv .2, c .before .before .before .before .before .pre .1)
 
 add-next : tie.Need-add-next Inv-loop μ-loop
-add-next c = omega (arith, among (c .before .before) .1, c .before .before .before .loop .inv .1, ap (λ (x : Path). x .steps) (c .before .path-at .ensures))
+add-next c = omega (arith, among (c .before .before) .1, c .before .before .before .loop .inv .1, ap (λ (x : Path). x .steps) (c .before .path-of .ensures))
 
 loop-again : tie.Need-loop-again Inv-loop μ-loop
 loop-again c =
@@ -54,7 +54,7 @@ loop-again c =
     let l = c .before .before .before .loop .starts in
     let room : p < length l = omega (arith, among (c .before .before) .0, c .before .before .before .loop .inv .2, c .before .before .before .before .before .before .before .pre .1) in (
       search needs,
-      omega (arith, steps-next m p, c .before .before .before .loop .inv .1, ap (λ (x : Path). x .steps) (c .before .path-at .ensures)),
+      omega (arith, steps-next m p, c .before .before .before .loop .inv .1, ap (λ (x : Path). x .steps) (c .before .path-of .ensures)),
       length-set l p (c .before .before .before .loop .next) ∙ c .before .before .before .loop .inv .2,
       λ q h.
           elim (decLt q p) [

@@ -31,8 +31,8 @@ loop-holds c = (search needs, sym (same-start _ _ _ _))
 returns-2 : tie.Need-returns-2 Inv-loop μ-loop
 returns-2 c =
     let m = routesIn (c .before .before .before .before .before .before .before .before .before .args .s .now) (c .before .before .before .before .before .before .before .before .before .args .y) in
-    let x = c .before .before .before .before .step-at in
-    let z = c .before .before .before .step-at2 in
+    let x = c .before .before .before .before .step-of in
+    let z = c .before .before .before .step-of2 in
     let differ : sameStep (stepOf (stepIn m (c .before .before .before .before .before .before .before .before .before .args .a + c .before .before .before .before .before .before .loop .i))) (stepOf (stepIn m (c .before .before .before .before .before .before .before .before .before .args .b + c .before .before .before .before .before .before .loop .i))) ≡ false =
     rw (x .ensures, z .ensures) at (codes-differ (x .result) (z .result) (rw (x .ensures) (c .before .before .before .before .before .before .before .before .before .pre .0 .codes (c .before .before .before .before .before .before .before .before .before .args .a + c .before .before .before .before .before .before .loop .i))) (rw (z .ensures) (c .before .before .before .before .before .before .before .before .before .pre .0 .codes (c .before .before .before .before .before .before .before .before .before .args .b + c .before .before .before .before .before .before .loop .i))) (c .if2 .taken)) in
     sym (c .before .before .before .before .before .before .loop .inv .1 ∙ same-next m (c .before .before .before .before .before .before .before .before .before .args .a) (c .before .before .before .before .before .before .before .before .before .args .b) (c .before .before .before .before .before .before .before .before .before .args .n) (c .before .before .before .before .before .before .loop .i) (c .before .before .before .before .before .loop-test .taken) ∙ rw differ)
@@ -40,8 +40,8 @@ returns-2 c =
 returns-3 : tie.Need-returns-3 Inv-loop μ-loop
 returns-3 c =
     let m = routesIn (c .before .before .before .before .before .before .before .before .before .before .before .before .args .s .now) (c .before .before .before .before .before .before .before .before .before .before .before .before .args .y) in
-    let x = c .before .before .before .before .before .before .before .step-at in
-    let z = c .before .before .before .before .before .before .step-at2 in
+    let x = c .before .before .before .before .before .before .before .step-of in
+    let z = c .before .before .before .before .before .before .step-of2 in
     let differ : sameStep (stepOf (stepIn m (c .before .before .before .before .before .before .before .before .before .before .before .before .args .a + c .before .before .before .before .before .before .before .before .before .loop .i))) (stepOf (stepIn m (c .before .before .before .before .before .before .before .before .before .before .before .before .args .b + c .before .before .before .before .before .before .before .before .before .loop .i))) ≡ false =
     rw (x .ensures, z .ensures) at (values-differ (x .result) (z .result) (c .before .before .before .if2 .left) (c .if3 .taken)) in
     sym (c .before .before .before .before .before .before .before .before .before .loop .inv .1 ∙ same-next m (c .before .before .before .before .before .before .before .before .before .before .before .before .args .a) (c .before .before .before .before .before .before .before .before .before .before .before .before .args .b) (c .before .before .before .before .before .before .before .before .before .before .before .before .args .n) (c .before .before .before .before .before .before .before .before .before .loop .i) (c .before .before .before .before .before .before .before .before .loop-test .taken) ∙ rw differ)
@@ -49,8 +49,8 @@ returns-3 c =
 loop-again : tie.Need-loop-again Inv-loop μ-loop
 loop-again c =
     let m = routesIn (c .before .before .before .before .before .before .before .before .before .before .before .before .args .s .now) (c .before .before .before .before .before .before .before .before .before .before .before .before .args .y) in
-    let x = c .before .before .before .before .before .before .before .step-at in
-    let z = c .before .before .before .before .before .before .step-at2 in
+    let x = c .before .before .before .before .before .before .before .step-of in
+    let z = c .before .before .before .before .before .before .step-of2 in
     let agree = rw (x .ensures, z .ensures) at (steps-agree (x .result) (z .result) (c .before .before .before .if2 .left) (c .if3 .left)) in
     (search needs, c .before .before .before .before .before .before .before .before .before .loop .inv .1 ∙ same-next m (c .before .before .before .before .before .before .before .before .before .before .before .before .args .a) (c .before .before .before .before .before .before .before .before .before .before .before .before .args .b) (c .before .before .before .before .before .before .before .before .before .before .before .before .args .n) (c .before .before .before .before .before .before .before .before .before .loop .i) (c .before .before .before .before .before .before .before .before .loop-test .taken) ∙ rw agree)
 

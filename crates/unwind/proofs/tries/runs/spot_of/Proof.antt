@@ -24,7 +24,7 @@ loop-holds : tie.Need-loop-holds Inv-loop μ-loop
 loop-holds c = (search needs, spot-start _ _ _)
 
 compare-branches-requires : tie.Need-compare-branches-requires Inv-loop μ-loop
-compare-branches-requires c κs = (c .before .before .before .before .before .pre .0, c .before .before .before .before .before .pre .1, c .branch-at .ensures .small)
+compare-branches-requires c κs = (c .before .before .before .before .before .pre .0, c .before .before .before .before .before .pre .1, c .branch-at .ensures .small, search needs)
 
 -- what the comparison says of the branch that stands there
 told : (c : tie.After-compare-branches Inv-loop μ-loop) → let m = routesIn (c .before .before .before .before .before .before .args .s .now) (c .before .before .before .before .before .before .args .y) in
