@@ -2,6 +2,7 @@
 --     checks-more, checks-stop     one check more, where nothing was refused before it
 --     then-left, then-right        what is clear in a row is clear by itself; unless-clear, field-clear, byte-clear likewise
 --     checks-each                  so is each of n checks
+--     field-there                  the bytes of a field that is clear are there
 --     there-fits                   the bytes of a field that may hold anything are there,
 --     there-good, there-not        and a field that must be good is bad alone, or refused likewise
 --     place-next                   the place of the next record
@@ -63,18 +64,21 @@ field-clear l at w good h = go (leb (at + w) (length l)) h
     go true e = unless-clear good (refusal 1 at 0) e
     go false e = absurd (let z : _≡_ {A = ℕ} 0 1 = cc in omega arith)
 
+pub field-there : (l : List ℕ) (at w : ℕ) (good : Bool) → field l at w good ≡ clear → at + w ≤ length l
+unfolding field
+field-there l at w good h = leb-true (at + w) (length l) (go (leb (at + w) (length l)) h)
+  where
+    go : (there : Bool) → cond there (bad at good) (refused (refusal 1 (length l) 0)) ≡ clear → there ≡ true
+    go true e = refl
+    go false e = absurd (let z : _≡_ {A = ℕ} 0 1 = cc in omega arith)
+
 pub byte-clear : (l : List ℕ) (at most : ℕ) → byte l at most ≡ clear → le1 l at ≤ most
 byte-clear l at most h = leb-true (le1 l at) most (field-clear l at 1 (leb (le1 l at) most) h)
 
 -- v is what was found up to a field that may hold anything, itself among it
 module _ (v c : Check) (l : List ℕ) (at w : ℕ) (e : v ≡ (c then field l at w true)) where
   pub there-fits : v ≡ clear → at + w ≤ length l
-  unfolding field
-  there-fits h = leb-true (at + w) (length l) (go (leb (at + w) (length l)) (then-right c _ (sym e ∙ h)))
-    where
-      go : (there : Bool) → cond there (bad at true) (refused (refusal 1 (length l) 0)) ≡ clear → there ≡ true
-      go true e = refl
-      go false e = absurd (let z : _≡_ {A = ℕ} 0 1 = cc in omega arith)
+  there-fits h = field-there l at w true (then-right c _ (sym e ∙ h))
 
   module _ (good : Bool) where
     pub there-good : v ≡ clear → bad at good ≡ (c then field l at w good)

@@ -12,7 +12,7 @@ routes-words-requires : tie.Need-routes-words-requires
 routes-words-requires c κs = search needs
 
 returns : tie.Need-returns
-returns c = c .routes-words .ensures _ ∙ ap toldRoutes (c .before .read-routes .ensures)
+returns c = c .routes-words .ensures _ ∙ ap toldRoutes (c .before .read-routes .ensures .0)
 
 pub foldzine-read-routes-spec : {M : Type 1} → statement M
 foldzine-read-routes-spec = tie.close (tie.spec read-routes-requires routes-words-requires returns)

@@ -18,20 +18,20 @@ add-read-requires : tie.Need-add-read-requires
 add-read-requires c κs =
     let a = c .before .before .before .before .before .before .before .before .before .before .args in (
       sym (c .before .before .before .before .before .before .before .is-graph .ensures) ∙ not-false _ (c .before .before .before .before .before .before .if1 .left),
-      accepted-routes (a .s .now) (routesIn (a .s .now) _) (sym (rw (c .before .before .before .y .given .1) at (c .before .before .before .before .before .read-routes .ensures))),
-      search needs,
+      accepted-routes (a .s .now) (routesIn (a .s .now) _) (sym (rw (c .before .before .before .y .given .1) at (c .before .before .before .before .before .read-routes .ensures .0))),
+      rw (c .before .before .before .y .given .1) at (c .before .before .before .before .before .read-routes .ensures .1),
     )
 
 returns-2 : tie.Need-returns-2
 returns-2 c =
     let a = c .before .before .before .before .before .before .before .before .before .args in
     refused-answers (a .s .now) (a .g .now) (a .h .now) (c .form-error .result)
-    (form-refused (heldIn (a .g .now)) (a .s .now) (sym (c .before .before .before .before .before .before .is-graph .ensures) ∙ not-false _ (c .before .before .before .before .before .if1 .left)) (c .form-error .result) _ (c .form-error .ensures) (rw (c .before .before .e .given .1) at (c .before .before .before .before .read-routes .ensures)))
+    (form-refused (heldIn (a .g .now)) (a .s .now) (sym (c .before .before .before .before .before .before .is-graph .ensures) ∙ not-false _ (c .before .before .before .before .before .if1 .left)) (c .form-error .result) _ (c .form-error .ensures) (rw (c .before .before .e .given .1) at (c .before .before .before .before .read-routes .ensures .0)))
 
 returns-3 : tie.Need-returns-3
 returns-3 c =
     let a = c .before .before .before .before .before .before .before .before .before .before .before .args in
-    add-answers (a .s .now) (a .g .now) _ (a .h .now) _ (c .add-read .result) (sym (c .before .before .before .before .before .before .before .before .is-graph .ensures) ∙ not-false _ (c .before .before .before .before .before .before .before .if1 .left)) (routesIn (a .s .now) _) (rw (c .before .before .before .before .y .given .1) at (c .before .before .before .before .before .before .read-routes .ensures)) (c .add-read .ensures)
+    add-answers (a .s .now) (a .g .now) _ (a .h .now) _ (c .add-read .result) (sym (c .before .before .before .before .before .before .before .before .is-graph .ensures) ∙ not-false _ (c .before .before .before .before .before .before .before .if1 .left)) (routesIn (a .s .now) _) (rw (c .before .before .before .before .y .given .1) at (c .before .before .before .before .before .before .read-routes .ensures .0)) (c .add-read .ensures)
 
 pub add-unwind-routes-spec : {M : Type 1} → statement M
 add-unwind-routes-spec =
