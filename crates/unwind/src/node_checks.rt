@@ -1,12 +1,12 @@
 // The checks of the trie's nodes, in creation order: 14 and 17 of the funclet, and then of the handlers at its ends.
 use crate::checks::check_lead;
+use crate::routes::path_of;
+use crate::routes::step_of;
 use crate::tries::store::branch_at;
 use crate::tries::store::node_at;
 use graph::error::Checked;
 use graph::resume::HANDLER;
 use graph::store::Words;
-use crate::routes::path_of;
-use crate::routes::step_of;
 use image::section::RouteLayout;
 ghost use mathlib.Core.Path.{_≡_};
 ghost use mathlib.Core.List.{List};

@@ -2,6 +2,7 @@
 use crate::blocks::Lead;
 use crate::blocks::last_of;
 use crate::blocks::leading_block;
+use crate::routes::step_of;
 use graph::blockset::Lowest;
 use graph::blockset::has_in;
 use graph::blockset::lowest_in;
@@ -14,7 +15,6 @@ use graph::store::Words;
 use graph::store::blocks::block_count;
 use graph::store::edges::edge_at;
 use graph::store::edges::edge_count;
-use crate::routes::step_of;
 use image::section::RouteLayout;
 ghost use mathlib.Core.Path.{_≡_};
 ghost use mathlib.Core.Bool.{true, not, _&&_};

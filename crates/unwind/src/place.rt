@@ -2,6 +2,7 @@
 use crate::blocks::Lead;
 use crate::blocks::leading_block;
 use crate::part::part_of;
+use crate::routes::step_of;
 use crate::slots::put_set;
 use crate::slots::set_at;
 use crate::tries::store::node_at;
@@ -13,7 +14,6 @@ use graph::error::AddressBuildError;
 use graph::error::Checked;
 use graph::store::Words;
 use graph::store::blocks::block_count;
-use crate::routes::step_of;
 use image::section::RouteLayout;
 ghost use mathlib.Core.Path.{_≡_};
 ghost use mathlib.Core.Bool.{true};

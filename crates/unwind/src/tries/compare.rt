@@ -1,7 +1,7 @@
 // Comparisons of what stands in a route image: tags from the first on, then what comes after them.
-use crate::tries::store::Branch;
 use crate::routes::path_of;
 use crate::routes::step_of;
+use crate::tries::store::Branch;
 use image::section::RouteLayout;
 ghost use mathlib.Core.Path.{_≡_};
 ghost use Prim.Native.Nat.{_+_, _<_, compare};

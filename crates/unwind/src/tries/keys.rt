@@ -1,4 +1,5 @@
 // The next funclets of a group of paths, each with the calls before it, in order.
+use crate::routes::step_of;
 use crate::tries::compare::Order;
 use crate::tries::compare::compare_calls;
 use crate::tries::compare::compare_numbers;
@@ -7,7 +8,6 @@ use crate::tries::paths::Group;
 use crate::tries::paths::Left;
 use crate::tries::paths::cut_at;
 use crate::tries::paths::left_of;
-use crate::routes::step_of;
 use image::section::RouteLayout;
 ghost use mathlib.Core.Path.{_≡_};
 ghost use Prim.Native.Nat.{_+_, _<_, _≤_, compare};

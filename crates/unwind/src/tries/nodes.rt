@@ -1,4 +1,5 @@
 // Nodes by what they are: a node that stands already is not stored again.
+use crate::routes::step_of;
 use crate::tries::compare::Kind;
 use crate::tries::compare::Order;
 use crate::tries::compare::compare_branches;
@@ -10,7 +11,6 @@ use crate::tries::store::number_at;
 use crate::tries::store::put_node;
 use graph::blockset::has_in;
 use graph::blockset::put_in;
-use crate::routes::step_of;
 use image::section::RouteLayout;
 ghost use mathlib.Core.Path.{_≡_};
 ghost use mathlib.Core.Bool.{_&&_};

@@ -1,8 +1,8 @@
 // The paths of a route that begin with the same steps, and what is left of them. Nothing is copied: the steps stand in the
 // image.
-use crate::tries::store::number_at;
 use crate::routes::path_of;
 use crate::routes::step_of;
+use crate::tries::store::number_at;
 use image::section::RouteLayout;
 ghost use mathlib.Core.Path.{_≡_};
 ghost use Prim.Native.Nat.{_+_, _≤_, _<_};

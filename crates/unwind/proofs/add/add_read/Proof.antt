@@ -24,13 +24,15 @@ returns c =
 
 add-checked-requires : tie.Need-add-checked-requires
 add-checked-requires c κs =
-    let start = c .before .before .before .before .before .before .before .before .before in
-    (record {
-      graphed = start .pre .0;
-      built = c .before .before .before .before .before .before .built-count .ensures;
-      accepted = start .pre .1;
-      passed = sym (rw (c .before .before .enum-told .given .1) at (c .before .before .before .before .check-routes .ensures));
-    }, search needs)
+    let start = c .before .before .before .before .before .before .before .before .before in (
+      record {
+        graphed = start .pre .0;
+        built = c .before .before .before .before .before .before .built-count .ensures;
+        accepted = start .pre .1;
+        passed = sym (rw (c .before .before .enum-told .given .1) at (c .before .before .before .before .check-routes .ensures));
+      },
+      search needs,
+    )
 
 pub add-read-spec : {M : Type 1} → statement M
 add-read-spec =
