@@ -4,6 +4,7 @@
 --     value-root, value-other                             the number that names one
 --     place-first, place-lt                               the first of a list that equals a node; it stands there
 --     length-nodes, nodes-more, node-of, place-nothing, nodes-same, nodes-still     the nodes in scratch; none equals a node; after stores elsewhere
+--     behind-fits, stored-fits                            the edges and ends of nodes stand in the lists
 --     kept-present, kept-new                              a node stands already, or is stored
 -- Assumes nothing.
 use mathlib.Core.Path.{_≡_, refl, sym, ap, _∙_}
@@ -24,7 +25,7 @@ use Rattle.unwind.specs.declared.tries.store.NodeRecord.{NodeRecord}
 use Rattle.unwind.specs.declared.tries.store.Counts.{Counts}
 use Rattle.addition.specs.Order.{same}
 use Rattle.addition.specs.Trie.{Node, sameFunclet, sameNode, placeOf, created, create}
-use Rattle.unwind.specs.Nodes.{stepIn, funcletIn, valueOf, recordIn, branchIn, edgeOf, endAt, nodeIn, nodesIn, Stored, NodePut}
+use Rattle.unwind.specs.Nodes.{stepIn, funcletIn, valueOf, recordIn, branchIn, edgeOf, endAt, nodeIn, nodesIn, Stored, NodeFits, NodesFit, NodePut}
 use Rattle.unwind.specs.Kept.{Behind, Kept}
 use Rattle.unwind.proofs.TrieRuns.{branches-same}
 
@@ -154,6 +155,15 @@ nodes-still m nodes edges ends edges′ ends′ c stored same-edges same-ends =
       ends = map (endAt m) (branches-same ends′ ends (recordIn nodes i .«first_end») (recordIn nodes i .ends) (λ k lt. same-ends _ (omega (arith, stored .ends-in i h))) d);
       route = recordIn nodes i .route;
     })
+
+-- ---- the edges and ends of nodes stand in the lists
+
+module _ (nodes edges ends : List ℕ) (c : Counts) where
+  pub behind-fits : (x : NodeRecord) → Behind nodes edges ends c x → NodeFits edges ends x
+  behind-fits x b = record { edges-fit = omega (arith, b .first-edge, b .edges-fit); ends-fit = omega (arith, b .first-end, b .ends-fit) }
+
+  pub stored-fits : Stored nodes edges ends c → NodesFit nodes edges ends (c .nodes)
+  stored-fits s i h = record { edges-fit = omega (arith, s .edges-in i h, s .edges-fit); ends-fit = omega (arith, s .ends-in i h, s .ends-fit) }
 
 -- ---- a node stands already, or is stored
 

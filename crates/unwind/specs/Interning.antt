@@ -95,6 +95,7 @@ module _ (m : RouteImage) where
 
   -- where the steps of each path start, and where those of the last one end
   pub record Starts (l : List ℕ) : Type 0 where
+    pub long : length (m .paths) < length l
     pub at : (p : ℕ) → p ≤ length (m .paths) → getD l p 0 ≡ stepsBefore m p
 
   -- ---- a group: the paths of a route that begin with the same steps

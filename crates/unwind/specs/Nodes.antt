@@ -89,6 +89,15 @@ pub record Stored (nodes edges ends : List ℕ) (c : Counts) : Type 0 where
   pub edges-in : (i : ℕ) → i < c .nodes → recordIn nodes i .«first_edge» + recordIn nodes i .edges ≤ c .edges
   pub ends-in : (i : ℕ) → i < c .nodes → recordIn nodes i .«first_end» + recordIn nodes i .ends ≤ c .ends
 
+-- the edges and ends of x stand in two lists
+pub record NodeFits (edges ends : List ℕ) (x : NodeRecord) : Type 0 where
+  pub edges-fit : 3 * (x .«first_edge» + x .edges) ≤ length edges
+  pub ends-fit : 3 * (x .«first_end» + x .ends) ≤ length ends
+
+-- and those of each of the first n nodes
+abbrev pub NodesFit : List ℕ → List ℕ → List ℕ → ℕ → Type 0
+NodesFit nodes edges ends n = (i : ℕ) → i < n → NodeFits edges ends (recordIn nodes i)
+
 -- ---- what is read and stored
 
 -- numbers that a u16 holds

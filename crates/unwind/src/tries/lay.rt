@@ -7,7 +7,7 @@ use crate::tries::paths::cut_at;
 use crate::tries::paths::left_of;
 use crate::tries::runs::put_sorted;
 use crate::tries::store::Branch;
-use crate::tries::store::branch_at;
+use crate::tries::store::branch_in;
 use image::section::RouteLayout;
 ghost use Prim.Native.Nat.{_+_, _*_, _≤_, _<_};
 ghost use lib.ListN.{length};
@@ -92,7 +92,7 @@ pub fn lay_edges(
     edges: &mut [u16],
     at: usize,
 ) -> usize
-    requires { ⌜ AcceptedRoutes (routesIn (now s) y) × (top + n < 65536) × (at + n < 65536) × (3 * (at + n) ≤ length (now edges)) × RoutesThere (now s) y ⌝ }
+    requires { ⌜ AcceptedRoutes (routesIn (now s) y) × (top + n < 65536) × (at + n < 65536) × (3 * (at + n) ≤ length (now edges)) × RoutesThere (now s) y × (3 * (top + n) ≤ length (now stack)) ⌝ }
     ensures { λ r. ⌜ EdgesLaid (routesIn (now (s .entry)) y) (now (stack .entry)) top n (now (edges .entry)) at (now (edges .exit)) r ⌝ }
 {
     let mut count = 0;
@@ -104,7 +104,7 @@ pub fn lay_edges(
             edges,
             at,
             count,
-            branch_at(stack, top + k),
+            branch_in(stack, top + k),
         );
     }
     count

@@ -5,9 +5,9 @@ use crate::tries::compare::Order;
 use crate::tries::compare::compare_branches;
 use crate::tries::store::Counts;
 use crate::tries::store::NodeRecord;
-use crate::tries::store::branch_at;
-use crate::tries::store::node_at;
-use crate::tries::store::number_at;
+use crate::tries::store::branch_in;
+use crate::tries::store::node_in;
+use crate::tries::store::number_in;
 use crate::tries::store::put_node;
 use graph::blockset::has_in;
 use graph::blockset::put_in;
@@ -23,7 +23,7 @@ ghost use Rattle.image.specs.Accepted.{AcceptedRoutes};
 ghost use Rattle.image.specs.There.{RoutesThere};
 ghost use Rattle.addition.specs.Order.{same};
 ghost use Rattle.addition.specs.Trie.{sameFunclet, sameNode, placeOf};
-ghost use Rattle.unwind.specs.Nodes.{recordIn, branches, funcletIn, valueOf, nodeIn, nodesIn, Stored, NodeSmall};
+ghost use Rattle.unwind.specs.Nodes.{recordIn, branches, funcletIn, valueOf, nodeIn, nodesIn, Stored, NodeFits, NodesFit, NodeSmall};
 ghost use Rattle.unwind.specs.Interning.{ordered, meaning};
 ghost use Rattle.unwind.specs.Kept.{placeIn, Behind, Kept};
 ghost use Rattle.unwind.specs.Lower.{Lower, BehindChildren};
@@ -85,7 +85,7 @@ fn find_node(
     n: usize,
     x: NodeRecord,
 ) -> Place
-    requires { ⌜ AcceptedRoutes (routesIn (now s) y) × NodeSmall x × (6 * n ≤ length (now nodes)) × Lower (nodesIn (routesIn (now s) y) (now nodes) (now edges) (now ends) n) × Seen (routesIn (now s) y) (now nodes) n (now seen) × RoutesThere (now s) y ⌝ }
+    requires { ⌜ AcceptedRoutes (routesIn (now s) y) × NodeSmall x × (6 * n ≤ length (now nodes)) × Lower (nodesIn (routesIn (now s) y) (now nodes) (now edges) (now ends) n) × Seen (routesIn (now s) y) (now nodes) n (now seen) × RoutesThere (now s) y × NodeFits (now edges) (now ends) x × NodesFit (now nodes) (now edges) (now ends) n ⌝ }
     ensures { λ r. ⌜ placeIn r ≡ placeOf (nodeIn (routesIn (now (s .entry)) y) (now (edges .entry)) (now (ends .entry)) x) (nodesIn (routesIn (now (s .entry)) y) (now (nodes .entry)) (now (edges .entry)) (now (ends .entry)) n) ⌝ }
 {
     let low = behind_children(edges, x.first_edge, x.edges);
@@ -106,12 +106,12 @@ fn find_node(
 
 // Behind the greatest node that the n edges from `first` on lead to.
 fn behind_children(edges: &[u16], first: usize, n: usize) -> usize
-    requires { ⌜ first + n < 1048576 ⌝ }
+    requires { ⌜ (first + n < 1048576) × (3 * (first + n) ≤ length (now edges)) ⌝ }
     ensures { λ r. ⌜ BehindChildren (now (edges .entry)) first n r ⌝ }
 {
     let mut low = 0;
     for k in 0..n {
-        let child = branch_at(edges, first + k).what;
+        let child = branch_in(edges, first + k).what;
         if low <= child {
             low = child + 1;
         }
@@ -130,12 +130,12 @@ fn stands_at(
     x: NodeRecord,
     value: u64,
 ) -> bool
-    requires { ⌜ AcceptedRoutes (routesIn (now s) y) × NodeSmall x × (6 * i + 6 ≤ length (now nodes)) × (value ≡ valueOf (funcletIn (routesIn (now s) y) (x .funclet))) × RoutesThere (now s) y ⌝ }
+    requires { ⌜ AcceptedRoutes (routesIn (now s) y) × NodeSmall x × (6 * i + 6 ≤ length (now nodes)) × (value ≡ valueOf (funcletIn (routesIn (now s) y) (x .funclet))) × RoutesThere (now s) y × NodeFits (now edges) (now ends) x × NodeFits (now edges) (now ends) (recordIn (now nodes) i) ⌝ }
     ensures { λ r. ⌜ r ≡ sameNode (nodeIn (routesIn (now (s .entry)) y) (now (edges .entry)) (now (ends .entry)) x) (nodeIn (routesIn (now (s .entry)) y) (now (edges .entry)) (now (ends .entry)) (recordIn (now (nodes .entry)) i)) ⌝ }
 {
     if counts_match(nodes, i, x.edges, x.ends) {
-        if funclet_value(s, y, number_at(nodes, 6 * i)) == value {
-            return same_node(s, y, edges, ends, x, node_at(nodes, i));
+        if funclet_value(s, y, number_in(nodes, 6 * i)) == value {
+            return same_node(s, y, edges, ends, x, node_in(nodes, i));
         }
     }
     false
@@ -147,8 +147,8 @@ fn counts_match(nodes: &[u16], i: usize, edges: usize, ends: usize) -> bool
     ensures { λ r. ⌜ r ≡ (eqb (recordIn (now (nodes .entry)) i .edges) edges && eqb (recordIn (now (nodes .entry)) i .ends) ends) ⌝ }
 {
     let at = 6 * i;
-    if number_at(nodes, at + 3) == edges {
-        return number_at(nodes, at + 5) == ends;
+    if number_in(nodes, at + 3) == edges {
+        return number_in(nodes, at + 5) == ends;
     }
     false
 }
@@ -180,7 +180,7 @@ fn same_node(
     a: NodeRecord,
     b: NodeRecord,
 ) -> bool
-    requires { ⌜ AcceptedRoutes (routesIn (now s) y) × NodeSmall a × NodeSmall b × RoutesThere (now s) y ⌝ }
+    requires { ⌜ AcceptedRoutes (routesIn (now s) y) × NodeSmall a × NodeSmall b × RoutesThere (now s) y × NodeFits (now edges) (now ends) a × NodeFits (now edges) (now ends) b ⌝ }
     ensures { λ r. ⌜ r ≡ sameNode (nodeIn (routesIn (now (s .entry)) y) (now (edges .entry)) (now (ends .entry)) a) (nodeIn (routesIn (now (s .entry)) y) (now (edges .entry)) (now (ends .entry)) b) ⌝ }
 {
     if same_funclet(s, y, a.funclet, b.funclet) {
@@ -235,14 +235,14 @@ fn same_runs(
     b: usize,
     k: usize,
 ) -> bool
-    requires { ⌜ AcceptedRoutes (routesIn (now s) y) × (a + n < 1048576) × (b + k < 1048576) × RoutesThere (now s) y ⌝ }
+    requires { ⌜ AcceptedRoutes (routesIn (now s) y) × (a + n < 1048576) × (b + k < 1048576) × RoutesThere (now s) y × (3 * (a + n) ≤ length (now list)) × (3 * (b + k) ≤ length (now list)) ⌝ }
     ensures { λ r. ⌜ r ≡ same (ordered kind) (map (meaning (routesIn (now (s .entry)) y) kind) (branches (now (list .entry)) a n)) (map (meaning (routesIn (now (s .entry)) y) kind) (branches (now (list .entry)) b k)) ⌝ }
 {
     if n != k {
         return false;
     }
     for i in 0..n {
-        match compare_branches(s, y, kind, branch_at(list, a + i), branch_at(list, b + i)) {
+        match compare_branches(s, y, kind, branch_in(list, a + i), branch_in(list, b + i)) {
             Order::Less => return false,
             Order::Greater => return false,
             Order::Equal => {}

@@ -2,7 +2,7 @@
 // image.
 use crate::routes::path_of;
 use crate::routes::step_of;
-use crate::tries::store::number_at;
+use crate::tries::store::number_in;
 use image::section::RouteLayout;
 ghost use mathlib.Core.Path.{_≡_};
 ghost use Prim.Native.Nat.{_+_, _≤_, _<_};
@@ -54,8 +54,8 @@ pub fn left_of(s: &[u8], y: RouteLayout, starts: &[u16], g: Group, q: usize) -> 
     requires { ⌜ AcceptedRoutes (routesIn (now s) y) × Starts (routesIn (now s) y) (now starts) × GroupIn (routesIn (now s) y) g × (q < length (routesIn (now s) y .paths)) × RoutesThere (now s) y ⌝ }
     ensures { λ r. ⌜ LeftOf (routesIn (now (s .entry)) y) g q r ⌝ }
 {
-    let first = number_at(starts, q);
-    let count = number_at(starts, q + 1) - first;
+    let first = number_in(starts, q);
+    let count = number_in(starts, q + 1) - first;
     let depth = g.depth;
     if count < depth {
         return Left::Nothing;

@@ -3,7 +3,7 @@ use crate::tries::compare::Kind;
 use crate::tries::compare::Order;
 use crate::tries::compare::compare_branches;
 use crate::tries::store::Branch;
-use crate::tries::store::branch_at;
+use crate::tries::store::branch_in;
 use crate::tries::store::put_branch;
 use image::section::RouteLayout;
 ghost use mathlib.Core.List.{map};
@@ -74,11 +74,11 @@ fn spot_of(
     n: usize,
     b: Branch,
 ) -> Spot
-    requires { ⌜ AcceptedRoutes (routesIn (now s) y) × BranchSmall b × (at + n < 65536) × RoutesThere (now s) y ⌝ }
+    requires { ⌜ AcceptedRoutes (routesIn (now s) y) × BranchSmall b × (at + n < 65536) × RoutesThere (now s) y × (3 * (at + n) ≤ length (now list)) ⌝ }
     ensures { λ r. ⌜ SpotOf (ordered kind) (meaning (routesIn (now (s .entry)) y) kind b) (map (meaning (routesIn (now (s .entry)) y) kind) (branches (now (list .entry)) at n)) r ⌝ }
 {
     for j in 0..n {
-        match compare_branches(s, y, kind, b, branch_at(list, at + j)) {
+        match compare_branches(s, y, kind, b, branch_in(list, at + j)) {
             Order::Less => return Spot::At(j),
             Order::Equal => return Spot::Present,
             Order::Greater => {}
@@ -94,7 +94,7 @@ fn insert(list: &mut [u16], at: usize, n: usize, j: usize, b: Branch)
 {
     let mut next = b;
     for k in j..n {
-        let moved = branch_at(list, at + k);
+        let moved = branch_in(list, at + k);
         put_branch(list, at + k, next);
         next = moved;
     }

@@ -8,7 +8,7 @@ use Rattle.unwind.proofs.tries.intern.close_node.Statement.{statement}
 use Rattle.unwind.proofs.tries.intern.close_node.Tie as tie
 
 lay-edges-requires : tie.Need-lay-edges-requires
-lay-edges-requires c κs = let pre = c .before .before .before .before .before .before .before .pre in let r = pre .2 in (pre .0 .accepted, omega (arith, r .stack-few), omega (arith, r .edges-few), r .edges-fit, search needs)
+lay-edges-requires c κs = let pre = c .before .before .before .before .before .before .before .pre in let r = pre .2 in (pre .0 .accepted, omega (arith, r .stack-few), omega (arith, r .edges-few), r .edges-fit, search needs, r .stack-fit)
 
 lay-ends-requires : tie.Need-lay-ends-requires
 lay-ends-requires c κs =

@@ -20,13 +20,13 @@ loop-holds c = (search needs, edges-start _ _ _ _ _)
 put-sorted-requires : tie.Need-put-sorted-requires Inv-loop μ-loop
 put-sorted-requires c κs =
     let so-far = c .before .before .before .loop .inv .1 in
-    (c .before .before .before .before .before .before .before .pre .0, c .branch-at .ensures .small, omega (arith, so-far .laid .most, c .before .before .before .before .before .before .before .pre .2), omega (arith, so-far .laid .most, so-far .long, c .before .before .before .before .before .before .before .pre .3), search needs)
+    (c .before .before .before .before .before .before .before .pre .0, c .branch-in .ensures .small, omega (arith, so-far .laid .most, c .before .before .before .before .before .before .before .pre .2), omega (arith, so-far .laid .most, so-far .long, c .before .before .before .before .before .before .before .pre .3), search needs)
 
 loop-again : tie.Need-loop-again Inv-loop μ-loop
 loop-again c =
     let m = routesIn (c .before .before .before .before .before .before .before .before .before .before .args .s .now) (c .before .before .before .before .before .before .before .before .before .before .args .y) in (
       search needs,
-      edges-more m (c .before .before .before .before .before .before .before .before .before .before .args .stack .now) (c .before .before .before .before .before .before .before .before .before .before .args .top) (c .before .before .before .before .before .before .before .before .before .before .args .edges .now) (c .before .before .before .before .before .before .before .before .before .before .args .at) (c .before .before .before .before .before .before .loop .edges) _ (c .before .before .before .before .before .before .loop .count) _ (c .before .before .before .before .before .before .loop .k) (c .before .before .before .branch-at .result) (c .before .before .before .before .before .before .loop .inv .1) (c .before .before .before .branch-at .ensures .is) (c .before .before .put-sorted .kept .1 .1 .1 .0) (c .before .before .put-sorted .ensures),
+      edges-more m (c .before .before .before .before .before .before .before .before .before .before .args .stack .now) (c .before .before .before .before .before .before .before .before .before .before .args .top) (c .before .before .before .before .before .before .before .before .before .before .args .edges .now) (c .before .before .before .before .before .before .before .before .before .before .args .at) (c .before .before .before .before .before .before .loop .edges) _ (c .before .before .before .before .before .before .loop .count) _ (c .before .before .before .before .before .before .loop .k) (c .before .before .before .branch-in .result) (c .before .before .before .before .before .before .loop .inv .1) (c .before .before .before .branch-in .ensures .is) (c .before .before .put-sorted .kept .1 .1 .1 .0) (c .before .before .put-sorted .ensures),
     )
 
 same-length : tie.Need-same-length Inv-loop μ-loop

@@ -20,13 +20,13 @@ loop-holds : tie.Need-loop-holds Inv-loop μ-loop
 loop-holds c = (omega arith, children-start _ _)
 
 add-low : tie.Need-add-low Inv-loop μ-loop
-add-low c = omega (arith, c .before .branch-at .ensures .small .what)
+add-low c = omega (arith, c .before .branch-in .ensures .small .what)
 
 loop-again : tie.Need-loop-again Inv-loop μ-loop
 loop-again c =
     let a = c .before .before .before .before .before .args in
     let top = c .before .before .before .loop in
-    let child = ap (λ (b : Branch). b .what) (c .before .branch-at .ensures .is) in (
+    let child = ap (λ (b : Branch). b .what) (c .before .branch-in .ensures .is) in (
       omega arith,
       ⊎-elim
           (λ w. children-new (a .edges .now) (a .first) (top .k) _ _ child (w .1))

@@ -7,11 +7,11 @@ use Rattle.unwind.proofs.tries.nodes.counts_match.Tie as tie
 
 returns : tie.Need-returns
 unfolding recordIn
-returns c = rw (← c .before .before .number-at .ensures .0, ← c .number-at2 .ensures .0, eq-eqb (c .before .before .number-at .result) (c .before .before .before .before .args .edges) (c .before .if1 .taken))
+returns c = rw (← c .before .before .number-in .ensures .0, ← c .number-in2 .ensures .0, eq-eqb (c .before .before .number-in .result) (c .before .before .before .before .args .edges) (c .before .if1 .taken))
 
 returns-2 : tie.Need-returns-2
 unfolding recordIn
-returns-2 c = rw (← c .before .number-at .ensures .0, ne-eqb (c .before .number-at .result) (c .before .before .before .args .edges) (c .if1 .left))
+returns-2 c = rw (← c .before .number-in .ensures .0, ne-eqb (c .before .number-in .result) (c .before .before .before .args .edges) (c .if1 .left))
 
 pub counts-match-spec : {M : Type 1} → statement M
 counts-match-spec =

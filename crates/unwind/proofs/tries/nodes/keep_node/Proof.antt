@@ -3,14 +3,18 @@ use mathlib.Core.Path.{sym, ap, _∙_}
 use native.Mathlib.Omega.{arith}
 use Rattle.image.specs.Image.{routesIn}
 use Rattle.unwind.specs.Kept.{placeIn}
-use Rattle.unwind.proofs.TrieNodes.{kept-present, kept-new}
+use Rattle.unwind.proofs.TrieNodes.{behind-fits, stored-fits, kept-present, kept-new}
 use Rattle.unwind.proofs.SeenLaws.{seen-put}
 use borrow.Author.Needs.{needs}
 use Rattle.unwind.proofs.tries.nodes.keep_node.Statement.{statement}
 use Rattle.unwind.proofs.tries.nodes.keep_node.Tie as tie
 
 find-node-requires : tie.Need-find-node-requires
-find-node-requires c κs = let pre = c .before .before .before .before .before .before .pre in (pre .0, pre .2 .small, pre .1 .nodes-fit, pre .3, pre .4, search needs)
+find-node-requires c κs =
+    let start = c .before .before .before .before .before .before in
+    let a = start .args in
+    let pre = start .pre in
+    (pre .0, pre .2 .small, pre .1 .nodes-fit, pre .3, pre .4, search needs, behind-fits (a .nodes .now) (a .edges .now) (a .ends .now) (a .counts) (a .x) (pre .2), stored-fits (a .nodes .now) (a .edges .now) (a .ends .now) (a .counts) (pre .1))
 
 put-node-requires : tie.Need-put-node-requires
 put-node-requires c κs = let pre = c .before .before .before .before .before .before .before .before .before .before .pre in (pre .2 .room, pre .2 .small)

@@ -35,7 +35,7 @@ loop-holds : tie.Need-loop-holds Inv-loop μ-loop
 loop-holds c = (search needs, refl)
 
 compare-branches-requires : tie.Need-compare-branches-requires Inv-loop μ-loop
-compare-branches-requires c κs = (c .before .before .before .before .before .before .before .pre .0, c .before .branch-at .ensures .small, c .branch-at2 .ensures .small, search needs)
+compare-branches-requires c κs = (c .before .before .before .before .before .before .before .pre .0, c .before .branch-in .ensures .small, c .branch-in2 .ensures .small, search needs)
 
 -- what the comparison says of the two that stand there
 told : (c : tie.After-compare-branches Inv-loop μ-loop) → let m = routesIn (c .before .before .before .before .before .before .before .before .args .s .now) (c .before .before .before .before .before .before .before .before .args .y) in let d = meaning m (c .before .before .before .before .before .before .before .before .args .kind) (branchIn (c .before .before .before .before .before .before .before .before .args .list .now) 0) in
@@ -44,8 +44,8 @@ told c =
     let m = routesIn (c .before .before .before .before .before .before .before .before .args .s .now) (c .before .before .before .before .before .before .before .before .args .y) in
     let d = meaning m (c .before .before .before .before .before .before .before .before .args .kind) (branchIn (c .before .before .before .before .before .before .before .before .args .list .now) 0) in
     ap₂ (ordered (c .before .before .before .before .before .before .before .before .args .kind))
-    (meant-of (meaning m (c .before .before .before .before .before .before .before .before .args .kind)) (c .before .before .before .before .before .before .before .before .args .list .now) (c .before .before .before .before .before .before .before .before .args .a) (c .before .before .before .before .before .before .before .before .args .n) (c .before .before .before .before .loop .i) d (c .before .before .before .loop-test .taken) ∙ ap (meaning m (c .before .before .before .before .before .before .before .before .args .kind)) (sym (c .before .before .branch-at .ensures .is)))
-    (meant-of (meaning m (c .before .before .before .before .before .before .before .before .args .kind)) (c .before .before .before .before .before .before .before .before .args .list .now) (c .before .before .before .before .before .before .before .before .args .b) (c .before .before .before .before .before .before .before .before .args .k) (c .before .before .before .before .loop .i) d (omega arith) ∙ ap (meaning m (c .before .before .before .before .before .before .before .before .args .kind)) (sym (c .before .branch-at2 .ensures .is)))
+    (meant-of (meaning m (c .before .before .before .before .before .before .before .before .args .kind)) (c .before .before .before .before .before .before .before .before .args .list .now) (c .before .before .before .before .before .before .before .before .args .a) (c .before .before .before .before .before .before .before .before .args .n) (c .before .before .before .before .loop .i) d (c .before .before .before .loop-test .taken) ∙ ap (meaning m (c .before .before .before .before .before .before .before .before .args .kind)) (sym (c .before .before .branch-in .ensures .is)))
+    (meant-of (meaning m (c .before .before .before .before .before .before .before .before .args .kind)) (c .before .before .before .before .before .before .before .before .args .list .now) (c .before .before .before .before .before .before .before .before .args .b) (c .before .before .before .before .before .before .before .before .args .k) (c .before .before .before .before .loop .i) d (omega arith) ∙ ap (meaning m (c .before .before .before .before .before .before .before .before .args .kind)) (sym (c .before .branch-in2 .ensures .is)))
     ∙ sym (c .compare-branches .ensures)
 
 returns-2 : tie.Need-returns-2 Inv-loop μ-loop

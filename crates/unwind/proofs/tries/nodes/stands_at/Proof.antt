@@ -8,8 +8,13 @@ use borrow.Author.Needs.{needs}
 use Rattle.unwind.proofs.tries.nodes.stands_at.Statement.{statement}
 use Rattle.unwind.proofs.tries.nodes.stands_at.Tie as tie
 
+same-node-requires : tie.Need-same-node-requires
+same-node-requires c κs =
+    let pre = c .before .before .before .before .before .before .before .before .before .before .pre in
+    (pre .0, pre .1, c .node-in .ensures .small, search needs, pre .5, rw (c .node-in .ensures .is) (pre .6))
+
 returns : tie.Need-returns
-returns c = rw (← c .before .node-at .ensures .is) (c .same-node .ensures)
+returns c = rw (← c .before .node-in .ensures .is) (c .same-node .ensures)
 
 returns-2 : tie.Need-returns-2
 unfolding recordIn
@@ -17,7 +22,7 @@ returns-2 c =
     let a = c .before .before .before .before .before .before .before .before .before .args in
     let m = routesIn (a .s .now) (a .y) in
     sym (values-differ m (a .edges .now) (a .ends .now) (a .x) (recordIn (a .nodes .now) (a .i))
-    (λ e. c .if2 .left (c .before .funclet-value .ensures ∙ ap (λ (f : ℕ). valueOf (funcletIn m f)) (c .before .before .number-at .ensures .0) ∙ e ∙ sym (c .before .before .before .before .before .before .before .before .before .pre .3))))
+    (λ e. c .if2 .left (c .before .funclet-value .ensures ∙ ap (λ (f : ℕ). valueOf (funcletIn m f)) (c .before .before .number-in .ensures .0) ∙ e ∙ sym (c .before .before .before .before .before .before .before .before .before .pre .3))))
 
 returns-3 : tie.Need-returns-3
 returns-3 c =
@@ -33,7 +38,7 @@ stands-at-spec =
     (λ c κs. search needs)
     (λ c κs. search needs)
     (λ c κs. search needs)
-    (λ c κs. search needs)
+    same-node-requires
     returns
     returns-2
     returns-3)

@@ -14,15 +14,15 @@ use Rattle.unwind.proofs.tries.paths.left_of.Statement.{statement}
 use Rattle.unwind.proofs.tries.paths.left_of.Tie as tie
 
 -- where its steps start, how many there are, and that they stand among all
-steps-here : (c : tie.After-number-at2) → let m = routesIn (c .before .before .before .before .args .s .now) (c .before .before .before .before .args .y) in
-    (pathIn m (c .before .before .before .before .args .q) .steps ≡ stepsIn m (c .before .number-at .result) (c .number-at2 .result - c .before .number-at .result)) × (c .before .number-at .result ≤ c .number-at2 .result) × (c .number-at2 .result ≤ length (m .steps)) × (length (m .steps) ≤ 512)
+steps-here : (c : tie.After-number-in2) → let m = routesIn (c .before .before .before .before .args .s .now) (c .before .before .before .before .args .y) in
+    (pathIn m (c .before .before .before .before .args .q) .steps ≡ stepsIn m (c .before .number-in .result) (c .number-in2 .result - c .before .number-in .result)) × (c .before .number-in .result ≤ c .number-in2 .result) × (c .number-in2 .result ≤ length (m .steps)) × (length (m .steps) ≤ 512)
 steps-here c =
     let start = c .before .before .before .before in
     let m = routesIn (start .args .s .now) (start .args .y) in
     let q = start .args .q in
-    let first : c .before .number-at .result ≡ stepsBefore m q = c .before .number-at .ensures .0 ∙ start .pre .1 .at q (omega (arith, start .pre .3)) in
-    let last : c .number-at2 .result ≡ stepsBefore m (q + 1) = c .number-at2 .ensures .0 ∙ start .pre .1 .at (q + 1) (omega (arith, start .pre .3)) in
-    let count : c .number-at2 .result - c .before .number-at .result ≡ pathRecord m q .steps = omega (arith, steps-next m q) in (
+    let first : c .before .number-in .result ≡ stepsBefore m q = c .before .number-in .ensures .0 ∙ start .pre .1 .at q (omega (arith, start .pre .3)) in
+    let last : c .number-in2 .result ≡ stepsBefore m (q + 1) = c .number-in2 .ensures .0 ∙ start .pre .1 .at (q + 1) (omega (arith, start .pre .3)) in
+    let count : c .number-in2 .result - c .before .number-in .result ≡ pathRecord m q .steps = omega (arith, steps-next m q) in (
       path-steps m (start .pre .0) q (start .pre .3) ∙ rw (count, first),
       omega (arith, steps-next m q),
       omega (arith, steps-next m q, steps-in m (start .pre .0) q (start .pre .3)),
@@ -37,7 +37,7 @@ unfolding leftSteps
 returns c =
     let m = routesIn (c .before .before .before .before .before .args .s .now) (c .before .before .before .before .before .args .y) in
     let h = steps-here (c .before) in
-    record { is = rw (h .0) (strip-short m (c .before .before .before .before .before .args .g .from) (c .before .before .number-at .result) (c .before .before .before .before .before .args .g .depth) (c .before .number-at2 .result - c .before .before .number-at .result) (c .if1 .taken)); stands = tt }
+    record { is = rw (h .0) (strip-short m (c .before .before .before .before .before .args .g .from) (c .before .before .number-in .result) (c .before .before .before .before .before .args .g .depth) (c .before .number-in2 .result - c .before .before .number-in .result) (c .if1 .taken)); stands = tt }
 
 same-steps-requires : tie.Need-same-steps-requires
 same-steps-requires c κs =
@@ -50,11 +50,11 @@ returns-2 c =
     let m = routesIn (c .before .before .before .before .before .before .before .args .s .now) (c .before .before .before .before .before .before .before .args .y) in
     let h = steps-here (c .before .before .before) in
     let g = c .before .before .before .before .before .before .before .args .g in
-    let first = c .before .before .before .before .number-at .result in
+    let first = c .before .before .before .before .number-in .result in
     let same = sym (c .before .same-steps .ensures) ∙ c .if2 .taken in
     let back : first + g .depth - g .depth ≡ first = omega arith in
     record {
-      is = rw (h .0) (strip-same m (g .from) first (g .depth) (c .before .before .before .number-at2 .result - first) (omega arith) same);
+      is = rw (h .0) (strip-same m (g .from) first (g .depth) (c .before .before .before .number-in2 .result - first) (omega arith) same);
       stands = (omega (arith, h .1, h .2), omega arith, rw back (same-run m (g .from) first (g .depth) same));
     }
 
@@ -63,7 +63,7 @@ unfolding leftSteps
 returns-3 c =
     let m = routesIn (c .before .before .before .before .before .before .before .args .s .now) (c .before .before .before .before .before .before .before .args .y) in
     let h = steps-here (c .before .before .before) in
-    record { is = rw (h .0) (strip-other m (c .before .before .before .before .before .before .before .args .g .from) (c .before .before .before .before .number-at .result) (c .before .before .before .before .before .before .before .args .g .depth) (c .before .before .before .number-at2 .result - c .before .before .before .before .number-at .result) (omega arith) (sym (c .before .same-steps .ensures) ∙ c .if2 .left)); stands = tt }
+    record { is = rw (h .0) (strip-other m (c .before .before .before .before .before .before .before .args .g .from) (c .before .before .before .before .number-in .result) (c .before .before .before .before .before .before .before .args .g .depth) (c .before .before .before .number-in2 .result - c .before .before .before .before .number-in .result) (omega arith) (sym (c .before .same-steps .ensures) ∙ c .if2 .left)); stands = tt }
 
 pub left-of-spec : {M : Type 1} → statement M
 left-of-spec =

@@ -87,6 +87,7 @@ returns c =
     let size = length-records pathFrom (c .before .before .before .before .before .args .s .now) (c .before .before .before .before .before .args .y .paths) in
     let end : c .before .loop .p ≡ n = omega (arith, h .0) in
     record {
+      long = rw (length-set l n next) (h .2);
       at = λ p le.
           elim (decLt p n) [
             | yes lt ↦ getD-set-other l n p next 0 (λ e. omega arith) ∙ c .before .loop .inv .3 p (omega arith)

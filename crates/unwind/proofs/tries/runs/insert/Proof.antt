@@ -26,8 +26,8 @@ loop-again : tie.Need-loop-again Inv-loop μ-loop
 loop-again c = (
   search needs,
   search needs,
-  c .before .before .before .before .branch-at .ensures .small,
-  rw (c .before .before .before .before .branch-at .ensures .is) (insert-on _ _ _ _ _ _ _ _ _ (c .before .before .before .before .before .before .before .loop .inv .3) (c .before .before .put-branch .ensures) (c .before .before .before .before .before .before .loop-test .taken)),
+  c .before .before .before .before .branch-in .ensures .small,
+  rw (c .before .before .before .before .branch-in .ensures .is) (insert-on _ _ _ _ _ _ _ _ _ (c .before .before .before .before .before .before .before .loop .inv .3) (c .before .before .put-branch .ensures) (c .before .before .before .before .before .before .loop-test .taken)),
 )
 
 put-branch-requires-2 : tie.Need-put-branch-requires-2 Inv-loop μ-loop

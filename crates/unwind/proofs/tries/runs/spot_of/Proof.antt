@@ -24,7 +24,7 @@ loop-holds : tie.Need-loop-holds Inv-loop μ-loop
 loop-holds c = (search needs, spot-start _ _ _)
 
 compare-branches-requires : tie.Need-compare-branches-requires Inv-loop μ-loop
-compare-branches-requires c κs = (c .before .before .before .before .before .pre .0, c .before .before .before .before .before .pre .1, c .branch-at .ensures .small, search needs)
+compare-branches-requires c κs = (c .before .before .before .before .before .pre .0, c .before .before .before .before .before .pre .1, c .branch-in .ensures .small, search needs)
 
 -- what the comparison says of the branch that stands there
 told : (c : tie.After-compare-branches Inv-loop μ-loop) → let m = routesIn (c .before .before .before .before .before .before .args .s .now) (c .before .before .before .before .before .before .args .y) in
@@ -32,7 +32,7 @@ told : (c : tie.After-compare-branches Inv-loop μ-loop) → let m = routesIn (c
 told c =
     let m = routesIn (c .before .before .before .before .before .before .args .s .now) (c .before .before .before .before .before .before .args .y) in (
       rw (length-map (branches (c .before .before .before .before .before .before .args .list .now) (c .before .before .before .before .before .before .args .at) (c .before .before .before .before .before .before .args .n)) (meaning m (c .before .before .before .before .before .before .args .kind)), length-branches) (c .before .before .loop-test .taken),
-      ap (ordered (c .before .before .before .before .before .before .args .kind) (meaning m (c .before .before .before .before .before .before .args .kind) (c .before .before .before .before .before .before .args .b))) (meant-of (meaning m (c .before .before .before .before .before .before .args .kind)) (c .before .before .before .before .before .before .args .list .now) (c .before .before .before .before .before .before .args .at) (c .before .before .before .before .before .before .args .n) (c .before .before .before .loop .j) (meaning m (c .before .before .before .before .before .before .args .kind) (c .before .before .before .before .before .before .args .b)) (c .before .before .loop-test .taken) ∙ ap (meaning m (c .before .before .before .before .before .before .args .kind)) (sym (c .before .branch-at .ensures .is)))
+      ap (ordered (c .before .before .before .before .before .before .args .kind) (meaning m (c .before .before .before .before .before .before .args .kind) (c .before .before .before .before .before .before .args .b))) (meant-of (meaning m (c .before .before .before .before .before .before .args .kind)) (c .before .before .before .before .before .before .args .list .now) (c .before .before .before .before .before .before .args .at) (c .before .before .before .before .before .before .args .n) (c .before .before .before .loop .j) (meaning m (c .before .before .before .before .before .before .args .kind) (c .before .before .before .before .before .before .args .b)) (c .before .before .loop-test .taken) ∙ ap (meaning m (c .before .before .before .before .before .before .args .kind)) (sym (c .before .branch-in .ensures .is)))
           ∙ sym (c .compare-branches .ensures),
     )
 
