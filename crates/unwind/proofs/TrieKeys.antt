@@ -5,7 +5,7 @@
 --     joined-one, joined-append, joined-flat, keys-flat     the keys of a group's paths, path by path
 --     left-is, left-none, left-some            what is left of a path, as a list of one or none
 --     key-outside, key-over, key-enters        the key of a path: it is none of the group's, ends, or enters a funclet
---     key-small                                a key stands among the 512 steps
+--     key-small, key-within                    a key stands among the 512 steps, and among those of the image
 -- Assumes nothing.
 use mathlib.Core.Path.{_≡_, refl, sym, ap, _∙_}
 use mathlib.Core.Bool.{Bool, true, false, cond, _&&_}
@@ -30,7 +30,7 @@ use Rattle.addition.specs.Lists.{joined}
 use Rattle.addition.specs.Trie.{Cut, over, cut, groupOn}
 use Rattle.unwind.specs.Nodes.{tagsIn}
 use Rattle.unwind.specs.Interning.{isLt, after, before, nearer, nearest, strip, leftWith, stepsIn, leftAt, pathsOf, leftSteps, LeftOf, cutOf, Cuts}
-use Rattle.unwind.specs.Keys.{KeySmall, keysOf, keyIn, keyOf, KeyIn, KeyOf}
+use Rattle.unwind.specs.Keys.{KeySmall, KeyWithin, keysOf, keyIn, keyOf, KeyIn, KeyOf}
 use Rattle.unwind.proofs.TrieOrder.{number-lt, number-gt, number-eq}
 
 pub less-number : (a b : ℕ) → isLt (compare a b) ≡ ltb a b
@@ -137,3 +137,7 @@ module _ (m : RouteImage) (g : Group) where
 pub key-small : (m : RouteImage) → AcceptedRoutes m → (g : Group) (k : NextKey) → KeyIn m g k → KeySmall k
 key-small m ok g (At k) stands = omega (arith, ok .steps-most, stands .within)
 key-small m ok g NoKey stands = tt
+
+pub key-within : (m : RouteImage) (g : Group) (k : NextKey) → KeyIn m g k → KeyWithin m k
+key-within m g (At k) stands = stands .within
+key-within m g NoKey stands = tt

@@ -74,6 +74,11 @@ module _ (m : RouteImage) where
   KeyIn g (At k) = Stands g k
   KeyIn g Nothing = Unit {0}
 
+  -- its steps alone
+  abbrev pub KeyWithin : NextKey → Type 0
+  KeyWithin (At k) = k .step + k .calls < length (m .steps)
+  KeyWithin Nothing = Unit {0}
+
   -- none of a list comes after a key that says so
   abbrev pub Final : List (Tagged ℕ) → NextKey → Type 0
   Final l r = isFinal r ≡ true → nearest (compareTagged compare) (keyOf r) none l ≡ none

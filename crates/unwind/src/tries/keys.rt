@@ -1,5 +1,4 @@
 // The next funclets of a group of paths, each with the calls before it, in order.
-use crate::routes::step_of;
 use crate::tries::compare::Order;
 use crate::tries::compare::compare_calls;
 use crate::tries::compare::compare_numbers;
@@ -8,6 +7,7 @@ use crate::tries::paths::Group;
 use crate::tries::paths::Left;
 use crate::tries::paths::cut_at;
 use crate::tries::paths::left_of;
+use image::access::step_in;
 use image::section::RouteLayout;
 ghost use mathlib.Core.Path.{_≡_};
 ghost use Prim.Native.Nat.{_+_, _<_, _≤_, compare};
@@ -17,7 +17,7 @@ ghost use Rattle.image.specs.Accepted.{AcceptedRoutes};
 ghost use Rattle.image.specs.There.{RoutesThere};
 ghost use Rattle.addition.specs.Order.{compareTagged};
 ghost use Rattle.unwind.specs.Interning.{orderingOf, after, Starts, GroupIn, pathsOf};
-ghost use Rattle.unwind.specs.Keys.{keysOf, keyIn, keyOf, followedBy, merged, KeySmall, KeyIn, isFinal, Final, KeyOf, NextAmong, NextOf};
+ghost use Rattle.unwind.specs.Keys.{keysOf, keyIn, keyOf, followedBy, merged, KeySmall, KeyIn, KeyWithin, isFinal, Final, KeyOf, NextAmong, NextOf};
 
 // The calls, which are consecutive steps, and the funclet behind them; of the paths looked at, the first and the last that
 // has them, and whether another has a key that comes after.
@@ -107,7 +107,7 @@ pub fn key_of(s: &[u8], y: RouteLayout, starts: &[u16], g: Group, q: usize) -> N
 
 // Whether a key comes after `last`.
 fn is_after(s: &[u8], y: RouteLayout, last: NextKey, key: Key) -> bool
-    requires { ⌜ KeySmall last × (key .step + key .calls ≤ 512) × RoutesThere (now s) y ⌝ }
+    requires { ⌜ KeySmall last × (key .step + key .calls ≤ 512) × RoutesThere (now s) y × KeyWithin (routesIn (now s) y) last × (key .step + key .calls < length (routesIn (now s) y .steps)) ⌝ }
     ensures { λ r. ⌜ r ≡ after (compareTagged compare) (keyOf (routesIn (now (s .entry)) y) last) (keyIn (routesIn (now (s .entry)) y) key) ⌝ }
 {
     let NextKey::At(other) = last else {
@@ -123,7 +123,7 @@ fn is_after(s: &[u8], y: RouteLayout, last: NextKey, key: Key) -> bool
 // Which of a path's key and `best`, which comes after `last`, comes next. If they are the same, the path is the last that
 // has it. Only a key that comes before `best` is compared with `last`.
 fn merge_key(s: &[u8], y: RouteLayout, last: NextKey, key: Key, best: Key) -> Key
-    requires { ⌜ KeySmall last × (key .step + key .calls ≤ 512) × (best .step + best .calls ≤ 512) × RoutesThere (now s) y ⌝ }
+    requires { ⌜ KeySmall last × (key .step + key .calls ≤ 512) × (best .step + best .calls ≤ 512) × RoutesThere (now s) y × KeyWithin (routesIn (now s) y) last × (key .step + key .calls < length (routesIn (now s) y .steps)) × (best .step + best .calls < length (routesIn (now s) y .steps)) ⌝ }
     ensures { λ r. ⌜ r ≡ merged (routesIn (now (s .entry)) y) last key best ⌝ }
 {
     match compare_keys(s, y, key, best) {
@@ -158,15 +158,15 @@ fn followed(key: Key) -> Key
 }
 
 fn compare_keys(s: &[u8], y: RouteLayout, a: Key, b: Key) -> Order
-    requires { ⌜ (a .step + a .calls ≤ 512) × (b .step + b .calls ≤ 512) × RoutesThere (now s) y ⌝ }
+    requires { ⌜ (a .step + a .calls ≤ 512) × (b .step + b .calls ≤ 512) × RoutesThere (now s) y × (a .step + a .calls < length (routesIn (now s) y .steps)) × (b .step + b .calls < length (routesIn (now s) y .steps)) ⌝ }
     ensures { λ r. ⌜ orderingOf r ≡ compareTagged compare (keyIn (routesIn (now (s .entry)) y) a) (keyIn (routesIn (now (s .entry)) y) b) ⌝ }
 {
     match compare_calls(s, y, a.step, a.calls, b.step, b.calls) {
         Order::Less => Order::Less,
         Order::Greater => Order::Greater,
         Order::Equal => {
-            let x = step_of(s, y, a.step + a.calls);
-            let z = step_of(s, y, b.step + b.calls);
+            let x = step_in(s, y.steps, a.step + a.calls);
+            let z = step_in(s, y.steps, b.step + b.calls);
             compare_numbers(x.value, z.value)
         }
     }

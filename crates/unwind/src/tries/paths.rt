@@ -1,8 +1,8 @@
 // The paths of a route that begin with the same steps, and what is left of them. Nothing is copied: the steps stand in the
 // image.
-use crate::routes::path_of;
-use crate::routes::step_of;
 use crate::tries::store::number_in;
+use image::access::path_in;
+use image::access::step_in;
 use image::section::RouteLayout;
 ghost use mathlib.Core.Path.{_≡_};
 ghost use Prim.Native.Nat.{_+_, _≤_, _<_};
@@ -44,7 +44,7 @@ pub fn path_starts(s: &[u8], y: RouteLayout, starts: &mut [u16])
     let mut next = 0;
     for p in 0..n {
         starts[p] = next as u16;
-        next += path_of(s, y, p).steps;
+        next += path_in(s, y.paths, p).steps;
     }
     starts[n] = next as u16;
 }
@@ -71,15 +71,15 @@ pub fn left_of(s: &[u8], y: RouteLayout, starts: &[u16], g: Group, q: usize) -> 
 
 // Whether the n steps from a on are those from b on.
 fn same_steps(s: &[u8], y: RouteLayout, a: usize, b: usize, n: usize) -> bool
-    requires { ⌜ AcceptedRoutes (routesIn (now s) y) × (a + n ≤ 1024) × (b + n ≤ 1024) × RoutesThere (now s) y ⌝ }
+    requires { ⌜ AcceptedRoutes (routesIn (now s) y) × (a + n ≤ 1024) × (b + n ≤ 1024) × RoutesThere (now s) y × (a + n ≤ length (routesIn (now s) y .steps)) × (b + n ≤ length (routesIn (now s) y .steps)) ⌝ }
     ensures { λ r. ⌜ r ≡ sameSteps (routesIn (now (s .entry)) y) a b n ⌝ }
 {
     if a == b {
         return true;
     }
     for i in 0..n {
-        let x = step_of(s, y, a + i);
-        let z = step_of(s, y, b + i);
+        let x = step_in(s, y.steps, a + i);
+        let z = step_in(s, y.steps, b + i);
         if x.code != z.code {
             return false;
         }
@@ -92,11 +92,11 @@ fn same_steps(s: &[u8], y: RouteLayout, a: usize, b: usize, n: usize) -> bool
 
 // The n steps from a on, cut at the first funclet.
 pub fn cut_at(s: &[u8], y: RouteLayout, a: usize, n: usize) -> CutAt
-    requires { ⌜ a + n ≤ 1024 × RoutesThere (now s) y ⌝ }
+    requires { ⌜ (a + n ≤ 1024) × RoutesThere (now s) y × (a + n ≤ length (routesIn (now s) y .steps)) ⌝ }
     ensures { λ r. ⌜ Cuts (routesIn (now (s .entry)) y) a n r ⌝ }
 {
     for i in 0..n {
-        if step_of(s, y, a + i).code == FUNCLET {
+        if step_in(s, y.steps, a + i).code == FUNCLET {
             return CutAt::Enters(i);
         }
     }

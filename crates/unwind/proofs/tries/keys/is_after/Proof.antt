@@ -11,7 +11,7 @@ unfolding keyOf
 returns c = rw (c .enum-told .given .1)
 
 compare-keys-requires : tie.Need-compare-keys-requires
-compare-keys-requires c κs = (rw (c .before .last .given .1) at (c .before .before .before .before .pre .0), c .before .before .before .before .pre .1, search needs)
+compare-keys-requires c κs = (rw (c .before .last .given .1) at (c .before .before .before .before .pre .0), c .before .before .before .before .pre .1, search needs, rw (c .before .last .given .1) at (c .before .before .before .before .pre .3), c .before .before .before .before .pre .4)
 
 returns-2 : tie.Need-returns-2
 unfolding keyOf

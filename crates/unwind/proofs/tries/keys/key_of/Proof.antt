@@ -18,7 +18,7 @@ returns c =
 cut-at-requires : tie.Need-cut-at-requires
 cut-at-requires c κs =
     let left : LeftOf (routesIn (c .before .before .before .before .before .before .args .s .now) (c .before .before .before .before .before .before .args .y)) (c .before .before .before .before .before .before .args .g) (c .before .before .before .before .before .before .args .q) (Steps (c .before .first .given .0 .0) (c .before .first .given .0 .1 .0)) = rw (c .before .first .given .1) at (c .before .before .before .left-of .ensures) in
-    (omega (arith, left .stands .0, c .before .before .before .before .before .before .pre .0 .steps-most), search needs)
+    (omega (arith, left .stands .0, c .before .before .before .before .before .before .pre .0 .steps-most), search needs, left .stands .0)
 
 returns-2 : tie.Need-returns-2
 unfolding keyOf

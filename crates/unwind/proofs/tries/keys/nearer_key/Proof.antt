@@ -4,7 +4,7 @@ use Prim.Native.Nat.{_+_}
 use Rattle.image.specs.Image.{routesIn}
 use Rattle.unwind.specs.declared.tries.keys.NextKey.the-variants.{At, Nothing}
 use Rattle.unwind.specs.Keys.{keyOf, KeyOf, NextAmong}
-use Rattle.unwind.proofs.TrieKeys.{key-small}
+use Rattle.unwind.proofs.TrieKeys.{key-small, key-within}
 use Rattle.unwind.proofs.TrieSpans.{key-none, key-early, key-first, key-merged}
 use borrow.Author.Needs.{needs}
 use Rattle.unwind.proofs.tries.keys.nearer_key.Statement.{statement}
@@ -25,7 +25,7 @@ is-after-requires c κs =
     let a = start .args in
     let m = routesIn (a .s .now) (a .y) in
     let found : KeyOf m (a .g) (a .g .first + a .k) (At (c .before .before .before .key .given .0 .0)) = rw (c .before .before .before .key .given .1) at (c .before .before .before .before .before .key-of .ensures) in
-    (key-small m (start .pre .0) (a .g) (a .last) (start .pre .3), key-small m (start .pre .0) (a .g) (At _) (found .stands), search needs)
+    (key-small m (start .pre .0) (a .g) (a .last) (start .pre .3), key-small m (start .pre .0) (a .g) (At _) (found .stands), search needs, key-within m (a .g) (a .last) (start .pre .3), found .stands .within)
 
 returns-2 : tie.Need-returns-2
 unfolding keyOf
@@ -52,7 +52,7 @@ merge-key-requires c κs =
     let m = routesIn (a .s .now) (a .y) in
     let found : KeyOf m (a .g) (a .g .first + a .k) (At (c .before .before .before .before .key .given .0 .0)) = rw (c .before .before .before .before .key .given .1) at (c .before .before .before .before .before .before .key-of .ensures) in
     let so-far : NextAmong m (a .g) (a .last) (a .k) (At (c .before .best .given .0 .0)) = rw (c .before .best .given .1) at (start .pre .4) in
-    (key-small m (start .pre .0) (a .g) (a .last) (start .pre .3), key-small m (start .pre .0) (a .g) (At _) (found .stands), key-small m (start .pre .0) (a .g) (At _) (so-far .stands), search needs)
+    (key-small m (start .pre .0) (a .g) (a .last) (start .pre .3), key-small m (start .pre .0) (a .g) (At _) (found .stands), key-small m (start .pre .0) (a .g) (At _) (so-far .stands), search needs, key-within m (a .g) (a .last) (start .pre .3), found .stands .within, so-far .stands .within)
 
 returns-4 : tie.Need-returns-4
 returns-4 c =

@@ -2,8 +2,10 @@
 use mathlib.Core.Path.{sym, ap, _∙_}
 use Prim.Native.Nat.{_-_, _≤_}
 use native.Mathlib.Omega.{arith}
+use Rattle.image.specs.Record.{stepFrom}
 use Rattle.image.specs.Image.{routesIn}
 use Rattle.image.specs.declared.record.Step.{Step}
+use Rattle.image.proofs.Tables.{length-records}
 use Rattle.unwind.specs.Interning.{cutOf}
 use Rattle.unwind.proofs.TriePaths.{Called, cut-start, cut-on, cut-enters, key-steps, cut-over}
 use borrow.Author.Needs.{needs}
@@ -19,12 +21,17 @@ abbrev μ-loop : tie.MeasureT-loop
 loop-holds : tie.Need-loop-holds Inv-loop μ-loop
 loop-holds c = (search needs, cut-start _ _ _)
 
+step-in-requires : tie.Need-step-in-requires Inv-loop μ-loop
+step-in-requires c κs =
+    let start = c .before .before .before in
+    (start .pre .1 .steps-there, omega (arith, c .loop-test .taken, start .pre .2, length-records stepFrom (start .args .s .now) (start .args .y .steps)))
+
 returns : tie.Need-returns Inv-loop μ-loop
 unfolding cutOf
 returns c =
     let m = routesIn (c .before .before .before .before .before .before .args .s .now) (c .before .before .before .before .before .before .args .y) in
     let i = c .before .before .before .before .loop .i in
-    let here = sym (ap (λ (x : Step). x .code) (c .before .before .step-of .ensures)) ∙ c .if1 .taken in
+    let here = sym (ap (λ (x : Step). x .code) (c .before .before .step-in .ensures)) ∙ c .if1 .taken in
     record {
       is = cut-enters m (c .before .before .before .before .before .before .args .a) (c .before .before .before .before .before .before .args .n) i (c .before .before .before .loop-test .taken) (c .before .before .before .before .loop .inv .1) here;
       stands = (c .before .before .before .loop-test .taken, key-steps m (c .before .before .before .before .before .before .args .a) (c .before .before .before .before .before .before .args .n) i (c .before .before .before .loop-test .taken) (c .before .before .before .before .loop .inv .1) here);
@@ -33,7 +40,7 @@ returns c =
 loop-again : tie.Need-loop-again Inv-loop μ-loop
 loop-again c =
     let m = routesIn (c .before .before .before .before .before .before .args .s .now) (c .before .before .before .before .before .before .args .y) in
-    let read = ap (λ (x : Step). x .code) (c .before .before .step-of .ensures) in
+    let read = ap (λ (x : Step). x .code) (c .before .before .step-in .ensures) in
     (search needs, cut-on m (c .before .before .before .before .before .before .args .a) (c .before .before .before .before .before .before .args .n) (c .before .before .before .before .loop .i) (c .before .before .before .loop-test .taken) (c .before .before .before .before .loop .inv .1) (λ e. c .if1 .left (read ∙ e)))
 
 returns-2 : tie.Need-returns-2 Inv-loop μ-loop
@@ -50,7 +57,7 @@ cut-at-spec =
     μ-loop
     loop-holds
     (λ c. search needs)
-    (λ c κs. search needs)
+    step-in-requires
     returns
     (λ c. search needs)
     (λ c. search needs)

@@ -42,7 +42,7 @@ returns c =
 same-steps-requires : tie.Need-same-steps-requires
 same-steps-requires c κs =
     let h = steps-here (c .before) in
-    (c .before .before .before .before .before .pre .0, omega (arith, h .3, c .before .before .before .before .before .pre .2 .steps), omega (arith, h .1, h .2, h .3), search needs)
+    (c .before .before .before .before .before .pre .0, omega (arith, h .3, c .before .before .before .before .before .pre .2 .steps), omega (arith, h .1, h .2, h .3), search needs, c .before .before .before .before .before .pre .2 .steps, omega (arith, h .1, h .2))
 
 returns-2 : tie.Need-returns-2
 unfolding leftSteps

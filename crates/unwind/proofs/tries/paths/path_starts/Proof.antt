@@ -44,8 +44,11 @@ cast-starts c = omega (arith, among c .1, c .before .loop .inv .1)
 slice-write-starts : tie.Need-slice-write-starts Inv-loop μ-loop
 slice-write-starts c = omega (arith, among c .0, c .before .loop .inv .2, c .before .before .before .before .before .pre .1)
 
+path-in-requires : tie.Need-path-in-requires Inv-loop μ-loop
+path-in-requires c κs = (c .before .before .before .before .before .pre .2 .paths-there, search needs)
+
 add-next : tie.Need-add-next Inv-loop μ-loop
-add-next c = omega (arith, among (c .before .before) .1, c .before .before .before .loop .inv .1, ap (λ (x : Path). x .steps) (c .before .path-of .ensures))
+add-next c = omega (arith, among (c .before .before) .1, c .before .before .before .loop .inv .1, ap (λ (x : Path). x .steps) (c .before .path-in .ensures))
 
 loop-again : tie.Need-loop-again Inv-loop μ-loop
 loop-again c =
@@ -54,7 +57,7 @@ loop-again c =
     let l = c .before .before .before .loop .starts in
     let room : p < length l = omega (arith, among (c .before .before) .0, c .before .before .before .loop .inv .2, c .before .before .before .before .before .before .before .pre .1) in (
       search needs,
-      omega (arith, steps-next m p, c .before .before .before .loop .inv .1, ap (λ (x : Path). x .steps) (c .before .path-of .ensures)),
+      omega (arith, steps-next m p, c .before .before .before .loop .inv .1, ap (λ (x : Path). x .steps) (c .before .path-in .ensures)),
       length-set l p (c .before .before .before .loop .next) ∙ c .before .before .before .loop .inv .2,
       λ q h.
           elim (decLt q p) [
@@ -106,7 +109,7 @@ path-starts-spec =
     cast-starts
     (λ c. search needs)
     slice-write-starts
-    (λ c κs. search needs)
+    path-in-requires
     add-next
     (λ c. search needs)
     (λ c. search needs)

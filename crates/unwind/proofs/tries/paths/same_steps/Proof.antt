@@ -3,8 +3,10 @@ use mathlib.Core.Bool.{false}
 use mathlib.Core.Path.{_≡_, sym, _∙_}
 use Prim.Native.Nat.{_+_, _-_, _≤_}
 use native.Mathlib.Omega.{arith}
+use Rattle.image.specs.Record.{stepFrom}
 use Rattle.image.specs.Image.{routesIn}
 use Rattle.image.specs.Deal.{stepOf}
+use Rattle.image.proofs.Tables.{length-records}
 use Rattle.unwind.specs.Nodes.{stepIn}
 use Rattle.unwind.specs.Interning.{sameStep, sameSteps}
 use Rattle.unwind.proofs.TriePaths.{same-start, same-next, same-end, codes-differ, values-differ, steps-agree}
@@ -28,11 +30,21 @@ returns c =
 loop-holds : tie.Need-loop-holds Inv-loop μ-loop
 loop-holds c = (search needs, sym (same-start _ _ _ _))
 
+step-in-requires : tie.Need-step-in-requires Inv-loop μ-loop
+step-in-requires c κs =
+    let start = c .before .before .before .before in
+    (start .pre .3 .steps-there, omega (arith, c .loop-test .taken, start .pre .4, length-records stepFrom (start .args .s .now) (start .args .y .steps)))
+
+step-in-requires-2 : tie.Need-step-in-requires-2 Inv-loop μ-loop
+step-in-requires-2 c κs =
+    let start = c .before .before .before .before .before in
+    (start .pre .3 .steps-there, omega (arith, c .before .loop-test .taken, start .pre .5, length-records stepFrom (start .args .s .now) (start .args .y .steps)))
+
 returns-2 : tie.Need-returns-2 Inv-loop μ-loop
 returns-2 c =
     let m = routesIn (c .before .before .before .before .before .before .before .before .before .args .s .now) (c .before .before .before .before .before .before .before .before .before .args .y) in
-    let x = c .before .before .before .before .step-of in
-    let z = c .before .before .before .step-of2 in
+    let x = c .before .before .before .before .step-in in
+    let z = c .before .before .before .step-in2 in
     let differ : sameStep (stepOf (stepIn m (c .before .before .before .before .before .before .before .before .before .args .a + c .before .before .before .before .before .before .loop .i))) (stepOf (stepIn m (c .before .before .before .before .before .before .before .before .before .args .b + c .before .before .before .before .before .before .loop .i))) ≡ false =
     rw (x .ensures, z .ensures) at (codes-differ (x .result) (z .result) (rw (x .ensures) (c .before .before .before .before .before .before .before .before .before .pre .0 .codes (c .before .before .before .before .before .before .before .before .before .args .a + c .before .before .before .before .before .before .loop .i))) (rw (z .ensures) (c .before .before .before .before .before .before .before .before .before .pre .0 .codes (c .before .before .before .before .before .before .before .before .before .args .b + c .before .before .before .before .before .before .loop .i))) (c .if2 .taken)) in
     sym (c .before .before .before .before .before .before .loop .inv .1 ∙ same-next m (c .before .before .before .before .before .before .before .before .before .args .a) (c .before .before .before .before .before .before .before .before .before .args .b) (c .before .before .before .before .before .before .before .before .before .args .n) (c .before .before .before .before .before .before .loop .i) (c .before .before .before .before .before .loop-test .taken) ∙ rw differ)
@@ -40,8 +52,8 @@ returns-2 c =
 returns-3 : tie.Need-returns-3 Inv-loop μ-loop
 returns-3 c =
     let m = routesIn (c .before .before .before .before .before .before .before .before .before .before .before .before .args .s .now) (c .before .before .before .before .before .before .before .before .before .before .before .before .args .y) in
-    let x = c .before .before .before .before .before .before .before .step-of in
-    let z = c .before .before .before .before .before .before .step-of2 in
+    let x = c .before .before .before .before .before .before .before .step-in in
+    let z = c .before .before .before .before .before .before .step-in2 in
     let differ : sameStep (stepOf (stepIn m (c .before .before .before .before .before .before .before .before .before .before .before .before .args .a + c .before .before .before .before .before .before .before .before .before .loop .i))) (stepOf (stepIn m (c .before .before .before .before .before .before .before .before .before .before .before .before .args .b + c .before .before .before .before .before .before .before .before .before .loop .i))) ≡ false =
     rw (x .ensures, z .ensures) at (values-differ (x .result) (z .result) (c .before .before .before .if2 .left) (c .if3 .taken)) in
     sym (c .before .before .before .before .before .before .before .before .before .loop .inv .1 ∙ same-next m (c .before .before .before .before .before .before .before .before .before .before .before .before .args .a) (c .before .before .before .before .before .before .before .before .before .before .before .before .args .b) (c .before .before .before .before .before .before .before .before .before .before .before .before .args .n) (c .before .before .before .before .before .before .before .before .before .loop .i) (c .before .before .before .before .before .before .before .before .loop-test .taken) ∙ rw differ)
@@ -49,8 +61,8 @@ returns-3 c =
 loop-again : tie.Need-loop-again Inv-loop μ-loop
 loop-again c =
     let m = routesIn (c .before .before .before .before .before .before .before .before .before .before .before .before .args .s .now) (c .before .before .before .before .before .before .before .before .before .before .before .before .args .y) in
-    let x = c .before .before .before .before .before .before .before .step-of in
-    let z = c .before .before .before .before .before .before .step-of2 in
+    let x = c .before .before .before .before .before .before .before .step-in in
+    let z = c .before .before .before .before .before .before .step-in2 in
     let agree = rw (x .ensures, z .ensures) at (steps-agree (x .result) (z .result) (c .before .before .before .if2 .left) (c .if3 .left)) in
     (search needs, c .before .before .before .before .before .before .before .before .before .loop .inv .1 ∙ same-next m (c .before .before .before .before .before .before .before .before .before .before .before .before .args .a) (c .before .before .before .before .before .before .before .before .before .before .before .before .args .b) (c .before .before .before .before .before .before .before .before .before .before .before .before .args .n) (c .before .before .before .before .before .before .before .before .before .loop .i) (c .before .before .before .before .before .before .before .before .loop-test .taken) ∙ rw agree)
 
@@ -67,9 +79,9 @@ same-steps-spec =
     returns
     loop-holds
     (λ c. search needs)
-    (λ c κs. search needs)
+    step-in-requires
     (λ c. search needs)
-    (λ c κs. search needs)
+    step-in-requires-2
     returns-2
     returns-3
     (λ c. search needs)
