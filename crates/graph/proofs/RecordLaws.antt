@@ -1,7 +1,7 @@
 -- The records of a graph as rows of words, and what a row more does to the graph.
 --     XWords      a record's row
 --     X-is, X-past    record i of the graph, and the one past the last
---     X-count     how many there are; block-most, edge-most
+--     X-count     how many there are; entry-most, block-most, edge-most
 --     X-added     the graph with a row more is the graph with the record more
 -- for X of entry, block, edge, region, handler, unresolved, call.
 -- Assumes nothing.
@@ -134,6 +134,9 @@ module _ (l : List ℕ) where
   pub call-past : (i : ℕ) → size callRows l ≤ i → getD (heldIn l .graph .calls) i (callOf []) ≡ callOf []
   unfolding heldIn
   call-past i h = record-past callRows callOf l i (callOf []) h
+
+  pub entry-most : length (heldIn l .graph .table) ≤ 512
+  entry-most = omega (arith, entry-count, size-most tableRows l)
 
   pub block-most : length (heldIn l .graph .blocks) ≤ 1024
   block-most = omega (arith, block-count, size-most blockRows l)

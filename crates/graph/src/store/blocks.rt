@@ -5,7 +5,7 @@ use crate::store::put_row;
 use crate::store::row;
 use crate::store::rows_in;
 ghost use mathlib.Core.Path.{_≡_};
-ghost use Prim.Native.Nat.{_≤_};
+ghost use Prim.Native.Nat.{_≤_, _<_};
 ghost use lib.ListN.{length};
 ghost use Rattle.graph.specs.Graph.{block};
 ghost use Rattle.graph.specs.Words.{blockOf, heldIn};
@@ -29,9 +29,17 @@ pub fn block_at(g: &Words, i: usize) -> Block
     ensures { λ r. ⌜ r ≡ block (heldIn (now (g .entry)) .graph) i ⌝ }
 {
     if i < rows_in(g, COUNT, MOST) {
-        return read(row(g, BASE + 2 * i, 2));
+        return block_in(g, i);
     }
     Block { first: 0, count: 0 }
+}
+
+// Number i, one of those that there are. Nothing is tested.
+pub fn block_in(g: &Words, i: usize) -> Block
+    requires { ⌜ i < length (heldIn (now g) .graph .blocks) ⌝ }
+    ensures { λ r. ⌜ r ≡ block (heldIn (now (g .entry)) .graph) i ⌝ }
+{
+    read(row(g, BASE + 2 * i, 2))
 }
 
 // One more, behind the others; where there is no room, nothing changes.

@@ -5,7 +5,7 @@ use crate::store::put_row;
 use crate::store::row;
 use crate::store::rows_in;
 ghost use mathlib.Core.Path.{_≡_};
-ghost use Prim.Native.Nat.{_≤_};
+ghost use Prim.Native.Nat.{_≤_, _<_};
 ghost use lib.ListN.{length};
 ghost use Rattle.graph.specs.Graph.{edge};
 ghost use Rattle.graph.specs.Words.{edgeOf, heldIn};
@@ -29,7 +29,7 @@ pub fn edge_at(g: &Words, i: usize) -> Edge
     ensures { λ r. ⌜ r ≡ edge (heldIn (now (g .entry)) .graph) i ⌝ }
 {
     if i < rows_in(g, COUNT, EDGE_MOST) {
-        return read(row(g, BASE + 8 * i, 8));
+        return edge_in(g, i);
     }
     Edge {
         source: 0,
@@ -41,6 +41,14 @@ pub fn edge_at(g: &Words, i: usize) -> Edge
         source_address: 0,
         target_address: 0,
     }
+}
+
+// Number i, one of those that there are. Nothing is tested.
+pub fn edge_in(g: &Words, i: usize) -> Edge
+    requires { ⌜ i < length (heldIn (now g) .graph .edges) ⌝ }
+    ensures { λ r. ⌜ r ≡ edge (heldIn (now (g .entry)) .graph) i ⌝ }
+{
+    read(row(g, BASE + 8 * i, 8))
 }
 
 // One more, behind the others; where there is no room, nothing changes.

@@ -5,7 +5,7 @@ use crate::store::put_row;
 use crate::store::row;
 use crate::store::rows_in;
 ghost use mathlib.Core.Path.{_≡_};
-ghost use Prim.Native.Nat.{_≤_};
+ghost use Prim.Native.Nat.{_≤_, _<_};
 ghost use lib.ListN.{length};
 ghost use Rattle.graph.specs.Table.{entryAt};
 ghost use Rattle.graph.specs.Words.{entryOf, heldIn};
@@ -29,7 +29,7 @@ pub fn table_at(g: &Words, i: usize) -> TableEntry
     ensures { λ r. ⌜ r ≡ entryAt (heldIn (now (g .entry)) .graph .table) i ⌝ }
 {
     if i < rows_in(g, COUNT, MOST) {
-        return read(row(g, BASE + 5 * i, 5));
+        return table_in(g, i);
     }
     TableEntry {
         address: 0,
@@ -38,6 +38,14 @@ pub fn table_at(g: &Words, i: usize) -> TableEntry
         keeps: 0,
         flow: 0,
     }
+}
+
+// Number i, one of those that there are. Nothing is tested.
+pub fn table_in(g: &Words, i: usize) -> TableEntry
+    requires { ⌜ i < length (heldIn (now g) .graph .table) ⌝ }
+    ensures { λ r. ⌜ r ≡ entryAt (heldIn (now (g .entry)) .graph .table) i ⌝ }
+{
+    read(row(g, BASE + 5 * i, 5))
 }
 
 // One more, behind the others; where there is no room, nothing changes.

@@ -1,18 +1,18 @@
 -- `edge_at` meets its contract: a row below the count is read, and past it there is none. Assumes nothing.
-use mathlib.Core.Path.{sym, ap, _∙_}
+use mathlib.Core.Path.{sym}
 use native.Mathlib.Omega.{arith}
 use borrow.Author.Needs.{needs}
 use Rattle.graph.specs.Section.{size}
-use Rattle.graph.specs.Words.{edgeOf}
-use Rattle.graph.proofs.RecordLaws.{edge-is, edge-past}
+use Rattle.graph.proofs.RecordLaws.{edge-count, edge-past}
 use Rattle.graph.proofs.store.edges.edge_at.Statement.{statement}
 use Rattle.graph.proofs.store.edges.edge_at.Tie as tie
 
-returns : tie.Need-returns
+edge-in-requires : tie.Need-edge-in-requires
 unfolding size
-returns c =
-    let a = c .before .before .before .before .args in
-    c .read .ensures ∙ ap edgeOf (c .before .row .ensures .0) ∙ sym (edge-is (a .g .now) (a .i) (omega arith))
+edge-in-requires c κs = omega (arith, edge-count (c .before .before .args .g .now))
+
+returns : tie.Need-returns
+returns c = c .edge-in .ensures
 
 returns-2 : tie.Need-returns-2
 unfolding size
@@ -21,4 +21,4 @@ returns-2 c =
     sym (edge-past (a .g .now) (a .i) (omega arith))
 
 pub edge-at-spec : {M : Type 1} → statement M
-edge-at-spec = tie.close (tie.spec (λ c κs. search needs) (λ c. search needs) (λ c. search needs) (λ c κs. search needs) (λ c κs. search needs) returns returns-2)
+edge-at-spec = tie.close (tie.spec (λ c κs. search needs) edge-in-requires returns returns-2)
