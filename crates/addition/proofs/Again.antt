@@ -57,7 +57,7 @@ module _ (g : Graph) (rs : List UnwindRoute) where
 
   -- ---- the new blocks
 
-  new-old : (x : Block) → x ∈ bs → Old g x
+  pub new-old : (x : Block) → x ∈ bs → Old g x
   unfolding cloneBlocks
   new-old x m =
       let b = map-mem (blockAt g) (flat (copied g fs z) (length z)) m in
