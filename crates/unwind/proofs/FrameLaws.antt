@@ -32,7 +32,7 @@ use Rattle.unwind.specs.Placed.{PlacedAll}
 use Rattle.unwind.specs.Sides.{Lands, GuardsIn}
 use Rattle.addition.specs.Add.{nodeCheck}
 use Rattle.unwind.specs.Answers.{RoutesChecked}
-use Rattle.unwind.specs.Frames.{Few, Small, Room, Placements, AtHand}
+use Rattle.unwind.specs.Frames.{Few, Small, Room, NodesPass, Placements, AtHand}
 use Rattle.unwind.proofs.Standing.{stands-of}
 use Rattle.unwind.proofs.TrieNodes.{length-nodes}
 use Rattle.unwind.proofs.SizeChecks.{placed-in, bounded-in}
@@ -101,11 +101,12 @@ module _ (h : Held) (n : ℕ) (m : RouteImage) (checked : RoutesChecked h n m) (
 
     pub placements : {head next bases heads parts returns guards landings exits head′ next′ bases′ heads′ parts′ returns′ exits′ : List ℕ}
         → Room g m edges ends head next bases heads parts returns guards landings exits c
-        → Linked g head′ next′ 0 → Roomy g head′ next′ → PlacedAll g m nodes (c .nodes) bases′ heads′ parts′ returns′ clear → length exits′ ≡ length exits
+        → NodesPass g (routesOf m) → Linked g head′ next′ 0 → Roomy g head′ next′ → PlacedAll g m nodes (c .nodes) bases′ heads′ parts′ returns′ clear → length exits′ ≡ length exits
         → Placements g m nodes edges ends roots head′ next′ bases′ heads′ parts′ returns′ guards landings exits′ c
-    placements room linked links p exits-long =
+    placements room passed linked links p exits-long =
         record {
           trie = t;
+          checked = passed;
           links = links;
           linked = linked;
           slots = p .slots;
@@ -124,6 +125,7 @@ module _ (h : Held) (n : ℕ) (m : RouteImage) (checked : RoutesChecked h n m) (
       record {
         graphed = checked .graphed;
         accepted = checked .accepted;
+        checked = p .checked;
         instances = record { trie = p .trie; slots = p .slots; placed = p .placed; guards-fit = omega arith; guarded = guarded; landed = landed; bounded = p .bounded };
         links = p .links;
         linked = p .linked;

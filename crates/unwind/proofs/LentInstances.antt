@@ -4,7 +4,7 @@
 --     leads-in, sides-in, parts-in, few-in     where nodes and ends lead, the sides, the parts, and the first copies
 --     place-in                     where a node has a block
 --     ways-in                      the ways of the addition, as routes want them
---     runs-in                      the runs of blocks and copies
+--     runs-in, starts-in           the runs of blocks and copies, and where they begin
 -- Assumes nothing.
 use mathlib.Core.Path.{_≡_, refl, sym, ap, ap₂, _∙_, subst}
 use mathlib.Core.Bool.{Bool, true, false, cond}
@@ -14,8 +14,8 @@ use mathlib.Core.Option.{Option, none, some}
 use Prim.Native.Nat.{ℕ, suc, _+_, _-_, _*_, _≤_, _<_}
 use native.Mathlib.Decide.{decLt}
 use native.Mathlib.Omega.{arith}
-use borrow.Author.Tests.{eq-eqb, ne-eqb}
-use lib.Dec.{eqb}
+use borrow.Author.Tests.{eq-eqb, ne-eqb, ltb-true}
+use lib.Dec.{eqb, ltb}
 use lib.ListN.{length, getD, List·getD-eq-default, List·getD-map}
 use lib.Seq.{getD-take, getD-append-add}
 use Rattle.image.specs.Image.{RouteImage}
@@ -26,6 +26,7 @@ use Rattle.graph.specs.Graph.{Graph, block}
 use Rattle.graph.specs.Fold.{flat}
 use Rattle.graph.specs.BlockSet.{member}
 use Rattle.graph.specs.Table.{isStart}
+use Rattle.graph.specs.WellFormed.{noneEmpty}
 use Rattle.graph.specs.Route.{routeAt}
 use Rattle.graph.proofs.FoldLaws.{flat-same, flat-front}
 use Rattle.graph.proofs.RouteLaws.{length-routes}
@@ -54,6 +55,9 @@ use Rattle.addition.proofs.Accepted.{head-mem, built-mem, guarded-mem}
 use Rattle.unwind.proofs.Standing.{run-fits}
 use Rattle.addition.proofs.Instance.{first-or-later, place-first, place-later, copied-later}
 use Rattle.addition.proofs.After.{old-block}
+use Rattle.addition.proofs.Sound.{all-at}
+use Rattle.addition.proofs.AgainBlocks.{runs-after}
+use Rattle.addition.proofs.Again.{new-old}
 use Rattle.unwind.proofs.Sets.{Rises, keep-rises, guarded-kept}
 use Rattle.unwind.proofs.TrieNodes.{length-nodes}
 use Rattle.unwind.proofs.Leaving.{roots-length, place-below}
@@ -289,3 +293,12 @@ runs-in g s fs z es = record { fits = λ b. go b (decLt b (length (g .blocks))) 
         ∙ getD-append-add (g .blocks) (map (block g) own) k _
         ∙ ap (getD (map (block g) own) k) (sym past)
         ∙ List·getD-map (block g) own k size)
+
+-- where an instruction stands, so does the first one of each block
+pub starts-in : (g : Graph) → Stands g → (rs : List UnwindRoute) (es : List Edge) → 0 < length (g .table) → (b : ℕ) → b < length (extended g (cloneBlocks g (funclets rs) (tries rs .nodes)) es .blocks) → block (extended g (cloneBlocks g (funclets rs) (tries rs .nodes)) es) b .first < length (g .table)
+unfolding noneEmpty extended
+starts-in g s rs es some-there b h =
+    let g′ : Graph = extended g (cloneBlocks g (funclets rs) (tries rs .nodes)) es in
+    let full = runs-after g (cloneBlocks g (funclets rs) (tries rs .nodes)) es (new-old g rs) (λ z. absurd (omega arith)) (s .runs) in
+    let one = all-at (λ (k : ℕ). ltb 0 (block g′ k .count)) (length (g′ .blocks)) b (rw (ne-eqb (length (g .table)) 0 (λ z. omega arith)) at full) h in
+    omega (arith, ltb-true 0 (block g′ b .count) one, runs-in g s (funclets rs) (tries rs .nodes) es .fits b)

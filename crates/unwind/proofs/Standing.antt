@@ -1,6 +1,5 @@
 -- A graph that 21 lets pass: its table, its built blocks, and the block that an address starts.
 --     stands-of                    what is used of 21
---     table-most                   the limit of the table
 --     Cut, cut-all, cut-right, cut-left        a search by halving in numbers that rise
 --     table-rises                  the addresses of its table rise
 --     below-cut, below-test, start-nowhere     how many starts are below an address, and whether one is there
@@ -27,7 +26,6 @@ use lib.ListN.{length, List·getD-eq-default}
 use Rattle.image.specs.Refusal.{Check, clear, refused}
 use Rattle.graph.specs.declared.record.TableEntry.{TableEntry}
 use Rattle.graph.specs.Graph.{Graph, Held, block}
-use Rattle.graph.specs.Words.{tableRows, heldIn}
 use Rattle.graph.specs.Fold.{some as any, sum}
 use Rattle.graph.specs.Table.{entryAt, isStart, below}
 use Rattle.graph.specs.Lookup.{Rising}
@@ -35,8 +33,6 @@ use Rattle.graph.specs.Build.{tableCheck}
 use Rattle.graph.specs.WellFormed.{passes, filled, isBuilt, Built, repeats, copiesRepeat, noneEmpty, wellFormed}
 use Rattle.graph.proofs.FoldLaws.{decided, some-where}
 use Rattle.graph.proofs.TableLaws.{start-at, start-none, start-has, start-place, below-at}
-use Rattle.graph.proofs.SectionLaws.{size-most}
-use Rattle.graph.proofs.RecordLaws.{entry-count}
 use Rattle.graph.proofs.RangeLaws.{rising}
 use Rattle.graph.proofs.RuleLaws as rule
 use Rattle.addition.specs.Lists.{keep, head}
@@ -87,11 +83,6 @@ module _ (f : ℕ → ℕ) (n p : ℕ) where
           less = c .less;
           more = λ k h lt. elim (ℕ-discrete k mid) [ yes e ↦ rw e le | no ne ↦ omega (arith, rise mid k (omega arith) lt) ];
         }
-
--- ---- words
-
-pub table-most : (l : List ℕ) → length (heldIn l .graph .table) ≤ 512
-table-most l = omega (arith, entry-count l, size-most tableRows l)
 
 -- ---- the first of the kept
 

@@ -3,7 +3,7 @@
 --     first-all, linked-start, linked-kept, edge-stood     the first edges stay linked
 --     BlocksGoing, blocks-start, blocks-next, blocks-end     the blocks of a set
 --     no-blocks, node-blocks, node-skips     the blocks of a node more
---     EdgesGoing, edges-start, edges-next, edges-end, chain-less     the edges out of a block
+--     EdgesGoing, edges-start, edge-here, edges-next, edges-end, chain-less     the edges out of a block
 --     SetGoing, set-start, set-next, set-end     the edges out of the blocks of a set
 --     copiesFrom, no-copies, edges-node, edges-skip     those of a node more
 --     map-same                     f and g agree on a list
@@ -188,6 +188,17 @@ module _ (m base : ℕ) (w : List ℕ) (b : ℕ) where
       edges-end z =
           rw (sym (p .rest) ∙ ap (λ (c : List Edge). p .done ++ c) (chain-none (old l₀) b at z) ∙ append-nil (p .done)) (p .added)
 
+      -- the edge at hand stood, and stands
+      below : (e : ℕ) → at ≡ suc e → e < m
+      unfolding firstEdges
+      below e is = lt-take (p .on .here e is .0)
+        where
+          lt-take : e < length (take m (heldIn l₀ .graph .edges)) → e < m
+          lt-take h = omega (arith, length-take-le m (heldIn l₀ .graph .edges) (k .stood))
+
+      pub edge-here : (e : ℕ) → at ≡ suc e → e < length (heldIn l .graph .edges)
+      edge-here e is = omega (arith, below e is, k .stood, edges-grow (p .added))
+
       module _ (e at′ : ℕ) (is : at ≡ suc e) (next′ : at′ ≡ getD next e 0) where
         step : OnChain (old l₀) b at′ × (chain (old l₀) b at ≡ edge (old l₀) e ∷ chain (old l₀) b at′)
         step = chain-next (old l₀) b head next (k .ends) (k .roomy) (k .linked) at e at′ is (p .on) next′
@@ -195,19 +206,11 @@ module _ (m base : ℕ) (w : List ℕ) (b : ℕ) where
         pub chain-less : length (chain (firstEdges (heldIn l₀ .graph) m) b at) ≡ suc (length (chain (firstEdges (heldIn l₀ .graph) m) b at′))
         chain-less = ap length (step .1)
 
-        -- it stood
-        below : e < m
-        unfolding firstEdges
-        below = lt-take (p .on .here e is .0)
-          where
-            lt-take : e < length (take m (heldIn l₀ .graph .edges)) → e < m
-            lt-take h = omega (arith, length-take-le m (heldIn l₀ .graph .edges) (k .stood))
-
         pub edges-next : (l′ : List ℕ) (x r : Edge) → x ≡ edge (heldIn l .graph) e → r ≡ copyOf base w x → Stored l l′ (withEdge (heldIn l) r) → EdgesGoing l₀ l′ at′
         edges-next l′ x r read copy st =
             let d = edge (old l₀) e in
             let same : r ≡ copyOf base w d =
-            copy ∙ ap (copyOf base w) (read ∙ edge-stood (heldIn l .graph) m e below ∙ ap (λ (g : Graph). edge g e) (first-kept (p .added) m (k .stood))) in
+            copy ∙ ap (copyOf base w) (read ∙ edge-stood (heldIn l .graph) m e (below e is) ∙ ap (λ (g : Graph). edge g e) (first-kept (p .added) m (k .stood))) in
             record {
               done = p .done ++ (d ∷ []);
               added = rw (map-append (copyOf base w) (p .done) (d ∷ [])) (added-then (p .added) (edge-added (copyOf base w d) (rw same at st)));

@@ -5,7 +5,7 @@
 --     counts-check, most-check     19 and 20 by what was counted, and by the most that there can be
 --     hops-fit                     19 and 20 let pass: there is room for the hops
 --     sets-stood                   behind the copies of edges the blocks of the instances stand
---     runs-stood, hops-lent        behind those of blocks: the runs of blocks, and the hops of the ways that routes want
+--     joins-stood, hops-lent       behind those of blocks: what hops join, and the hops of the ways that routes want
 --     addition-laid, hops-laid     all is stored
 --     sized-refused, sized-stored  what is answered
 -- Assumes nothing.
@@ -45,26 +45,31 @@ use Rattle.addition.specs.Trie.{Node, tries}
 use Rattle.unwind.specs.Routed.{TriesIn}
 use Rattle.addition.specs.Instance.{copied, cloneBlocks, cloneEdges}
 use Rattle.unwind.specs.Clones.{copiesIn, blockCopies, edgeCopies, SetsIn}
-use Rattle.addition.specs.Ways.{Hop, ways, hopsOf, routeEdges}
+use Rattle.addition.specs.Ways.{Hop, Way, Leap, leap, ways, hopsOf, routeEdges}
 use Rattle.unwind.specs.Sources.{toBlock}
 use Rattle.unwind.specs.Most.{guardedWays, returnedWays}
 use Rattle.unwind.specs.Sizes.{HopsSize}
 use Rattle.unwind.specs.Lent.{Leads, Sides, PartsIn, Roomy}
 use Rattle.unwind.specs.Copies.{BasesFew, Bounded}
 use Rattle.unwind.specs.HopWords.{hopsIn, HopsLaid, HopsFit}
-use Rattle.unwind.specs.Wanted.{lentWays, RunsFit}
+use Rattle.unwind.specs.Wanted.{lentWays}
+use Rattle.unwind.specs.Flags.{pair, HopsJoin}
 use Rattle.addition.specs.Add.{extended, Addition, addition, sizeCheck, added, outcome}
 use Rattle.unwind.specs.Answers.{Sized}
 use Rattle.unwind.specs.Frames.{AtHand}
+use Rattle.addition.specs.Walk.{_∈_}
 use Rattle.addition.proofs.Lists.{and-both}
+use Rattle.addition.proofs.Sound.{sound}
+use Rattle.addition.proofs.AgainWays.{way-ends, way-table}
 use Rattle.unwind.proofs.Standing.{stands-of}
 use Rattle.unwind.proofs.TrieNodes.{length-nodes}
 use Rattle.unwind.proofs.ClonesAre.{sets-in, blocks-are, edges-are}
-use Rattle.unwind.proofs.LentInstances.{leads-in, sides-in, parts-in, few-in, ways-in, runs-in}
+use Rattle.unwind.proofs.LentInstances.{leads-in, sides-in, parts-in, few-in, ways-in, runs-in, starts-in}
 use Rattle.unwind.proofs.CloneLaws.{keep-most}
 use Rattle.unwind.proofs.CopiesAre.{total-hops}
 use Rattle.unwind.proofs.MostLaws.{Fits, most-hops}
 use Rattle.unwind.proofs.SizeChecks.{routes-same, edges-refused, hops-refused, sizes-clear}
+use Rattle.unwind.proofs.WantLaws.{stood-way}
 use Rattle.unwind.proofs.Finished.{copies-graph, finished}
 
 -- ---- counts
@@ -132,6 +137,7 @@ module _ (w : List ℕ) (m : RouteImage) {nodes edges ends roots head next bases
       record {
         graphed = x .graphed;
         accepted = x .accepted;
+        checked = x .checked;
         instances = x .instances;
         links = x .links;
         linked = x .linked;
@@ -243,8 +249,23 @@ module _ (w : List ℕ) (m : RouteImage) {nodes edges ends roots head next bases
       graph-is : heldIn w₂ .graph ≡ extended g newBlocks newEdges
       graph-is = copies-graph {w = w} {w₁ = w₁} {w₂ = w₂} (x .graphed) newBlocks newEdges edges-stored blocks-stored blocks-fit (omega (arith, edges-fit))
 
-      pub runs-stood : RunsFit (heldIn w₂ .graph)
-      runs-stood = subst RunsFit (sym graph-is) (runs-in g (stands-of (heldIn w) (x .graphed)) (funclets rs) z newEdges)
+      pub joins-stood : {h h′ : List ℕ} → HopsLaid m h h′ (hopsOf (ways g rs)) → HopsJoin h′ (heldIn w₂ .graph)
+      unfolding extended
+      joins-stood {h} {h′} laid =
+          subst (HopsJoin h′) (sym graph-is)
+          (record { runs = runs-in g (stands-of (heldIn w) (x .graphed)) (funclets rs) z newEdges; joins = λ s t stands. join s t (stood-way m h′ (ways g rs) (laid .holds) (pair s t) stands) })
+        where
+          long : length (extended g newBlocks newEdges .blocks) ≡ length (g .blocks) + length newBlocks
+          long = length-append (g .blocks) newBlocks
+
+          join : (s t : ℕ) → (v : Way) × (v ∈ ways g rs) × (pair s t ≡ leap v) → (s < length (extended g newBlocks newEdges .blocks)) × (t < length (extended g newBlocks newEdges .blocks)) × (block (extended g newBlocks newEdges) t .first < length (extended g newBlocks newEdges .table))
+          join s t v =
+              let ends = way-ends g rs (sound (heldIn w) (x .graphed)) (x .checked) (v .0) (v .1) in
+              let there : t < length (extended g newBlocks newEdges .blocks) = omega (arith, long, ends .end t (ap (λ (l : Leap). l .end) (sym (v .2)))) in (
+                omega (arith, long, ends .source, ap (λ (l : Leap). l .source) (v .2)),
+                there,
+                starts-in g (stands-of (heldIn w) (x .graphed)) rs newEdges (way-table g rs (sound (heldIn w) (x .graphed)) (x .checked) (v .0) (v .1)) t there,
+              )
 
       pub addition-laid : {w₃ : List ℕ} → Added w₂ w₃ (routeEdges (heldIn w₂ .graph) [] (lentWays m nodes edges ends heads landings roots guards bases parts returns (length (m .routes)) (c .nodes))) [] [] → Laid w w₃ (addition g rs .graph)
       unfolding addition

@@ -1,12 +1,12 @@
 -- Route edges, as ways want them one after the other.
---     added-runs, runs-fit         added edges leave the blocks as they were
+--     added-runs, hops-join        added edges leave the blocks as they were
 --     wants-none, wants-then       nothing, and ways behind others
 --     pair-stands                  the hop of an end that is a block
 --     hop-few, flags-none          no flag is set
 --     want-leave, want-again, want-new     one way: out of the function, wanted before, and new
 --     want-next                    one branch more
 --     stand-part, stand-front, stand-back, stand-flat     some of the ways that stand
---     ways-stand                   the ways of the hops that are stored
+--     ways-stand, stood-way        the ways of the hops that are stored, and the way of a hop
 --     edges-stand, ends-stand, record-wants     the ways of a node: of its edges, then of its ends
 --     SetWanting, wanting-start, wanting-stands, wanting-next, wanting-end     the blocks of a set
 --     outOf, set-ways, guard-set, return-set     those of a route, and of a node
@@ -16,7 +16,7 @@
 -- Assumes nothing.
 use mathlib.Core.Path.{_≡_, refl, sym, ap, ap₂, _∙_, subst}
 use mathlib.Core.Bool.{Bool, true, false, _||_}
-use mathlib.Core.List.{List, [], _∷_, _++_, map, append-nil, append-assoc, map-append, List·Memᴰ·head, List·Memᴰ·tail, Memᴰ·append-left, Memᴰ·append-right}
+use mathlib.Core.List.{List, [], _∷_, _++_, map, append-nil, append-assoc, map-append, List·Memᴰ·head, List·Memᴰ·tail, Memᴰ·append-left, Memᴰ·append-right, Memᴰ·cast}
 use Prim.Native.Nat.{ℕ, zero, suc, _+_, _<_, Ordering·lt}
 use native.Mathlib.Decide.{ℕ-discrete}
 use native.Mathlib.Numerals.{add-one}
@@ -51,10 +51,10 @@ use Rattle.unwind.specs.Sources.{Exit, leapOf}
 use Rattle.unwind.specs.Entries.{endIn}
 use Rattle.unwind.specs.Gather.{exitTo, edgeExits, endNumber, endExits, recordExits}
 use Rattle.unwind.specs.HopWords.{hopRows, hopRow, rowsIn, rowHop, rowHops, hopsIn}
-use Rattle.unwind.specs.Wanted.{wayOf, placeIn, recordWays, guardWays, returnWays, lentWays, RunsFit}
-use Rattle.unwind.specs.Flags.{pair, leapTo, wayTo, rowLeap, leapAt, HopsRise, HopIs, HopStands, WaysStand, Flags, FlagSet, seenWith, SameRuns, EdgesWanted, placeOf, setWays}
-use Rattle.addition.proofs.Lists.{or-left, none-in, mem-map, mem-joined, mem-flat, mem-getD}
-use Rattle.addition.proofs.Order.{exact-leaps, mem-sorted}
+use Rattle.unwind.specs.Wanted.{wayOf, placeIn, recordWays, guardWays, returnWays, lentWays}
+use Rattle.unwind.specs.Flags.{pair, leapTo, wayTo, rowLeap, leapAt, HopsRise, HopIs, HopStands, HopsJoin, WaysStand, Flags, FlagSet, seenWith, SameRuns, EdgesWanted, placeOf, setWays}
+use Rattle.addition.proofs.Lists.{or-left, none-in, mem-map, map-mem, mem-joined, mem-flat, mem-getD}
+use Rattle.addition.proofs.Order.{exact-leaps, mem-sorted, sorted-mem}
 use Rattle.unwind.proofs.Rising.{Rising, rising-sorted, total-leaps}
 use Rattle.unwind.proofs.EntryLaws.{table-mem}
 use Rattle.unwind.proofs.HopLaws.{hops-number}
@@ -73,11 +73,8 @@ unfolding adding mores
 added-runs a = record { table = ap (λ (h : Held). h .graph .table) (a .stored .holds); blocks = ap (λ (h : Held). h .graph .blocks) (a .stored .holds) }
 
 module _ {g g′ : Graph} (k : SameRuns g g′) where
-  pub runs-fit : RunsFit g → RunsFit g′
-  runs-fit f =
-      record {
-        fits = λ b. rw (k .table, k .blocks) (f .fits b);
-      }
+  pub hops-join : {l : List ℕ} → HopsJoin l g → HopsJoin l g′
+  hops-join j = record { runs = record { fits = λ b. rw (k .table, k .blocks) (j .runs .fits b) }; joins = λ s t h. rw (k .table, k .blocks) (j .joins s t h) }
 
   first-same : (b : ℕ) → firstOf g′ b ≡ firstOf g b
   unfolding firstOf
@@ -279,15 +276,23 @@ leap-stands [] x i = absurd (none-in i)
 leap-stands (y ∷ l) x (List·Memᴰ·head e) = (0, omega arith, sym e)
 leap-stands (y ∷ l) x (List·Memᴰ·tail i) = let k = leap-stands l x i in (suc (k .0), omega (arith, k .1), k .2)
 
-pub ways-stand : (m : RouteImage) (h : List ℕ) (ws : List Way) → hopsIn m h ≡ hopsOf ws → WaysStand h ws
-ways-stand m h ws e =
-    let all : map rowLeap (rowsIn h .hops) ≡ sorted compareLeaps (map leap ws) = sym (rows-leap m h) ∙ ap (map leapOf) e ∙ hops-leap ws in
-    record {
-      rises = record { rise = leaps-rise (rowsIn h .hops) (rw all (rising-sorted compareLeaps total-leaps (map leap ws))) };
-      stands = λ w i.
-          let k = leap-stands (rowsIn h .hops) (leap w) (rw all (mem-sorted compareLeaps exact-leaps (mem-map leap i))) in
-          record { hop = k .0; makes = record { stands = k .1; is = k .2 } };
-    }
+module _ (m : RouteImage) (h : List ℕ) (ws : List Way) (e : hopsIn m h ≡ hopsOf ws) where
+  all-leaps : map rowLeap (rowsIn h .hops) ≡ sorted compareLeaps (map leap ws)
+  all-leaps = sym (rows-leap m h) ∙ ap (map leapOf) e ∙ hops-leap ws
+
+  pub ways-stand : WaysStand h ws
+  ways-stand =
+      record {
+        rises = record { rise = leaps-rise (rowsIn h .hops) (rw all-leaps (rising-sorted compareLeaps total-leaps (map leap ws))) };
+        stands = λ w i.
+            let k = leap-stands (rowsIn h .hops) (leap w) (rw all-leaps (mem-sorted compareLeaps exact-leaps (mem-map leap i))) in
+            record { hop = k .0; makes = record { stands = k .1; is = k .2 } };
+      }
+
+  pub stood-way : (x : Leap) → HopStands h x → (w : Way) × (w ∈ ws) × (x ≡ leap w)
+  stood-way x s =
+      let here : x ∈ map rowLeap (rowsIn h .hops) = Memᴰ·cast (sym (s .makes .is)) (mem-map rowLeap (mem-getD (rowsIn h .hops) (s .hop) (hopRow []) (s .makes .stands))) in
+      map-mem leap ws (sorted-mem compareLeaps (map leap ws) (rw all-leaps at here))
 
 -- ---- a node
 

@@ -7,7 +7,7 @@ use Prim.Native.Nat.{ℕ, _+_, _<_, Ordering·lt}
 use lib.Dec.{eqb}
 use lib.ListN.{length}
 use Rattle.image.specs.Image.{RouteImage}
-use Rattle.graph.specs.Graph.{Graph}
+use Rattle.graph.specs.Graph.{Graph, block as blockAt}
 use Rattle.graph.specs.Words.{heldIn}
 use Rattle.graph.specs.Fold.{count}
 use Rattle.graph.specs.BlockSet.{member}
@@ -20,7 +20,7 @@ use Rattle.addition.specs.Walk.{_∈_}
 use Rattle.addition.specs.Ways.{block, Way, Leap, leap, compareLeaps, wanted, routeEdges}
 use Rattle.unwind.specs.Entries.{endIn}
 use Rattle.unwind.specs.HopWords.{rowsIn, hopAt, endFrom}
-use Rattle.unwind.specs.Wanted.{recordWays}
+use Rattle.unwind.specs.Wanted.{recordWays, RunsFit}
 
 -- ---- leaps by numbers
 
@@ -57,6 +57,11 @@ pub record HopIs (l : List ℕ) (x : Leap) (k : ℕ) : Type 0 where
 pub record HopStands (l : List ℕ) (x : Leap) : Type 0 where
   pub hop : ℕ
   pub makes : HopIs l x hop
+
+-- the runs of blocks lie in the table, and each hop to a block joins two of the graph, the latter with a first instruction
+pub record HopsJoin (l : List ℕ) (g : Graph) : Type 0 where
+  pub runs : RunsFit g
+  pub joins : (s t : ℕ) → HopStands l (pair s t) → (s < length (g .blocks)) × (t < length (g .blocks)) × (blockAt g t .first < length (g .table))
 
 pub record WaysStand (l : List ℕ) (ws : List Way) : Type 0 where
   pub rises : HopsRise l

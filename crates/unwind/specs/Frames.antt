@@ -4,21 +4,24 @@ use mathlib.Core.Bool.{true}
 use mathlib.Core.List.{List}
 use Prim.Native.Nat.{ℕ, _*_, _≤_, _<_}
 use lib.ListN.{length, replicate}
+use Rattle.image.specs.Refusal.{clear}
 use Rattle.image.specs.Image.{RouteImage}
-use Rattle.image.specs.Deal.{routesOf}
+use Rattle.image.specs.Deal.{UnwindRoute, routesOf}
 use Rattle.image.specs.Accepted.{AcceptedRoutes}
 use Rattle.image.specs.declared.section.RouteLayout.{RouteLayout}
 use Rattle.graph.specs.Graph.{Graph, Held}
+use Rattle.graph.specs.Fold.{checks}
 use Rattle.graph.specs.Search.{Linked, Roomy}
 use Rattle.graph.specs.WellFormed.{wellFormed}
 use Rattle.unwind.specs.declared.tries.store.Counts.{Counts}
 use Rattle.addition.specs.Part.{funclets}
-use Rattle.addition.specs.Trie.{tries}
+use Rattle.addition.specs.Trie.{nodeAt, tries}
 use Rattle.unwind.specs.Routed.{TriesIn}
 use Rattle.unwind.specs.Placed.{Slots, Placed}
 use Rattle.unwind.specs.Lent as lent
 use Rattle.unwind.specs.Copies.{Bounded}
 use Rattle.unwind.specs.Instances.{Instances}
+use Rattle.addition.specs.Add.{nodeCheck}
 
 -- routes with no more than so many steps, paths and routes
 pub record Few (y : RouteLayout) (steps paths routes : ℕ) : Type 0 where
@@ -43,9 +46,14 @@ pub record Room (g : Graph) (m : RouteImage) (edges ends head next bases heads p
   pub firsts-fit : length (g .blocks) < length exits
   pub unplaced : exits ≡ replicate (length exits) 0
 
+-- the checks of the nodes are clear
+abbrev pub NodesPass : Graph → List UnwindRoute → Type 0
+NodesPass g rs = checks (λ i. nodeCheck g (nodeAt (tries rs .nodes) i)) (length (tries rs .nodes)) ≡ clear
+
 -- instances that stand, and the room that is left then
 pub record Placements (g : Graph) (m : RouteImage) (nodes edges ends roots head next bases heads parts returns guards landings exits : List ℕ) (c : Counts) : Type 0 where
   pub trie : TriesIn m nodes edges ends roots c
+  pub checked : NodesPass g (routesOf m)
   pub links : Roomy g head next
   pub linked : Linked g head next 0
   pub slots : Slots (c .nodes) bases heads parts returns
@@ -59,6 +67,7 @@ pub record Placements (g : Graph) (m : RouteImage) (nodes edges ends roots head 
 pub record AtHand (h : Held) (m : RouteImage) (nodes edges ends roots head next bases heads parts returns guards landings exits : List ℕ) (c : Counts) : Type 0 where
   pub graphed : wellFormed h ≡ true
   pub accepted : AcceptedRoutes m
+  pub checked : NodesPass (h .graph) (routesOf m)
   pub instances : Instances (h .graph) m nodes edges ends roots bases heads parts returns guards landings c
   pub links : Roomy (h .graph) head next
   pub linked : Linked (h .graph) head next 0

@@ -4,11 +4,13 @@ use graph::blockset::put_in;
 use graph::found::Found;
 use graph::record::TableEntry;
 use graph::store::Words;
-use graph::store::blocks::block_at;
+use graph::store::blocks::block_in;
 use graph::store::table::table_at;
 use graph::store::table::table_count;
+use graph::store::table::table_in;
 ghost use mathlib.Core.Path.{_≡_};
 ghost use mathlib.Core.Bool.{_&&_};
+ghost use Prim.Native.Nat.{_≤_, _<_};
 ghost use lib.Dec.{eqb, ltb};
 ghost use lib.ListN.{length};
 ghost use Rattle.graph.specs.Graph.{block};
@@ -36,7 +38,7 @@ pub fn position(g: &Words, a: u64) -> usize
     let mut hi = table_count(g);
     while lo < hi {
         let mid = lo + (hi - lo) / 2;
-        if table_at(g, mid).address < a {
+        if table_in(g, mid).address < a {
             lo = mid + 1;
         } else {
             hi = mid;
@@ -52,7 +54,7 @@ pub fn find_start(g: &Words, a: u64) -> Found
 {
     let p = position(g, a);
     if p < table_count(g) {
-        if table_at(g, p).address == a {
+        if table_in(g, p).address == a {
             return Found::At(p);
         }
     }
@@ -68,7 +70,7 @@ pub fn block_from(g: &Words, built: usize, p: usize) -> usize
     let mut hi = built;
     while lo < hi {
         let mid = lo + (hi - lo) / 2;
-        if block_at(g, mid).first < p as u64 {
+        if block_in(g, mid).first < p as u64 {
             lo = mid + 1;
         } else {
             hi = mid;
@@ -79,7 +81,12 @@ pub fn block_from(g: &Words, built: usize, p: usize) -> usize
 
 // The hints of the built blocks: where the block that an address starts is likely to stand. Whatever the hints are, an
 // answer is the same: each is tried before it is believed.
-pub fn hint_blocks(g: &Words, built: usize, hints: &mut [u16]) {
+pub fn hint_blocks(g: &Words, built: usize, hints: &mut [u16])
+    requires { ⌜ Stands (heldIn (now g) .graph) × Built (heldIn (now g) .graph) built ⌝ }
+{
+    if table_count(g) == 0 {
+        return;
+    }
     let n = hints.len();
     for b in 0..built {
         let slot = hint_slot(n, first_of(g, b).address);
@@ -115,10 +122,17 @@ pub fn leading_block(g: &Words, built: usize, hints: &[u16], a: u64) -> Lead
 
 // Whether b is a built block whose first instruction starts at a.
 fn starts_at(g: &Words, built: usize, b: usize, a: u64) -> bool
+    requires { ⌜ built ≤ length (heldIn (now g) .graph .blocks) ⌝ }
     ensures { λ r. ⌜ r ≡ (ltb b built && ltb (block (heldIn (now (g .entry)) .graph) b .first) (length (heldIn (now (g .entry)) .graph .table)) && eqb (firstOf (heldIn (now (g .entry)) .graph) b .address) a) ⌝ }
 {
-    let p = block_at(g, b).first as usize;
-    (b < built) & (p < table_count(g)) & (table_at(g, p).address == a)
+    if built <= b {
+        return false;
+    }
+    let p = block_in(g, b).first as usize;
+    if table_count(g) <= p {
+        return false;
+    }
+    table_in(g, p).address == a
 }
 
 // By halving.
@@ -131,7 +145,7 @@ fn search(g: &Words, built: usize, a: u64) -> Lead
     };
     let b = block_from(g, built, p);
     if b < built {
-        if block_at(g, b).first == p as u64 {
+        if block_in(g, b).first == p as u64 {
             return Lead::Leads(b);
         }
     }
@@ -154,22 +168,23 @@ pub fn guarded_by(g: &Words, built: usize, start: u64, end: u64) -> [u64; 16]
     set
 }
 
-// The first instruction of block b.
+// The first instruction of block b, which stands in the table.
 pub fn first_of(g: &Words, b: usize) -> TableEntry
+    requires { ⌜ (b < length (heldIn (now g) .graph .blocks)) × (block (heldIn (now g) .graph) b .first < length (heldIn (now g) .graph .table)) ⌝ }
     ensures { λ r. ⌜ r ≡ firstOf (heldIn (now (g .entry)) .graph) b ⌝ }
 {
-    table_at(g, block_at(g, b).first as usize)
+    table_in(g, block_in(g, b).first as usize)
 }
 
 // The last instruction of block b.
 pub fn last_of(g: &Words, b: usize) -> TableEntry
-    requires { ⌜ RunsFit (heldIn (now g) .graph) ⌝ }
+    requires { ⌜ RunsFit (heldIn (now g) .graph) × (b < length (heldIn (now g) .graph .blocks)) ⌝ }
     ensures { λ r. ⌜ r ≡ lastOf (heldIn (now (g .entry)) .graph) b ⌝ }
 {
-    let run = block_at(g, b);
+    let run = block_in(g, b);
     let end = run.first + run.count;
     if end == 0 {
         return table_at(g, 0);
     }
-    table_at(g, (end - 1) as usize)
+    table_in(g, (end - 1) as usize)
 }

@@ -10,9 +10,9 @@ use graph::error::Checked;
 use graph::found::Found;
 use graph::resume::resumes_late;
 use graph::store::Words;
-use graph::store::blocks::block_at;
-use graph::store::table::table_at;
+use graph::store::blocks::block_in;
 use graph::store::table::table_count;
+use graph::store::table::table_in;
 use image::access::route_in;
 use image::section::RouteLayout;
 ghost use mathlib.Core.Path.{_≡_};
@@ -117,7 +117,7 @@ fn code_end(g: &Words) -> u64
     let n = table_count(g);
     let mut greatest: u64 = 0;
     for i in 0..n {
-        let end = table_at(g, i).end;
+        let end = table_in(g, i).end;
         if greatest < end {
             greatest = end;
         }
@@ -155,7 +155,7 @@ fn check_leads(g: &Words, built: usize, start: u64, end: u64) -> Checked
     let mut b = block_from(g, built, first);
     for p in first..past {
         if !begins_at(g, built, b, p) {
-            let address = table_at(g, p).address;
+            let address = table_in(g, p).address;
             return Checked::Refused(AddressBuildError::RouteAddressNotBlockStart { address });
         }
         b += 1;
@@ -165,7 +165,11 @@ fn check_leads(g: &Words, built: usize, start: u64, end: u64) -> Checked
 
 // Whether b is a built block that begins at position p.
 fn begins_at(g: &Words, built: usize, b: usize, p: usize) -> bool
+    requires { ⌜ built ≤ length (heldIn (now g) .graph .blocks) ⌝ }
     ensures { λ r. ⌜ r ≡ (ltb b built && eqb (block (heldIn (now (g .entry)) .graph) b .first) p) ⌝ }
 {
-    (b < built) & (block_at(g, b).first == p as u64)
+    if built <= b {
+        return false;
+    }
+    block_in(g, b).first == p as u64
 }

@@ -10,10 +10,10 @@ use graph::blockset::take_from;
 use graph::record::Edge;
 use graph::store::Words;
 use graph::store::blocks::add_block;
-use graph::store::blocks::block_at;
+use graph::store::blocks::block_in;
 use graph::store::edges::add_edge;
-use graph::store::edges::edge_at;
 use graph::store::edges::edge_count;
+use graph::store::edges::edge_in;
 ghost use mathlib.Core.Path.{_≡_};
 ghost use mathlib.Core.Bool.{true};
 ghost use mathlib.Core.List.{[], map};
@@ -136,7 +136,7 @@ fn copy_from(
     let mut at = number_at(head, b);
     while at != 0 {
         let e = at - 1;
-        let copy = copy_of(base, set, edge_at(g, e));
+        let copy = copy_of(base, set, edge_in(g, e));
         add_edge(g, copy);
         at = number_at(next, e);
     }
@@ -191,7 +191,7 @@ fn copy_blocks(g: &mut Words, set: &[u64; 16])
             return;
         };
         take_from(&mut left, b);
-        let copy = block_at(g, b);
+        let copy = block_in(g, b);
         add_block(g, copy);
     }
 }

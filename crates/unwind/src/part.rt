@@ -7,14 +7,13 @@ use graph::blockset::Lowest;
 use graph::blockset::has_in;
 use graph::blockset::lowest_in;
 use graph::blockset::put_in;
-use graph::blockset::sixteen;
 use graph::blockset::take_from;
 use graph::reach::see;
 use graph::resume::FUNCLET;
 use graph::store::Words;
 use graph::store::blocks::block_count;
-use graph::store::edges::edge_at;
 use graph::store::edges::edge_count;
+use graph::store::edges::edge_in;
 use image::section::RouteLayout;
 ghost use mathlib.Core.Path.{_≡_};
 ghost use mathlib.Core.Bool.{true, not, _&&_};
@@ -92,7 +91,7 @@ fn ordinary_sources(g: &Words) -> [u64; 16]
     let n = edge_count(g);
     let mut set = [0u64; 16];
     for i in 0..n {
-        let e = edge_at(g, i);
+        let e = edge_in(g, i);
         if is_ordinary(e.kind) {
             put_in(&mut set, e.source as usize);
         }
@@ -102,7 +101,7 @@ fn ordinary_sources(g: &Words) -> [u64; 16]
 
 // Whether block b returns, told which blocks an ordinary edge goes out of.
 fn returning(g: &Words, sources: &[u64; 16], b: usize) -> bool
-    requires { ⌜ Stands (heldIn (now g) .graph) × Sources (heldIn (now g) .graph) (now sources) ⌝ }
+    requires { ⌜ Stands (heldIn (now g) .graph) × Sources (heldIn (now g) .graph) (now sources) × (b < length (heldIn (now g) .graph .blocks)) ⌝ }
     ensures { λ r. ⌜ r ≡ isReturning (heldIn (now (g .entry)) .graph) b ⌝ }
 {
     let flow = last_of(g, b).flow;
@@ -181,9 +180,10 @@ fn take_edge(
     seen: &mut [u64; 16],
     pending: &mut [u64; 16],
 )
+    requires { ⌜ i < length (heldIn (now g) .graph .edges) ⌝ }
     ensures { λ _. ⌜ Takes (now (barriers .entry)) (edge (heldIn (now (g .entry)) .graph) i) (now (seen .entry)) (now (pending .entry)) (now (seen .exit)) (now (pending .exit)) ⌝ }
 {
-    let e = edge_at(g, i);
+    let e = edge_in(g, i);
     if !is_ordinary(e.kind) {
         return;
     }

@@ -32,6 +32,7 @@ ghost use mathlib.Core.List.{List, [], _∷_, map};
 ghost use Prim.Native.Nat.{ℕ, _+_, _*_, _≤_, _<_};
 ghost use lib.ListN.{length, getD};
 ghost use Rattle.image.specs.Image.{RouteImage, routesIn};
+ghost use Rattle.graph.specs.Graph.{block};
 ghost use Rattle.graph.specs.Words.{heldIn};
 ghost use Rattle.graph.specs.Fold.{flat};
 ghost use Rattle.graph.specs.Adding.{Added};
@@ -40,7 +41,7 @@ ghost use Rattle.addition.specs.Ways.{hopsOf, routeEdge, routeEdges};
 ghost use Rattle.unwind.specs.Gather.{edgeExits, endNumber, endExits};
 ghost use Rattle.unwind.specs.HopWords.{hopsIn};
 ghost use Rattle.unwind.specs.Wanted.{wayOf, recordWays, guardWays, returnWays, lentWays, RunsFit};
-ghost use Rattle.unwind.specs.Flags.{leapTo, wayTo, HopsRise, HopStands, SomeStand, EdgesWanted, AllWanted, placeOf, setWays};
+ghost use Rattle.unwind.specs.Flags.{leapTo, wayTo, HopsRise, HopStands, HopsJoin, SomeStand, EdgesWanted, AllWanted, placeOf, setWays};
 
 const ROUTE: u64 = 10;
 
@@ -62,7 +63,7 @@ pub fn add_route_edges(
     returns: &[u64],
     stored: Counts,
 )
-    requires { ⌜ RunsFit (heldIn (now g) .graph) × (16 * length (routesIn (now s) y .routes) ≤ length (now guards)) × (16 * stored .nodes ≤ length (now parts)) × (16 * stored .nodes ≤ length (now returns)) × ((i : ℕ) → i < stored .nodes → getD (now bases) i 0 ≤ 1024) × (hopsIn (routesIn (now s) y) (now h) ≡ hopsOf (lentWays (routesIn (now s) y) (now nodes) (now edges) (now ends) (now heads) (now landings) (now roots) (now guards) (now bases) (now parts) (now returns) (length (routesIn (now s) y .routes)) (stored .nodes))) ⌝ }
+    requires { ⌜ HopsJoin (now h) (heldIn (now g) .graph) × (16 * length (routesIn (now s) y .routes) ≤ length (now guards)) × (16 * stored .nodes ≤ length (now parts)) × (16 * stored .nodes ≤ length (now returns)) × ((i : ℕ) → i < stored .nodes → getD (now bases) i 0 ≤ 1024) × (hopsIn (routesIn (now s) y) (now h) ≡ hopsOf (lentWays (routesIn (now s) y) (now nodes) (now edges) (now ends) (now heads) (now landings) (now roots) (now guards) (now bases) (now parts) (now returns) (length (routesIn (now s) y .routes)) (stored .nodes))) ⌝ }
     ensures { λ _. ⌜ Added (now (g .entry)) (now (g .exit)) (routeEdges (heldIn (now (g .entry)) .graph) [] (lentWays (routesIn (now (s .entry)) y) (now (nodes .entry)) (now (edges .entry)) (now (ends .entry)) (now (heads .entry)) (now (landings .entry)) (now (roots .entry)) (now (guards .entry)) (now (bases .entry)) (now (parts .entry)) (now (returns .entry)) (length (routesIn (now (s .entry)) y .routes)) (stored .nodes))) [] [] ⌝ }
 {
     let mut done = [0u64; 33];
@@ -107,7 +108,7 @@ fn want_guarded(
     n: usize,
     done: &mut Flags,
 )
-    requires { ⌜ SomeStand (now h) (λ m ends. flat (guardWays m (now nodes) (now edges) ends (now heads) (now landings) (now roots) (now guards)) n) × RunsFit (heldIn (now g) .graph) × (16 * n ≤ length (now guards)) ⌝ }
+    requires { ⌜ SomeStand (now h) (λ m ends. flat (guardWays m (now nodes) (now edges) ends (now heads) (now landings) (now roots) (now guards)) n) × HopsJoin (now h) (heldIn (now g) .graph) × (16 * n ≤ length (now guards)) ⌝ }
     ensures { λ _. ⌜ AllWanted (now (h .entry)) (now (g .entry)) (now (done .entry)) (λ m ends. flat (guardWays m (now (nodes .entry)) (now (edges .entry)) ends (now (heads .entry)) (now (landings .entry)) (now (roots .entry)) (now (guards .entry))) n) (now (g .exit)) (now (done .exit)) ⌝ }
 {
     for r in 0..n {
@@ -144,7 +145,7 @@ fn want_returned(
     n: usize,
     done: &mut Flags,
 )
-    requires { ⌜ SomeStand (now h) (λ m ends. flat (returnWays m (now nodes) (now edges) ends (now heads) (now landings) (now bases) (now parts) (now returns)) n) × RunsFit (heldIn (now g) .graph) × (16 * n ≤ length (now parts)) × (16 * n ≤ length (now returns)) × ((i : ℕ) → i < n → getD (now bases) i 0 ≤ 1024) ⌝ }
+    requires { ⌜ SomeStand (now h) (λ m ends. flat (returnWays m (now nodes) (now edges) ends (now heads) (now landings) (now bases) (now parts) (now returns)) n) × HopsJoin (now h) (heldIn (now g) .graph) × (16 * n ≤ length (now parts)) × (16 * n ≤ length (now returns)) × ((i : ℕ) → i < n → getD (now bases) i 0 ≤ 1024) ⌝ }
     ensures { λ _. ⌜ AllWanted (now (h .entry)) (now (g .entry)) (now (done .entry)) (λ m ends. flat (returnWays m (now (nodes .entry)) (now (edges .entry)) ends (now (heads .entry)) (now (landings .entry)) (now (bases .entry)) (now (parts .entry)) (now (returns .entry))) n) (now (g .exit)) (now (done .exit)) ⌝ }
 {
     for i in 0..n {
@@ -184,7 +185,7 @@ fn want_set(
     set: &[u64; 16],
     done: &mut Flags,
 )
-    requires { ⌜ SomeStand (now h) (λ m ends. setWays m (now nodes) (now edges) ends (now heads) (now landings) i r base (now part) (now set)) × RunsFit (heldIn (now g) .graph) × (base ≤ 1024) ⌝ }
+    requires { ⌜ SomeStand (now h) (λ m ends. setWays m (now nodes) (now edges) ends (now heads) (now landings) i r base (now part) (now set)) × HopsJoin (now h) (heldIn (now g) .graph) × (base ≤ 1024) ⌝ }
     ensures { λ _. ⌜ AllWanted (now (h .entry)) (now (g .entry)) (now (done .entry)) (λ m ends. setWays m (now (nodes .entry)) (now (edges .entry)) ends (now (heads .entry)) (now (landings .entry)) i r base (now (part .entry)) (now (set .entry))) (now (g .exit)) (now (done .exit)) ⌝ }
 {
     sixteen(set);
@@ -224,7 +225,7 @@ fn want_from(
     b: usize,
     done: &mut Flags,
 )
-    requires { ⌜ SomeStand (now h) (λ m ends. recordWays m (now nodes) (now edges) ends (now heads) (now landings) r b (recordIn (now nodes) i)) × RunsFit (heldIn (now g) .graph) × (b < 65536) ⌝ }
+    requires { ⌜ SomeStand (now h) (λ m ends. recordWays m (now nodes) (now edges) ends (now heads) (now landings) r b (recordIn (now nodes) i)) × HopsJoin (now h) (heldIn (now g) .graph) × (b < 65536) ⌝ }
     ensures { λ _. ⌜ AllWanted (now (h .entry)) (now (g .entry)) (now (done .entry)) (λ m ends. recordWays m (now (nodes .entry)) (now (edges .entry)) ends (now (heads .entry)) (now (landings .entry)) r b (recordIn (now (nodes .entry)) i)) (now (g .exit)) (now (done .exit)) ⌝ }
 {
     let node = node_at(nodes, i);
@@ -244,7 +245,7 @@ fn want_edges(
     b: usize,
     done: &mut Flags,
 )
-    requires { ⌜ HopsRise (now h) × ((j : ℕ) → j < count → HopStands (now h) (leapTo b (getD (now heads) (branchIn (now edges) (first + j) .what) 0))) × RunsFit (heldIn (now g) .graph) × (first < 65536) × (count < 65536) ⌝ }
+    requires { ⌜ HopsRise (now h) × ((j : ℕ) → j < count → HopStands (now h) (leapTo b (getD (now heads) (branchIn (now edges) (first + j) .what) 0))) × HopsJoin (now h) (heldIn (now g) .graph) × (first < 65536) × (count < 65536) ⌝ }
     ensures { λ _. ⌜ ((m : RouteImage) → EdgesWanted (now (h .entry)) (now (g .entry)) (now (done .entry)) (map (wayOf r) (edgeExits m b (now (edges .entry)) (now (heads .entry)) first count)) (now (g .exit)) (now (done .exit))) ⌝ }
 {
     for k in 0..count {
@@ -265,7 +266,7 @@ fn want_ends(
     b: usize,
     done: &mut Flags,
 )
-    requires { ⌜ HopsRise (now h) × ((j : ℕ) → j < count → HopStands (now h) (leapTo b (endNumber b (now landings) (first + j)))) × RunsFit (heldIn (now g) .graph) × (first < 65536) × (count < 65536) × (b < 65536) ⌝ }
+    requires { ⌜ HopsRise (now h) × ((j : ℕ) → j < count → HopStands (now h) (leapTo b (endNumber b (now landings) (first + j)))) × HopsJoin (now h) (heldIn (now g) .graph) × (first < 65536) × (count < 65536) × (b < 65536) ⌝ }
     ensures { λ _. ⌜ AllWanted (now (h .entry)) (now (g .entry)) (now (done .entry)) (λ m ends. map (wayOf r) (endExits m b ends (now (landings .entry)) first count)) (now (g .exit)) (now (done .exit)) ⌝ }
 {
     for k in 0..count {
@@ -276,7 +277,7 @@ fn want_ends(
 
 // Route r wants an edge from block b to the end of number t: it is added unless it was wanted before, and none leaves.
 fn want(g: &mut Words, h: &Hops, r: usize, b: usize, t: usize, done: &mut Flags)
-    requires { ⌜ HopsRise (now h) × HopStands (now h) (leapTo b t) × RunsFit (heldIn (now g) .graph) ⌝ }
+    requires { ⌜ HopsRise (now h) × HopStands (now h) (leapTo b t) × HopsJoin (now h) (heldIn (now g) .graph) ⌝ }
     ensures { λ _. ⌜ ((calls : List ℕ) → EdgesWanted (now (h .entry)) (now (g .entry)) (now (done .entry)) (wayTo r b t calls ∷ []) (now (g .exit)) (now (done .exit))) ⌝ }
 {
     if t == LEAVE {
@@ -293,7 +294,7 @@ fn want(g: &mut Words, h: &Hops, r: usize, b: usize, t: usize, done: &mut Flags)
 
 // The edge from block b to block t, for route r.
 fn route_edge(g: &Words, r: usize, b: usize, t: usize) -> Edge
-    requires { ⌜ RunsFit (heldIn (now g) .graph) ⌝ }
+    requires { ⌜ RunsFit (heldIn (now g) .graph) × (b < length (heldIn (now g) .graph .blocks)) × (t < length (heldIn (now g) .graph .blocks)) × (block (heldIn (now g) .graph) t .first < length (heldIn (now g) .graph .table)) ⌝ }
     ensures { λ e. ⌜ e ≡ routeEdge (heldIn (now (g .entry)) .graph) r b t ⌝ }
 {
     Edge {

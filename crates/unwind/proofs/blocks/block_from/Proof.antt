@@ -33,7 +33,7 @@ loop-again c =
     let g = heldIn (start .args .g .now) .graph in
     let top = c .before .before .before .before .loop in
     let mid = top .lo + (top .hi - top .lo) / 2 in
-    let here = ap (λ (x : Block). x .first) (c .before .before .block-at .ensures) in
+    let here = ap (λ (x : Block). x .first) (c .before .before .block-in .ensures) in
     cut-right (λ (k : ℕ). block g k .first) (start .args .built) (start .args .p) (block-rises g (start .pre .0) (start .args .built) (start .pre .1)) (top .lo) (top .hi) mid (top .inv) (omega arith) (omega arith) (rw here at (c .if1 .taken))
 
 loop-again-2 : tie.Need-loop-again-2 Inv-loop μ-loop
@@ -42,7 +42,7 @@ loop-again-2 c =
     let g = heldIn (start .args .g .now) .graph in
     let top = c .before .before .before .before .loop in
     let mid = top .lo + (top .hi - top .lo) / 2 in
-    let here = ap (λ (x : Block). x .first) (c .before .before .block-at .ensures) in
+    let here = ap (λ (x : Block). x .first) (c .before .before .block-in .ensures) in
     cut-left (λ (k : ℕ). block g k .first) (start .args .built) (start .args .p) (block-rises g (start .pre .0) (start .args .built) (start .pre .1)) (top .lo) (top .hi) mid (top .inv) (omega arith) (omega arith) (rw here at (c .if1 .left))
 
 returns : tie.Need-returns Inv-loop μ-loop

@@ -15,13 +15,13 @@ returns c =
     let t = heldIn (c .before .before .before .before .before .before .args .g .now) .graph .table in
     let p = c .before .before .before .before .before .position .result in
     let inside = rw (c .before .before .before .before .table-count .ensures) at (c .before .before .before .if1 .taken) in
-    let here = ap (λ (x : TableEntry). x .address) (sym (c .before .before .table-at .ensures)) ∙ c .if2 .taken in
+    let here = ap (λ (x : TableEntry). x .address) (sym (c .before .before .table-in .ensures)) ∙ c .if2 .taken in
     (start-at t (c .before .before .before .before .before .before .args .a) p inside here, sym (c .before .before .before .before .before .position .ensures), inside)
 
 returns-2 : tie.Need-returns-2
 returns-2 c =
     let g = heldIn (c .before .before .before .before .before .before .args .g .now) .graph in
-    let here = ap (λ (x : TableEntry). x .address) (c .before .before .table-at .ensures) in
+    let here = ap (λ (x : TableEntry). x .address) (c .before .before .table-in .ensures) in
     start-nowhere g (c .before .before .before .before .before .before .pre) (c .before .before .before .before .before .before .args .a) (λ h e. c .if2 .left (here ∙ ap (λ (k : _). entryAt (g .table) k .address) (c .before .before .before .before .before .position .ensures) ∙ e))
 
 returns-3 : tie.Need-returns-3

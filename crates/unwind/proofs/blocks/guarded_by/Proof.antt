@@ -7,6 +7,7 @@ use borrow.Author.Needs.{needs}
 use Rattle.graph.specs.declared.record.TableEntry.{TableEntry}
 use Rattle.graph.specs.Words.{heldIn}
 use Rattle.graph.proofs.RecordLaws.{block-most}
+use Rattle.graph.proofs.TableLaws.{below-most}
 use Rattle.unwind.proofs.GuardLaws.{Guarding, guarding-none, guarding-put, guarding-skip, guards-are}
 use Rattle.unwind.proofs.blocks.guarded_by.Statement.{statement}
 use Rattle.unwind.proofs.blocks.guarded_by.Tie as tie
@@ -19,6 +20,16 @@ abbrev μ-loop : tie.MeasureT-loop
 
 loop-holds : tie.Need-loop-holds Inv-loop μ-loop
 loop-holds c = (omega arith, inl refl, guarding-none (heldIn (c .before .before .before .before .args .g .now) .graph) (c .before .before .block-from .result))
+
+-- a block that begins before the position of `end` has its first instruction in the table
+first-of-requires : tie.Need-first-of-requires Inv-loop μ-loop
+first-of-requires c κs =
+    let start = c .before .before .before .before .before .before in
+    let past = c .before .before .block-from2 .ensures in
+    let at = c .before .before .before .position2 .ensures in (
+      omega (arith, past .most, start .pre .1 .0, c .loop-test .taken),
+      omega (arith, past .before (c .before .loop .b) (c .loop-test .taken), at, below-most (heldIn (start .args .g .now) .graph .table) (start .args .end)),
+    )
 
 add-b : tie.Need-add-b Inv-loop μ-loop
 add-b c = omega (arith, c .before .before .before .before .before .block-from2 .ensures .most, c .before .before .before .before .before .before .before .before .before .pre .1 .0, block-most (c .before .before .before .before .before .before .before .before .before .args .g .now))
@@ -60,7 +71,7 @@ guarded-by-spec =
     (λ c κs. search needs)
     (λ c κs. search needs)
     loop-holds
-    (λ c κs. search needs)
+    first-of-requires
     (λ c κs. search needs)
     add-b
     (λ c. search needs)

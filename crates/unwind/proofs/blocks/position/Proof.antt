@@ -27,7 +27,7 @@ loop-again c =
     let g = heldIn (start .args .g .now) .graph in
     let top = c .before .before .before .before .loop in
     let mid = top .lo + (top .hi - top .lo) / 2 in
-    let here = ap (λ (x : TableEntry). x .address) (c .before .before .table-at .ensures) in
+    let here = ap (λ (x : TableEntry). x .address) (c .before .before .table-in .ensures) in
     cut-right (λ (k : ℕ). entryAt (g .table) k .address) _ (start .args .a) (table-rises g (start .pre)) (top .lo) (top .hi) mid (top .inv) (omega arith) (omega arith) (rw here at (c .if1 .taken))
 
 loop-again-2 : tie.Need-loop-again-2 Inv-loop μ-loop
@@ -36,7 +36,7 @@ loop-again-2 c =
     let g = heldIn (start .args .g .now) .graph in
     let top = c .before .before .before .before .loop in
     let mid = top .lo + (top .hi - top .lo) / 2 in
-    let here = ap (λ (x : TableEntry). x .address) (c .before .before .table-at .ensures) in
+    let here = ap (λ (x : TableEntry). x .address) (c .before .before .table-in .ensures) in
     cut-left (λ (k : ℕ). entryAt (g .table) k .address) _ (start .args .a) (table-rises g (start .pre)) (top .lo) (top .hi) mid (top .inv) (omega arith) (omega arith) (rw here at (c .if1 .left))
 
 returns : tie.Need-returns Inv-loop μ-loop

@@ -16,7 +16,7 @@ returns-2 : tie.Need-returns-2
 returns-2 c =
     let start = c .before .before .before .before .before .before .before .before .before in
     let found = rw (c .before .before .before .before .before .before .p .given .1) at (c .before .before .before .before .before .before .before .before .find-start .ensures) in
-    let here = ap (λ (x : Block). x .first) (sym (c .before .before .block-at .ensures)) ∙ c .if2 .taken in
+    let here = ap (λ (x : Block). x .first) (sym (c .before .before .block-in .ensures)) ∙ c .if2 .taken in
     sym (leads-here (heldIn (start .args .g .now) .graph) (start .pre .0) (start .args .built) (start .pre .1) (start .args .a) _ (found .0) (found .1) (c .before .before .before .before .block-from .result) (c .before .before .before .if1 .taken) here)
 
 returns-3 : tie.Need-returns-3
@@ -24,7 +24,7 @@ returns-3 c =
     let start = c .before .before .before .before .before .before .before .before .before in
     let g = heldIn (start .args .g .now) .graph in
     let found = rw (c .before .before .before .before .before .before .p .given .1) at (c .before .before .before .before .before .before .before .before .find-start .ensures) in
-    let here = ap (λ (x : Block). x .first) (c .before .before .block-at .ensures) in
+    let here = ap (λ (x : Block). x .first) (c .before .before .block-in .ensures) in
     sym (leads-none g (start .pre .0) (start .args .built) (start .pre .1) (start .args .a) _ (found .0) (found .1)
     (none-begins g (start .pre .0) (start .args .built) (start .pre .1) _ (c .before .before .before .before .block-from .result) (c .before .before .before .before .block-from .ensures) (λ h e. c .if2 .left (here ∙ e))))
 

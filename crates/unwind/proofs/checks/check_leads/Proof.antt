@@ -16,12 +16,11 @@ use Rattle.graph.specs.declared.record.TableEntry.{TableEntry}
 use Rattle.graph.specs.Graph.{block}
 use Rattle.graph.specs.Words.{heldIn}
 use Rattle.graph.proofs.CheckLaws.{checks-clear}
-use Rattle.graph.proofs.RecordLaws.{block-most}
+use Rattle.graph.proofs.RecordLaws.{block-most, entry-most}
 use Rattle.graph.proofs.TableLaws.{below-most}
 use Rattle.unwind.specs.Stands.{Before, routeOf}
 use Rattle.addition.specs.Add.{rangeLeads}
 use Rattle.addition.proofs.Lists.{and-both, and-true}
-use Rattle.unwind.proofs.Standing.{table-most}
 use Rattle.unwind.proofs.RouteChecks.{lead-before, lead-yes, lead-no, lead-all, begins-yes, begins-no, before-next}
 use Rattle.unwind.proofs.checks.check_leads.Statement.{statement}
 use Rattle.unwind.proofs.checks.check_leads.Tie as tie
@@ -49,6 +48,9 @@ loop-holds c =
 inside : (c : tie.In-loop Inv-loop μ-loop) → c .before .loop .p < length (heldIn (c .before .before .before .before .before .args .g .now) .graph .table)
 inside c = let a = c .before .before .before .before .before .args in omega (arith, c .before .before .before .position2 .ensures, below-most (heldIn (a .g .now) .graph .table) (a .end), c .loop-test .taken)
 
+table-in-requires : tie.Need-table-in-requires Inv-loop μ-loop
+table-in-requires c κs = inside (c .before .before)
+
 returns : tie.Need-returns Inv-loop μ-loop
 returns c =
     let start = c .before .before .before .before .before .before .before .before in
@@ -58,7 +60,7 @@ returns c =
     let h = inside (c .before .before .before) in
     let out = sym (c .before .before .begins-at .ensures) ∙ not-true _ (c .before .if1 .taken) in
     let none = begins-no g (start .pre .0) (a .built) (start .pre .1) (top .p) (top .b) (top .inv .1) h (λ lt e. true≢false (sym (and-true (lt-ltb (top .b) (a .built) lt) (eq-eqb _ (top .p) e)) ∙ out)) in
-    let read = ap (λ (x : TableEntry). x .address) (c .table-at .ensures) in
+    let read = ap (λ (x : TableEntry). x .address) (c .table-in .ensures) in
     λ ps. sym (checks-stop (rangeLeads g (routeOf (a .start) (a .end) ps)) (top .p) (length (g .table)) _ h (top .inv .2 ps)
     (rw read (lead-no g (start .pre .0) (routeOf (a .start) (a .end) ps) (top .p) h (omega (arith, c .before .before .before .before .before .before .before .position .ensures, top .inv .0)) (omega (arith, c .before .before .before .before .before .before .position2 .ensures, c .before .before .before .loop-test .taken)) none)))
 
@@ -66,7 +68,7 @@ add-b : tie.Need-add-b Inv-loop μ-loop
 add-b c = omega (arith, c .before .before .before .loop .inv .1 .most, c .before .before .before .before .before .before .before .pre .1 .0, block-most (c .before .before .before .before .before .before .before .args .g .now))
 
 add-p : tie.Need-add-p Inv-loop μ-loop
-add-p c = omega (arith, inside (c .before .before), table-most (c .before .before .before .before .before .before .before .args .g .now))
+add-p c = omega (arith, inside (c .before .before), entry-most (c .before .before .before .before .before .before .before .args .g .now))
 
 loop-again : tie.Need-loop-again Inv-loop μ-loop
 loop-again c =
@@ -103,7 +105,7 @@ check-leads-spec =
     (λ c κs. search needs)
     loop-holds
     (λ c κs. search needs)
-    (λ c κs. search needs)
+    table-in-requires
     returns
     add-b
     add-p

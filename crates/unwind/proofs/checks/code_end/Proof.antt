@@ -10,7 +10,7 @@ use Rattle.graph.specs.declared.record.TableEntry.{TableEntry}
 use Rattle.graph.specs.Words.{heldIn}
 use Rattle.graph.specs.Table.{codeEnd}
 use Rattle.graph.proofs.RangeLaws.{code-end-more}
-use Rattle.unwind.proofs.Standing.{table-most}
+use Rattle.graph.proofs.RecordLaws.{entry-most}
 use Rattle.unwind.proofs.checks.code_end.Statement.{statement}
 use Rattle.unwind.proofs.checks.code_end.Tie as tie
 
@@ -25,14 +25,14 @@ unfolding codeEnd
 loop-holds c = (omega arith, refl)
 
 add-i : tie.Need-add-i Inv-loop μ-loop
-add-i c = omega (arith, c .before .before .before .before .table-count .ensures, table-most (c .before .before .before .before .before .args .g .now))
+add-i c = omega (arith, c .before .before .before .before .table-count .ensures, entry-most (c .before .before .before .before .before .args .g .now))
 
 loop-again : tie.Need-loop-again Inv-loop μ-loop
 loop-again c =
     let t = heldIn (c .before .before .before .before .before .args .g .now) .graph .table in
     let top = c .before .before .before .loop in
     let inside : top .i < length t = omega (arith, c .before .before .before .before .table-count .ensures) in
-    let here = ap (λ (x : TableEntry). x .end) (c .before .table-at .ensures) in
+    let here = ap (λ (x : TableEntry). x .end) (c .before .table-in .ensures) in
     let more = code-end-more t (top .i) inside in
     (omega arith, ⊎-elim (λ w. omega (arith, more, here, top .inv .1)) (λ w. omega (arith, more, here, top .inv .1)) (c .if1 .came))
 

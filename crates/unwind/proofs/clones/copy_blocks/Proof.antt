@@ -3,7 +3,7 @@ use native.Mathlib.Omega.{arith}
 use borrow.Author.Needs.{needs}
 use Rattle.graph.specs.BlockSet.{sizeOf}
 use Rattle.graph.proofs.BlockLaws.{size-excluding}
-use Rattle.unwind.proofs.StoodLaws.{BlocksGoing, blocks-start, blocks-next, blocks-end}
+use Rattle.unwind.proofs.StoodLaws.{blocks-grow, BlocksGoing, blocks-start, blocks-next, blocks-end}
 use Rattle.unwind.proofs.clones.copy_blocks.Statement.{statement}
 use Rattle.unwind.proofs.clones.copy_blocks.Tie as tie
 
@@ -22,6 +22,12 @@ returns c =
     let top = c .before .before .before .before .loop in
     blocks-end (a .g .now) (top .g) (a .set .now) (top .left) (top .inv) (rw (c .enum-told .given .1) at (c .before .before .lowest-in .ensures))
 
+block-in-requires : tie.Need-block-in-requires Inv-loop μ-loop
+block-in-requires c κs =
+    let inv = c .before .before .before .before .before .before .before .before .loop .inv in
+    let low = rw (c .before .before .before .before .b .given .1) at (c .before .before .before .before .before .before .lowest-in .ensures) in
+    omega (arith, inv .inside _ (low .1), blocks-grow (inv .done) (inv .stored))
+
 loop-less : tie.Need-loop-less Inv-loop μ-loop
 loop-less c =
     let top = c .before .before .before .before .before .before .before .before .before .before .before .loop in
@@ -33,7 +39,7 @@ loop-again c =
     let a = c .before .before .before .before .before .before .before .before .before .before .before .before .before .before .args in
     let top = c .before .before .before .before .before .before .before .before .before .before .before .loop in
     let low = rw (c .before .before .before .before .before .before .before .b .given .1) at (c .before .before .before .before .before .before .before .before .before .lowest-in .ensures) in
-    rw (c .before .before .before .before .take-from .ensures) (blocks-next (a .g .now) (top .g) (a .set .now) (top .left) (top .inv) _ (low .0) (low .1) (low .2) _ _ (c .before .before .block-at .ensures) (c .add-block .ensures))
+    rw (c .before .before .before .before .take-from .ensures) (blocks-next (a .g .now) (top .g) (a .set .now) (top .left) (top .inv) _ (low .0) (low .1) (low .2) _ _ (c .before .before .block-in .ensures) (c .add-block .ensures))
 
 pub copy-blocks-spec : {M : Type 1} → statement M
 copy-blocks-spec =
@@ -48,7 +54,7 @@ copy-blocks-spec =
     (λ c. search needs)
     returns
     (λ c κs. search needs)
-    (λ c κs. search needs)
+    block-in-requires
     (λ c κs. search needs)
     loop-less
     loop-again)

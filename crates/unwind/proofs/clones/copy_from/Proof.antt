@@ -6,7 +6,7 @@ use lib.ListN.{length}
 use Rattle.graph.specs.Words.{heldIn}
 use Rattle.unwind.specs.Clones.{firstEdges}
 use Rattle.unwind.proofs.ChainLaws.{chain}
-use Rattle.unwind.proofs.StoodLaws.{EdgesGoing, edges-start, edges-next, edges-end, chain-less}
+use Rattle.unwind.proofs.StoodLaws.{EdgesGoing, edges-start, edge-here, edges-next, edges-end, chain-less}
 use Rattle.unwind.proofs.clones.copy_from.Statement.{statement}
 use Rattle.unwind.proofs.clones.copy_from.Tie as tie
 
@@ -23,6 +23,14 @@ loop-holds c =
 
 sub-e : tie.Need-sub-e Inv-loop μ-loop
 sub-e c = let ne = c .loop-test .taken in omega arith
+
+edge-in-requires : tie.Need-edge-in-requires Inv-loop μ-loop
+edge-in-requires c κs =
+    let start = c .before .before .before .before .before .before in
+    let a = start .args in
+    let top = c .before .before .loop in
+    let ne = c .before .loop-test .taken in
+    edge-here (a .m) (a .base) (a .set .now) (a .b) (a .g .now) (a .head .now) (a .next .now) (start .pre .0) (top .g) (top .at) (top .inv) (top .at - 1) (omega arith)
 
 copy-of-requires : tie.Need-copy-of-requires Inv-loop μ-loop
 copy-of-requires c κs = c .before .before .before .before .before .before .before .pre .1
@@ -41,7 +49,7 @@ loop-again c =
     let top = c .before .before .before .before .before .before .before .loop in
     let ne = c .before .before .before .before .before .before .loop-test .taken in
     edges-next (a .m) (a .base) (a .set .now) (a .b) (a .g .now) (a .head .now) (a .next .now) (c .before .before .before .before .before .before .before .before .before .before .before .pre .0) (top .g) (top .at) (top .inv) (top .at - 1) _ (omega arith) (c .number-at2 .ensures .0)
-    _ _ _ (c .before .before .before .before .edge-at .ensures) (c .before .before .before .copy-of .ensures) (c .before .add-edge .ensures)
+    _ _ _ (c .before .before .before .before .edge-in .ensures) (c .before .before .before .copy-of .ensures) (c .before .add-edge .ensures)
 
 returns : tie.Need-returns Inv-loop μ-loop
 returns c =
@@ -58,7 +66,7 @@ copy-from-spec =
     (λ c κs. search needs)
     loop-holds
     sub-e
-    (λ c κs. search needs)
+    edge-in-requires
     copy-of-requires
     (λ c κs. search needs)
     (λ c κs. search needs)

@@ -2,7 +2,6 @@
 use mathlib.Core.Path.{_≡_}
 use Prim.Native.Nat.{ℕ, _-_, _<_}
 use native.Mathlib.Omega.{arith}
-use borrow.Author.Needs.{needs}
 use lib.ListN.{length}
 use Rattle.graph.specs.Words.{heldIn}
 use Rattle.graph.proofs.RecordLaws.{block-most, edge-most}
@@ -42,6 +41,9 @@ loop-holds c =
 
 sub-e : tie.Need-sub-e Inv-loop μ-loop
 sub-e c = let ne = c .loop-test .taken in omega arith
+
+take-edge-requires : tie.Need-take-edge-requires Inv-loop μ-loop
+take-edge-requires c κs = edge-lt (c .before .before)
 
 mul-at-2 : tie.Need-mul-at-2 Inv-loop μ-loop
 mul-at-2 c = let turn = c .before .before .before in omega (arith, edge-lt turn, edge-most (c .before .before .before .before .before .before .before .before .args .g .now))
@@ -87,4 +89,4 @@ returns c =
     λ e. rw (← length-bent g (a .barriers .now) e) (going-end (bounded g (a .barriers .now) e) (a .b) (a .seen .now) (a .pending .now) (end .seen) (end .pending) (rw over at (end .inv e)))
 
 pub follow-spec : {M : Type 1} → statement M
-follow-spec = tie.close (tie.spec Inv-loop μ-loop mul-at shared-slice-read-at cast-at loop-holds sub-e (λ c κs. search needs) mul-at-2 shared-slice-read-at-2 cast-at-2 loop-less loop-again returns)
+follow-spec = tie.close (tie.spec Inv-loop μ-loop mul-at shared-slice-read-at cast-at loop-holds sub-e take-edge-requires mul-at-2 shared-slice-read-at-2 cast-at-2 loop-less loop-again returns)

@@ -14,7 +14,7 @@ use Rattle.unwind.proofs.part.returning.Statement.{statement}
 use Rattle.unwind.proofs.part.returning.Tie as tie
 
 last-of-requires : tie.Need-last-of-requires
-last-of-requires c κs = record { fits = run-fits (heldIn (c .args .g .now) .graph) (c .pre .0) }
+last-of-requires c κs = (record { fits = run-fits (heldIn (c .args .g .now) .graph) (c .pre .0) }, c .pre .2)
 
 returns : tie.Need-returns
 unfolding returning

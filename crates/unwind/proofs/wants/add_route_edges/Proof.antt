@@ -4,7 +4,7 @@ use borrow.Author.Needs.{needs}
 use Rattle.image.specs.Record.{routeFrom}
 use Rattle.image.specs.Image.{routesIn}
 use Rattle.image.proofs.Tables.{length-records}
-use Rattle.unwind.proofs.WantLaws.{runs-fit, lent-stand, lent-wants}
+use Rattle.unwind.proofs.WantLaws.{hops-join, lent-stand, lent-wants}
 use Rattle.unwind.proofs.wants.add_route_edges.Statement.{statement}
 use Rattle.unwind.proofs.wants.add_route_edges.Tie as tie
 
@@ -26,7 +26,7 @@ want-returned-requires c κs =
     let m = routesIn (a .s .now) (a .y) in
     let count = length-records routeFrom (a .s .now) (a .y .routes) in (
       (m, a .ends .now, lent-stand m (a .nodes .now) (a .edges .now) (a .ends .now) (a .heads .now) (a .landings .now) (a .roots .now) (a .guards .now) (a .bases .now) (a .parts .now) (a .returns .now) (a .y .routes .count) (a .stored .nodes) (a .h .now) (rw count at (start .pre .5)) .1),
-      runs-fit (c .before .before .want-guarded .ensures m (a .ends .now) .runs) (start .pre .0),
+      hops-join (c .before .before .want-guarded .ensures m (a .ends .now) .runs) (start .pre .0),
       start .pre .2,
       start .pre .3,
       start .pre .4,

@@ -25,7 +25,12 @@ returns-2 c =
     want-again (a .h .now) (a .g .now) (a .done .now) (a .r) (a .b) (a .t) (c .before .before .before .before .before .before .if1 .left) _ (start .pre .0) (c .before .before .before .find-hop .ensures .0) _ (marks .1) (sym (marks .0) ∙ c .if2 .taken)
 
 route-edge-requires : tie.Need-route-edge-requires
-route-edge-requires c κs = c .before .before .before .before .before .before .before .before .pre .2
+route-edge-requires c κs =
+    let start = c .before .before .before .before .before .before .before .before in
+    let a = start .args in
+    let ne = c .before .before .before .before .before .before .before .if1 .left in
+    let j = start .pre .2 .joins (a .b) (a .t) (pair-stands (a .h .now) (a .b) (a .t) ne (start .pre .1)) in
+    (start .pre .2 .runs, j .0, j .1, j .2)
 
 returns-3 : tie.Need-returns-3
 returns-3 c =

@@ -10,15 +10,15 @@ use Rattle.graph.specs.Words.{heldIn}
 use Rattle.unwind.specs.declared.tries.store.Branch.{Branch}
 use Rattle.unwind.specs.Nodes.{branchIn}
 use Rattle.unwind.specs.Gather.{edgeExits}
-use Rattle.unwind.specs.Wanted.{wayOf, RunsFit}
-use Rattle.unwind.specs.Flags.{leapTo, HopStands, EdgesWanted}
-use Rattle.unwind.proofs.WantLaws.{runs-fit, wants-none, want-next}
+use Rattle.unwind.specs.Wanted.{wayOf}
+use Rattle.unwind.specs.Flags.{leapTo, HopStands, HopsJoin, EdgesWanted}
+use Rattle.unwind.proofs.WantLaws.{hops-join, wants-none, want-next}
 use Rattle.unwind.proofs.wants.want_edges.Statement.{statement}
 use Rattle.unwind.proofs.wants.want_edges.Tie as tie
 
 abbrev Inv-loop : tie.InvT-loop
 Inv-loop g₀ h edges heads first count r b done₀ k₀ g done k =
-    (k ≤ count) × RunsFit (heldIn g .graph) × ((m : RouteImage) → EdgesWanted h g₀ done₀ (map (wayOf r) (edgeExits m b edges heads first k)) g done)
+    (k ≤ count) × HopsJoin h (heldIn g .graph) × ((m : RouteImage) → EdgesWanted h g₀ done₀ (map (wayOf r) (edgeExits m b edges heads first k)) g done)
 
 abbrev μ-loop : tie.MeasureT-loop
 μ-loop g₀ h edges heads first count r b done₀ k₀ g done k = count - k
@@ -42,7 +42,7 @@ loop-again c =
     let there : ℕ → Branch = λ j. branchIn (a .edges .now) (a .first + j) in
     let is = c .before .before .before .number-at .ensures .0 ∙ ap (λ (e : Branch). getD (a .heads .now) (e .what) 0) (c .before .before .before .before .branch-at .ensures .is) in (
       omega (arith, c .before .before .before .before .before .loop-test .taken),
-      runs-fit (c .want .ensures [] .runs) (top .inv .1),
+      hops-join (c .want .ensures [] .runs) (top .inv .1),
       λ m. want-next m (a .r) (a .b) there (λ j. getD (a .heads .now) (there j .what) 0) (top .k) _ is (top .inv .2 m) (c .want .ensures),
     )
 

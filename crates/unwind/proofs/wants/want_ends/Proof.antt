@@ -8,15 +8,15 @@ use Rattle.image.specs.Image.{table}
 use Rattle.graph.specs.Words.{heldIn}
 use Rattle.unwind.specs.Nodes.{branchIn}
 use Rattle.unwind.specs.Gather.{endNumber, endExits}
-use Rattle.unwind.specs.Wanted.{wayOf, RunsFit}
-use Rattle.unwind.specs.Flags.{leapTo, HopStands, AllWanted}
-use Rattle.unwind.proofs.WantLaws.{runs-fit, wants-none, want-next}
+use Rattle.unwind.specs.Wanted.{wayOf}
+use Rattle.unwind.specs.Flags.{leapTo, HopStands, HopsJoin, AllWanted}
+use Rattle.unwind.proofs.WantLaws.{hops-join, wants-none, want-next}
 use Rattle.unwind.proofs.wants.want_ends.Statement.{statement}
 use Rattle.unwind.proofs.wants.want_ends.Tie as tie
 
 abbrev Inv-loop : tie.InvT-loop
 Inv-loop g₀ h landings first count r b done₀ k₀ g done k =
-    (k ≤ count) × RunsFit (heldIn g .graph) × AllWanted h g₀ done₀ (λ m ends. map (wayOf r) (endExits m b ends landings first k)) g done
+    (k ≤ count) × HopsJoin h (heldIn g .graph) × AllWanted h g₀ done₀ (λ m ends. map (wayOf r) (endExits m b ends landings first k)) g done
 
 abbrev μ-loop : tie.MeasureT-loop
 μ-loop g₀ h landings first count r b done₀ k₀ g done k = count - k
@@ -40,7 +40,7 @@ loop-again c =
     let a = c .before .before .before .before .before .before .before .args in
     let top = c .before .before .before .before .before .loop in (
       omega (arith, c .before .before .before .before .loop-test .taken),
-      runs-fit (c .want .ensures [] .runs) (top .inv .1),
+      hops-join (c .want .ensures [] .runs) (top .inv .1),
       λ m ends. want-next m (a .r) (a .b) (λ j. branchIn ends (a .first + j)) (λ j. endNumber (a .b) (a .landings .now) (a .first + j)) (top .k) _ (c .before .before .before .end-number .ensures .0) (top .inv .2 m ends) (c .want .ensures),
     )
 

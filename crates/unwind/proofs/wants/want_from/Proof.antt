@@ -1,6 +1,6 @@
 -- `want_from` meets its contract: by its edges, then by its ends. Assumes nothing.
 use borrow.Author.Needs.{needs}
-use Rattle.unwind.proofs.WantLaws.{runs-fit, edges-stand, ends-stand, record-wants}
+use Rattle.unwind.proofs.WantLaws.{hops-join, edges-stand, ends-stand, record-wants}
 use Rattle.unwind.proofs.wants.want_from.Statement.{statement}
 use Rattle.unwind.proofs.wants.want_from.Tie as tie
 
@@ -25,7 +25,7 @@ want-ends-requires c κs =
     let node = c .before .before .before .before .before .node-at in (
       pre .0 .2 .rises,
       ends-stand m (a .nodes .now) (a .edges .now) ends (a .heads .now) (a .landings .now) (a .r) (a .b) (node .result) _ (node .ensures .is) (pre .0 .2),
-      runs-fit (c .before .before .want-edges .ensures m .runs) (pre .1),
+      hops-join (c .before .before .want-edges .ensures m .runs) (pre .1),
       node .ensures .small .first-end,
       node .ensures .small .ends,
       pre .2,

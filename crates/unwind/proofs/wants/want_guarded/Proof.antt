@@ -6,7 +6,7 @@ use borrow.Author.Needs.{needs}
 use Rattle.graph.specs.Fold.{flat}
 use Rattle.unwind.specs.Wanted.{guardWays}
 use Rattle.unwind.specs.Flags.{WaysStand, AllWanted}
-use Rattle.unwind.proofs.WantLaws.{runs-fit, stand-flat, guard-set, flat-start, flat-next}
+use Rattle.unwind.proofs.WantLaws.{hops-join, stand-flat, guard-set, flat-start, flat-next}
 use Rattle.unwind.proofs.wants.want_guarded.Statement.{statement}
 use Rattle.unwind.proofs.wants.want_guarded.Tie as tie
 
@@ -39,7 +39,7 @@ want-set-requires c κs =
             (guard-set m (a .nodes .now) (a .edges .now) ends (a .heads .now) (a .landings .now) (a .roots .now) (a .guards .now) _ (top .r) _ _ (c .before .before .before .before .before .number-at .ensures .0) (c .before .before .before .before .set-at .ensures))
             (stand-flat (guardWays m (a .nodes .now) (a .edges .now) ends (a .heads .now) (a .landings .now) (a .roots .now) (a .guards .now)) _ (top .r) (c .before .before .before .before .before .before .loop-test .taken) (pre .0 .2)),
       ),
-      runs-fit (top .inv .1 m ends .runs) (pre .1),
+      hops-join (top .inv .1 m ends .runs) (pre .1),
       omega arith,
     )
 

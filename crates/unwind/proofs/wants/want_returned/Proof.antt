@@ -7,7 +7,7 @@ use Rattle.graph.specs.Fold.{flat}
 use Rattle.unwind.specs.declared.tries.store.NodeRecord.{NodeRecord}
 use Rattle.unwind.specs.Wanted.{returnWays}
 use Rattle.unwind.specs.Flags.{WaysStand, AllWanted}
-use Rattle.unwind.proofs.WantLaws.{runs-fit, stand-flat, return-set, flat-start, flat-next}
+use Rattle.unwind.proofs.WantLaws.{hops-join, stand-flat, return-set, flat-start, flat-next}
 use Rattle.unwind.proofs.wants.want_returned.Statement.{statement}
 use Rattle.unwind.proofs.wants.want_returned.Tie as tie
 
@@ -44,7 +44,7 @@ want-set-requires c κs =
             (return-set m (a .nodes .now) (a .edges .now) ends (a .heads .now) (a .landings .now) (a .bases .now) (a .parts .now) (a .returns .now) (top .i) _ _ _ _ (ap (λ (x : NodeRecord). x .route) (c .before .before .before .before .before .before .before .node-at .ensures .is)) base (c .before .before .before .before .before .set-at .ensures) (c .before .before .before .before .set-at2 .ensures))
             (stand-flat (returnWays m (a .nodes .now) (a .edges .now) ends (a .heads .now) (a .landings .now) (a .bases .now) (a .parts .now) (a .returns .now)) _ (top .i) (c .before .before .before .before .before .before .before .before .loop-test .taken) (pre .0 .2)),
       ),
-      runs-fit (top .inv .1 m ends .runs) (pre .1),
+      hops-join (top .inv .1 m ends .runs) (pre .1),
       rw base (pre .4 (top .i) (c .before .before .before .before .before .before .before .before .loop-test .taken)),
     )
 

@@ -6,7 +6,7 @@ use borrow.Author.Needs.{needs}
 use Rattle.image.specs.Image.{RouteImage}
 use Rattle.graph.specs.BlockSet.{sizeOf}
 use Rattle.graph.proofs.BlockLaws.{size-excluding}
-use Rattle.unwind.proofs.WantLaws.{runs-fit, SetWanting, wanting-start, wanting-stands, wanting-next, wanting-end, outOf, set-ways}
+use Rattle.unwind.proofs.WantLaws.{hops-join, SetWanting, wanting-start, wanting-stands, wanting-next, wanting-end, outOf, set-ways}
 use Rattle.unwind.proofs.wants.want_set.Statement.{statement}
 use Rattle.unwind.proofs.wants.want_set.Tie as tie
 
@@ -43,7 +43,7 @@ want-from-requires c κs =
     let low = rw (c .before .before .before .before .before .before .o .given .1) at (c .before .before .before .before .before .before .before .before .lowest-in .ensures) in
     let all = rw (set-ways m (a .nodes .now) (a .edges .now) ends (a .heads .now) (a .landings .now) (a .i) (a .r) (a .base) (a .part .now) (a .set .now)) at (pre .0 .2) in (
       (m, ends, rw (c .before .before .place-of .ensures .0) (wanting-stands (outOf m (a .nodes .now) (a .edges .now) ends (a .heads .now) (a .landings .now) (a .i) (a .r) (a .base) (a .part .now)) inv _ low all)),
-      runs-fit (inv .wants .runs) (pre .1),
+      hops-join (inv .wants .runs) (pre .1),
       c .before .before .place-of .ensures .1,
     )
 

@@ -15,6 +15,12 @@ use borrow.Author.Needs.{needs}
 use Rattle.unwind.proofs.add.run.add_tries.Statement.{statement}
 use Rattle.unwind.proofs.add.run.add_tries.Tie as tie
 
+hint-blocks-requires : tie.Need-hint-blocks-requires
+hint-blocks-requires c κs =
+    let start = c .before .before .before .before .before .before .before .before .before .before .before .before .before .before .before .before .before in
+    let k = start .pre .0 in
+    (stands-of (heldIn (start .args .g .now)) (k .graphed), k .built)
+
 check-nodes-requires : tie.Need-check-nodes-requires
 check-nodes-requires c κs =
     let start = c .before .before .before .before .before .before .before .before .before .before .before .before .before .before .before .before .before .before .before .before .before .before in
@@ -69,7 +75,8 @@ add-instances-requires c κs =
     let k = start .pre .0 in
     let linked = c .before .before .before .before .before .before .before .before .before .before .before .before .before .before .before .before .before .before .before .before .before .before .before .before .before .before .before .before .before .before .before .before .before .before .before .before .before .before .link .ensures in
     let placed = rw (c .before .before .before .before .before .before .before .before .before .before .before .before .enum-told2 .given .1) at (c .before .before .before .before .before .before .before .before .before .before .before .before .before .before .before .before .before .before .before .before .before .before .before .before .place .ensures) in
-    (k, placements (heldIn (a .g .now)) (a .built) m k (a .nodes .now) (a .edges .now) (a .ends .now) (a .roots .now) (a .stored) (start .pre .1) (start .pre .2) (linked .0) (linked .1) placed (c .before .before .before .before .before .before .before .before .before .before .before .before .before .before .before .before .before .before .before .before .before .before .before .before .place .kept .1 .1 .1 .1 .1 .1 .1 .1 .1 .1 .1 .1 .1 .0), search needs)
+    let nodes = sym (rw (c .before .before .before .before .before .before .before .before .before .before .before .before .before .before .before .before .before .before .before .before .before .before .before .before .before .before .before .before .before .before .before .before .before .before .before .before .before .before .before .before .before .before .enum-told .given .1) at (nodes-checked (heldIn (a .g .now)) (a .built) m k (a .nodes .now) (a .edges .now) (a .ends .now) (a .roots .now) (a .stored) (start .pre .1) (checkOf (c .before .before .before .before .before .before .before .before .before .before .before .before .before .before .before .before .before .before .before .before .before .before .before .before .before .before .before .before .before .before .before .before .before .before .before .before .before .before .before .before .before .before .before .before .check-nodes .result)) (c .before .before .before .before .before .before .before .before .before .before .before .before .before .before .before .before .before .before .before .before .before .before .before .before .before .before .before .before .before .before .before .before .before .before .before .before .before .before .before .before .before .before .before .before .check-nodes .ensures))) in
+    (k, placements (heldIn (a .g .now)) (a .built) m k (a .nodes .now) (a .edges .now) (a .ends .now) (a .roots .now) (a .stored) (start .pre .1) (start .pre .2) nodes (linked .0) (linked .1) placed (c .before .before .before .before .before .before .before .before .before .before .before .before .before .before .before .before .before .before .before .before .before .before .before .before .place .kept .1 .1 .1 .1 .1 .1 .1 .1 .1 .1 .1 .1 .1 .0), search needs)
 
 same-length-10 : tie.Need-same-length-10
 same-length-10 c = c .before .before .before .before .before .before .before .before .before .before .before .before .before .before .before .before .before .before .before .before .before .before .before .before .before .before .before .before .before .before .before .before .before .before .before .before .before .before .before .before .before .before .before .before .before .before .before .before .before .before .before .before .before .before .before .before .hint-blocks .kept .1 .1 .0
@@ -93,7 +100,7 @@ pub add-tries-spec : {M : Type 1} → statement M
 add-tries-spec =
     tie.close
     (tie.spec
-    (λ c κs. search needs)
+    hint-blocks-requires
     check-nodes-requires
     (λ c. search needs)
     (λ c. search needs)

@@ -2,7 +2,7 @@
 use borrow.Author.Needs.{needs}
 use Rattle.image.specs.Image.{routesIn}
 use Rattle.graph.specs.Words.{heldIn}
-use Rattle.unwind.proofs.StoreLaws.{all-lent, links-lent, hops-fit, sets-stood, runs-stood, hops-lent, addition-laid, hops-laid}
+use Rattle.unwind.proofs.StoreLaws.{all-lent, links-lent, hops-fit, sets-stood, joins-stood, hops-lent, addition-laid, hops-laid}
 use Rattle.unwind.proofs.add.store.store_addition.Statement.{statement}
 use Rattle.unwind.proofs.add.store.store_addition.Tie as tie
 
@@ -32,7 +32,7 @@ add-route-edges-requires c κs =
     let m = routesIn (start .args .s .now) (start .args .y) in
     let x = start .pre .0 in
     let l = all-lent w m x in (
-      runs-stood w m x (c .before .before .before .before .add-clone-edges .ensures) (start .pre .1) (c .before .before .add-clone-blocks .ensures),
+      joins-stood w m x (c .before .before .before .before .add-clone-edges .ensures) (start .pre .1) (c .before .before .add-clone-blocks .ensures) (c .before .before .before .before .before .before .before .before .add-hops .ensures),
       x .instances .guards-fit,
       x .instances .slots .parts-fit,
       x .instances .slots .returns-fit,
