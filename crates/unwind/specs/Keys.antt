@@ -74,7 +74,7 @@ module _ (m : RouteImage) where
   KeyIn g (At k) = Stands g k
   KeyIn g Nothing = Unit {0}
 
-  -- its steps alone
+  -- of that, only that they stand among all
   abbrev pub KeyWithin : NextKey → Type 0
   KeyWithin (At k) = k .step + k .calls < length (m .steps)
   KeyWithin Nothing = Unit {0}
