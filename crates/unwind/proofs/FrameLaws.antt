@@ -119,14 +119,14 @@ module _ (h : Held) (n : ℕ) (m : RouteImage) (checked : RoutesChecked h n m) (
 
   pub at-hand : {head next bases heads parts returns guards landings exits guards′ landings′ : List ℕ}
       → Placements g m nodes edges ends roots head next bases heads parts returns guards landings exits c
-      → GuardsIn g m guards′ (length (m .routes)) → length guards′ ≡ length guards → Lands g m ends landings′ (c .ends)
+      → GuardsIn g m guards′ (length (m .routes)) → length guards′ ≡ length guards → Lands g m ends landings′ (c .ends) → length landings′ ≡ length landings
       → AtHand h m nodes edges ends roots head next bases heads parts returns guards′ landings′ exits c
-  at-hand p guarded long landed =
+  at-hand p guarded long landed landings-long =
       record {
         graphed = checked .graphed;
         accepted = checked .accepted;
         checked = p .checked;
-        instances = record { trie = p .trie; slots = p .slots; placed = p .placed; guards-fit = omega arith; guarded = guarded; landed = landed; bounded = p .bounded };
+        instances = record { trie = p .trie; slots = p .slots; placed = p .placed; guards-fit = omega arith; guarded = guarded; landed = landed; bounded = p .bounded; landings-fit = omega (arith, p .landings-fit) };
         links = p .links;
         linked = p .linked;
         exits-fit = p .exits-fit;

@@ -6,16 +6,17 @@
 --     copy-records, block-records  those of a copy, and of a block that stood
 --     standing-hops                the hops of a block that stood
 --     held-from, block-held, block-size, pooled-none, node-fits    what is gathered from nothing, and room for it
+--     node-there, roots-fit        what is read of a node, and the roots
 use mathlib.Core.Path.{_≡_, refl, sym, _∙_, ap}
 use mathlib.Core.Bool.{Bool, true, false, cond, not, _&&_}
 use mathlib.Core.List.{List, [], _∷_, _++_, map, map-append}
 use mathlib.Core.Option.{some}
 use Prim.Native.Nat.{ℕ, zero, suc, _+_, _*_, _≤_, _<_}
-use native.Mathlib.Nat.{not-suc-le-zero}
+use native.Mathlib.Nat.{not-suc-le-zero, min-le-right}
 use native.Mathlib.Omega.{arith}
 use borrow.Author.Tests.{ne-eqb}
 use lib.Dec.{eqb}
-use lib.ListN.{length, getD}
+use lib.ListN.{length, getD, take, length-take}
 use lib.Seq.{getD-take}
 use Rattle.image.specs.Image.{RouteImage, table}
 use Rattle.image.specs.Deal.{UnwindEnd, handler, propagate, resume, endOf, routesOf}
@@ -36,7 +37,7 @@ use Rattle.addition.specs.Instance.{blocksOf, later, base, place, entryOf}
 use Rattle.addition.specs.Ways.{block, endAt as hopEnd, ways}
 use Rattle.unwind.specs.Sources.{Exit, exit, compareExits, exitsAt, exitsFrom, routeExits, nodeExits, copyExits, hopsOn}
 use Rattle.unwind.specs.Entries.{endIn, exitsIn}
-use Rattle.unwind.specs.Gather.{exitTo, edgeExits, endNumber, endExits, recordExits, Gathers, inSet, NodeFits, routeRecords, nodeRecords, Pooled, Adds}
+use Rattle.unwind.specs.Gather.{exitTo, edgeExits, endNumber, endExits, recordExits, Gathers, inSet, NodeFits, NodeThere, routeRecords, nodeRecords, Pooled, Adds}
 use Rattle.unwind.specs.Sides.{landing}
 use Rattle.unwind.specs.Lent.{Leads, Sides, blockRecords, Holds, BlockHeld, blockHops}
 use Rattle.unwind.specs.Sizes.{HopsSize, SizesOf}
@@ -48,7 +49,7 @@ use Rattle.unwind.proofs.Rising.{total-exits}
 use Rattle.unwind.proofs.EntryLaws.{table-mem}
 use Rattle.unwind.proofs.GatherLaws.{put-all-sorted}
 use Rattle.unwind.proofs.PoolLaws.{adds-both, pooled-most}
-use Rattle.unwind.proofs.Leaving.{standing-exits, copy-exits}
+use Rattle.unwind.proofs.Leaving.{roots-length, standing-exits, copy-exits}
 
 pub map-table : {A B : Type 0} (f : A → B) (h : ℕ → A) (n : ℕ) → map f (table h n) ≡ table (λ k. f (h k)) n
 unfolding table
@@ -96,6 +97,43 @@ node-fits m nodes edges ends roots c t i h =
     let q = t .stored .ends-fit in
     record { edges-in = omega arith; ends-in = omega arith }
 
+module _ (m : RouteImage) (nodes edges ends roots : List ℕ) (c : Counts) (t : TriesIn m nodes edges ends roots c) where
+  nodes-long : length (tries (routesOf m) .nodes) ≡ c .nodes
+  unfolding nodesIn
+  nodes-long = ap length (sym (t .nodes-are)) ∙ length-table (λ i. nodeIn m edges ends (recordIn nodes i)) (c .nodes)
+
+  node-here : (i : ℕ) → i < c .nodes → nodeAt (tries (routesOf m) .nodes) i ≡ nodeIn m edges ends (recordIn nodes i)
+  unfolding nodesIn nodeAt
+  node-here i h = ap (λ (l : List Node). nodeAt l i) (sym (t .nodes-are)) ∙ getD-table (λ i. nodeIn m edges ends (recordIn nodes i)) (c .nodes) i _ h
+
+  -- the node after edge k of node i
+  child-in : (i k : ℕ) → i < c .nodes → k < recordIn nodes i .edges → branchIn edges (recordIn nodes i .«first_edge» + k) .what < c .nodes
+  unfolding nodeIn branches edgeOf
+  child-in i k h j =
+      let z : List Node = tries (routesOf m) .nodes in
+      let long = nodes-long in
+      let here = lt-at z i (omega arith) in
+      let same : here .0 ≡ nodeIn m edges ends (recordIn nodes i) = sym (at-node z i (here .1)) ∙ node-here i h in
+      let low = tries-law (routesOf m) .fits .fit i (here .0) (here .1) .lower (edgeOf m (branchIn edges (recordIn nodes i .«first_edge» + k)))
+      (rw same (mem-map (edgeOf m) (table-mem (λ k. branchIn edges (recordIn nodes i .«first_edge» + k)) (recordIn nodes i .edges) k j))) in
+      omega arith
+
+  pub node-there : (heads landings : List ℕ) → c .nodes ≤ length heads → c .ends ≤ length landings → (i : ℕ) → i < c .nodes → NodeThere nodes edges heads landings i
+  node-there heads landings p q i h =
+      let s = t .stored in
+      record {
+        node-in = omega (arith, s .nodes-fit);
+        edges-in = omega (arith, s .edges-in i h, s .edges-fit);
+        heads-in = λ k j. omega (arith, child-in i k h j);
+        lands-in = omega (arith, s .ends-in i h);
+      }
+
+  pub roots-fit : length (m .routes) ≤ length roots
+  unfolding tries
+  roots-fit =
+      let long : length (m .routes) ≡ length (take (length (m .routes)) roots) = sym (ap length (t .roots-are) ∙ roots-length 0 (routesOf m) [] ∙ length-routes m) in
+      omega (arith, long, length-take (length (m .routes)) roots, min-le-right (length (m .routes)) (length roots))
+
 module _ (g : Graph) (m : RouteImage) (nodes edges ends roots heads landings guards bases returns : List ℕ) (c : Counts) (t : TriesIn m nodes edges ends roots c) (s : Leads g m ends heads landings c) where
   abbrev z : List Node
   z = tries (routesOf m) .nodes
@@ -104,23 +142,14 @@ module _ (g : Graph) (m : RouteImage) (nodes edges ends roots heads landings gua
   fs = funclets (routesOf m)
 
   pub count-is : length z ≡ c .nodes
-  unfolding nodesIn
-  count-is = ap length (sym (t .nodes-are)) ∙ length-table (λ i. nodeIn m edges ends (recordIn nodes i)) (c .nodes)
+  count-is = nodes-long m nodes edges ends roots c t
 
   pub node-is : (i : ℕ) → i < c .nodes → nodeAt z i ≡ nodeIn m edges ends (recordIn nodes i)
-  unfolding nodesIn nodeAt
-  node-is i h = ap (λ (l : List Node). nodeAt l i) (sym (t .nodes-are)) ∙ getD-table (λ i. nodeIn m edges ends (recordIn nodes i)) (c .nodes) i _ h
+  node-is = node-here m nodes edges ends roots c t
 
   -- the node after edge k of node i
   pub child-below : (i k : ℕ) → i < c .nodes → k < recordIn nodes i .edges → branchIn edges (recordIn nodes i .«first_edge» + k) .what < c .nodes
-  unfolding nodeIn branches edgeOf
-  child-below i k h j =
-      let long = count-is in
-      let here = lt-at z i (omega arith) in
-      let same : here .0 ≡ nodeIn m edges ends (recordIn nodes i) = sym (at-node z i (here .1)) ∙ node-is i h in
-      let low = tries-law (routesOf m) .fits .fit i (here .0) (here .1) .lower (edgeOf m (branchIn edges (recordIn nodes i .«first_edge» + k)))
-      (rw same (mem-map (edgeOf m) (table-mem (λ k. branchIn edges (recordIn nodes i .«first_edge» + k)) (recordIn nodes i .edges) k j))) in
-      omega arith
+  child-below = child-in m nodes edges ends roots c t
 
   module _ (b : ℕ) (few : b < 65535) where
     edge-same : (i k : ℕ) → i < c .nodes → k < recordIn nodes i .edges → let e = branchIn edges (recordIn nodes i .«first_edge» + k) in

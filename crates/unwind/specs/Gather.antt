@@ -71,6 +71,17 @@ pub record NodeFits (edges ends : List ℕ) (x : NodeRecord) : Type 0 where
 pub record AllFit (nodes edges ends : List ℕ) (f : ℕ → ℕ) (n : ℕ) : Type 0 where
   pub fits : (i : ℕ) → i < n → NodeFits edges ends (recordIn nodes (f i))
 
+-- node i stands in the slices, with its edges, the entries of the nodes after them, and where its ends land
+pub record NodeThere (nodes edges heads landings : List ℕ) (i : ℕ) : Type 0 where
+  pub node-in : 6 * i + 6 ≤ length nodes
+  pub edges-in : 3 * (recordIn nodes i .«first_edge» + recordIn nodes i .edges) ≤ length edges
+  pub heads-in : (k : ℕ) → k < recordIn nodes i .edges → branchIn edges (recordIn nodes i .«first_edge» + k) .what < length heads
+  pub lands-in : recordIn nodes i .«first_end» + recordIn nodes i .ends ≤ length landings
+
+-- so do f 0, f 1, .. below n
+pub record AllThere (nodes edges heads landings : List ℕ) (f : ℕ → ℕ) (n : ℕ) : Type 0 where
+  pub there : (i : ℕ) → i < n → NodeThere nodes edges heads landings (f i)
+
 module _ (m : RouteImage) (b : ℕ) (edges ends heads landings : List ℕ) where
   -- of route r, if its set of guarded blocks has b; of node i, if it returns from b; of node i, if it has the original
   -- blocks besides

@@ -21,3 +21,4 @@ pub record Instances (g : Graph) (m : RouteImage) (nodes edges ends roots bases 
   pub guarded : GuardsIn g m guards (length (m .routes))
   pub landed : Lands g m ends landings (c .ends)
   pub bounded : Bounded g (routesOf m)
+  pub landings-fit : c .ends ≤ length landings

@@ -11,9 +11,9 @@ use crate::hops::Hops;
 use crate::part::EXCEPTION_UNWIND;
 use crate::slots::set_at;
 use crate::tries::store::Counts;
-use crate::tries::store::branch_at;
-use crate::tries::store::node_at;
-use crate::tries::store::number_at;
+use crate::tries::store::branch_in;
+use crate::tries::store::node_in;
+use crate::tries::store::number_in;
 use crate::wants::find::find_hop;
 use crate::wants::flags::Flags;
 use crate::wants::flags::likely_hop;
@@ -38,7 +38,8 @@ ghost use Rattle.graph.specs.Fold.{flat};
 ghost use Rattle.graph.specs.Adding.{Added};
 ghost use Rattle.unwind.specs.Nodes.{branchIn, recordIn};
 ghost use Rattle.addition.specs.Ways.{hopsOf, routeEdge, routeEdges};
-ghost use Rattle.unwind.specs.Gather.{edgeExits, endNumber, endExits};
+ghost use Rattle.unwind.specs.Gather.{edgeExits, endNumber, endExits, NodeThere, AllThere};
+ghost use Rattle.unwind.specs.Routed.{TriesIn};
 ghost use Rattle.unwind.specs.HopWords.{hopsIn};
 ghost use Rattle.unwind.specs.Wanted.{wayOf, recordWays, guardWays, returnWays, lentWays, RunsFit};
 ghost use Rattle.unwind.specs.Flags.{leapTo, wayTo, HopsRise, HopStands, HopsJoin, SomeStand, EdgesWanted, AllWanted, placeOf, setWays};
@@ -63,7 +64,7 @@ pub fn add_route_edges(
     returns: &[u64],
     stored: Counts,
 )
-    requires { ⌜ HopsJoin (now h) (heldIn (now g) .graph) × (16 * length (routesIn (now s) y .routes) ≤ length (now guards)) × (16 * stored .nodes ≤ length (now parts)) × (16 * stored .nodes ≤ length (now returns)) × ((i : ℕ) → i < stored .nodes → getD (now bases) i 0 ≤ 1024) × (hopsIn (routesIn (now s) y) (now h) ≡ hopsOf (lentWays (routesIn (now s) y) (now nodes) (now edges) (now ends) (now heads) (now landings) (now roots) (now guards) (now bases) (now parts) (now returns) (length (routesIn (now s) y .routes)) (stored .nodes))) ⌝ }
+    requires { ⌜ HopsJoin (now h) (heldIn (now g) .graph) × (16 * length (routesIn (now s) y .routes) ≤ length (now guards)) × (16 * stored .nodes ≤ length (now parts)) × (16 * stored .nodes ≤ length (now returns)) × ((i : ℕ) → i < stored .nodes → getD (now bases) i 0 ≤ 1024) × (hopsIn (routesIn (now s) y) (now h) ≡ hopsOf (lentWays (routesIn (now s) y) (now nodes) (now edges) (now ends) (now heads) (now landings) (now roots) (now guards) (now bases) (now parts) (now returns) (length (routesIn (now s) y .routes)) (stored .nodes))) × TriesIn (routesIn (now s) y) (now nodes) (now edges) (now ends) (now roots) stored × (stored .nodes ≤ length (now heads)) × (stored .ends ≤ length (now landings)) × (stored .nodes ≤ length (now bases)) ⌝ }
     ensures { λ _. ⌜ Added (now (g .entry)) (now (g .exit)) (routeEdges (heldIn (now (g .entry)) .graph) [] (lentWays (routesIn (now (s .entry)) y) (now (nodes .entry)) (now (edges .entry)) (now (ends .entry)) (now (heads .entry)) (now (landings .entry)) (now (roots .entry)) (now (guards .entry)) (now (bases .entry)) (now (parts .entry)) (now (returns .entry)) (length (routesIn (now (s .entry)) y .routes)) (stored .nodes))) [] [] ⌝ }
 {
     let mut done = [0u64; 33];
@@ -108,11 +109,11 @@ fn want_guarded(
     n: usize,
     done: &mut Flags,
 )
-    requires { ⌜ SomeStand (now h) (λ m ends. flat (guardWays m (now nodes) (now edges) ends (now heads) (now landings) (now roots) (now guards)) n) × HopsJoin (now h) (heldIn (now g) .graph) × (16 * n ≤ length (now guards)) ⌝ }
+    requires { ⌜ SomeStand (now h) (λ m ends. flat (guardWays m (now nodes) (now edges) ends (now heads) (now landings) (now roots) (now guards)) n) × HopsJoin (now h) (heldIn (now g) .graph) × (16 * n ≤ length (now guards)) × AllThere (now nodes) (now edges) (now heads) (now landings) (λ r. getD (now roots) r 0) n × (n ≤ length (now roots)) ⌝ }
     ensures { λ _. ⌜ AllWanted (now (h .entry)) (now (g .entry)) (now (done .entry)) (λ m ends. flat (guardWays m (now (nodes .entry)) (now (edges .entry)) ends (now (heads .entry)) (now (landings .entry)) (now (roots .entry)) (now (guards .entry))) n) (now (g .exit)) (now (done .exit)) ⌝ }
 {
     for r in 0..n {
-        let i = number_at(roots, r);
+        let i = number_in(roots, r);
         let set = set_at(guards, r);
         want_set(
             g,
@@ -145,12 +146,12 @@ fn want_returned(
     n: usize,
     done: &mut Flags,
 )
-    requires { ⌜ SomeStand (now h) (λ m ends. flat (returnWays m (now nodes) (now edges) ends (now heads) (now landings) (now bases) (now parts) (now returns)) n) × HopsJoin (now h) (heldIn (now g) .graph) × (16 * n ≤ length (now parts)) × (16 * n ≤ length (now returns)) × ((i : ℕ) → i < n → getD (now bases) i 0 ≤ 1024) ⌝ }
+    requires { ⌜ SomeStand (now h) (λ m ends. flat (returnWays m (now nodes) (now edges) ends (now heads) (now landings) (now bases) (now parts) (now returns)) n) × HopsJoin (now h) (heldIn (now g) .graph) × (16 * n ≤ length (now parts)) × (16 * n ≤ length (now returns)) × ((i : ℕ) → i < n → getD (now bases) i 0 ≤ 1024) × AllThere (now nodes) (now edges) (now heads) (now landings) (λ i. i) n × (n ≤ length (now bases)) ⌝ }
     ensures { λ _. ⌜ AllWanted (now (h .entry)) (now (g .entry)) (now (done .entry)) (λ m ends. flat (returnWays m (now (nodes .entry)) (now (edges .entry)) ends (now (heads .entry)) (now (landings .entry)) (now (bases .entry)) (now (parts .entry)) (now (returns .entry))) n) (now (g .exit)) (now (done .exit)) ⌝ }
 {
     for i in 0..n {
-        let r = node_at(nodes, i).route;
-        let base = number_at(bases, i);
+        let r = node_in(nodes, i).route;
+        let base = number_in(bases, i);
         let part = set_at(parts, i);
         let set = set_at(returns, i);
         want_set(
@@ -185,7 +186,7 @@ fn want_set(
     set: &[u64; 16],
     done: &mut Flags,
 )
-    requires { ⌜ SomeStand (now h) (λ m ends. setWays m (now nodes) (now edges) ends (now heads) (now landings) i r base (now part) (now set)) × HopsJoin (now h) (heldIn (now g) .graph) × (base ≤ 1024) ⌝ }
+    requires { ⌜ SomeStand (now h) (λ m ends. setWays m (now nodes) (now edges) ends (now heads) (now landings) i r base (now part) (now set)) × HopsJoin (now h) (heldIn (now g) .graph) × (base ≤ 1024) × NodeThere (now nodes) (now edges) (now heads) (now landings) i ⌝ }
     ensures { λ _. ⌜ AllWanted (now (h .entry)) (now (g .entry)) (now (done .entry)) (λ m ends. setWays m (now (nodes .entry)) (now (edges .entry)) ends (now (heads .entry)) (now (landings .entry)) i r base (now (part .entry)) (now (set .entry))) (now (g .exit)) (now (done .exit)) ⌝ }
 {
     sixteen(set);
@@ -225,10 +226,10 @@ fn want_from(
     b: usize,
     done: &mut Flags,
 )
-    requires { ⌜ SomeStand (now h) (λ m ends. recordWays m (now nodes) (now edges) ends (now heads) (now landings) r b (recordIn (now nodes) i)) × HopsJoin (now h) (heldIn (now g) .graph) × (b < 65536) ⌝ }
+    requires { ⌜ SomeStand (now h) (λ m ends. recordWays m (now nodes) (now edges) ends (now heads) (now landings) r b (recordIn (now nodes) i)) × HopsJoin (now h) (heldIn (now g) .graph) × (b < 65536) × NodeThere (now nodes) (now edges) (now heads) (now landings) i ⌝ }
     ensures { λ _. ⌜ AllWanted (now (h .entry)) (now (g .entry)) (now (done .entry)) (λ m ends. recordWays m (now (nodes .entry)) (now (edges .entry)) ends (now (heads .entry)) (now (landings .entry)) r b (recordIn (now (nodes .entry)) i)) (now (g .exit)) (now (done .exit)) ⌝ }
 {
-    let node = node_at(nodes, i);
+    let node = node_in(nodes, i);
     want_edges(g, h, edges, heads, node.first_edge, node.edges, r, b, done);
     want_ends(g, h, landings, node.first_end, node.ends, r, b, done);
 }
@@ -245,12 +246,12 @@ fn want_edges(
     b: usize,
     done: &mut Flags,
 )
-    requires { ⌜ HopsRise (now h) × ((j : ℕ) → j < count → HopStands (now h) (leapTo b (getD (now heads) (branchIn (now edges) (first + j) .what) 0))) × HopsJoin (now h) (heldIn (now g) .graph) × (first < 65536) × (count < 65536) ⌝ }
+    requires { ⌜ HopsRise (now h) × ((j : ℕ) → j < count → HopStands (now h) (leapTo b (getD (now heads) (branchIn (now edges) (first + j) .what) 0))) × HopsJoin (now h) (heldIn (now g) .graph) × (first < 65536) × (count < 65536) × (3 * (first + count) ≤ length (now edges)) × ((k : ℕ) → k < count → branchIn (now edges) (first + k) .what < length (now heads)) ⌝ }
     ensures { λ _. ⌜ ((m : RouteImage) → EdgesWanted (now (h .entry)) (now (g .entry)) (now (done .entry)) (map (wayOf r) (edgeExits m b (now (edges .entry)) (now (heads .entry)) first count)) (now (g .exit)) (now (done .exit))) ⌝ }
 {
     for k in 0..count {
-        let e = branch_at(edges, first + k);
-        let t = number_at(heads, e.what);
+        let e = branch_in(edges, first + k);
+        let t = number_in(heads, e.what);
         want(g, h, r, b, t, done);
     }
 }
@@ -266,7 +267,7 @@ fn want_ends(
     b: usize,
     done: &mut Flags,
 )
-    requires { ⌜ HopsRise (now h) × ((j : ℕ) → j < count → HopStands (now h) (leapTo b (endNumber b (now landings) (first + j)))) × HopsJoin (now h) (heldIn (now g) .graph) × (first < 65536) × (count < 65536) × (b < 65536) ⌝ }
+    requires { ⌜ HopsRise (now h) × ((j : ℕ) → j < count → HopStands (now h) (leapTo b (endNumber b (now landings) (first + j)))) × HopsJoin (now h) (heldIn (now g) .graph) × (first < 65536) × (count < 65536) × (b < 65536) × (first + count ≤ length (now landings)) ⌝ }
     ensures { λ _. ⌜ AllWanted (now (h .entry)) (now (g .entry)) (now (done .entry)) (λ m ends. map (wayOf r) (endExits m b ends (now (landings .entry)) first count)) (now (g .exit)) (now (done .exit)) ⌝ }
 {
     for k in 0..count {

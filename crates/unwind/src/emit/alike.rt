@@ -1,12 +1,13 @@
 // Blocks in a row with the same ways out: what was gathered of one stands for the next.
 use crate::sides::STAY;
 use crate::slots::turns_at;
-use crate::tries::store::number_at;
+use crate::tries::store::number_in;
 use graph::blockset::has_in;
 use graph::blockset::sixteen;
 ghost use mathlib.Core.Path.{_≡_};
 ghost use mathlib.Core.Bool.{true};
 ghost use Prim.Native.Nat.{_≤_, _<_};
+ghost use lib.ListN.{length};
 ghost use Rattle.unwind.specs.Alike.{Moves, Steady, Turning, GoesOn};
 
 // With fewer nodes it costs less to gather than to look.
@@ -14,13 +15,14 @@ const WORTH: usize = 16;
 
 // Whether to look for such blocks: there are nodes enough, and no end resumes, so that no way out names its own block.
 pub fn is_worth(nodes: usize, landings: &[u16], ends: usize) -> bool
+    requires { ⌜ ends ≤ length (now landings) ⌝ }
     ensures { λ r. ⌜ (r ≡ true → Moves (now (landings .entry)) ends) ⌝ }
 {
     if nodes < WORTH {
         return false;
     }
     for k in 0..ends {
-        if number_at(landings, k) == STAY {
+        if number_in(landings, k) == STAY {
             return false;
         }
     }

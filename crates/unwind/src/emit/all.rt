@@ -4,7 +4,7 @@ use crate::emit::standing::add_blocks;
 use crate::hops::Hops;
 use crate::hops::empty_hops;
 use crate::tries::store::Counts;
-use crate::tries::store::number_at;
+use crate::tries::store::number_in;
 use graph::store::Words;
 use graph::store::blocks::block_count;
 use image::section::RouteLayout;
@@ -19,7 +19,7 @@ ghost use Rattle.image.specs.There.{RoutesThere};
 ghost use Rattle.graph.specs.Words.{heldIn};
 ghost use Rattle.graph.specs.Fold.{flat};
 ghost use Rattle.unwind.specs.Nodes.{recordIn};
-ghost use Rattle.unwind.specs.Gather.{NodeFits, AllFit};
+ghost use Rattle.unwind.specs.Gather.{NodeFits, AllFit, NodeThere, AllThere};
 ghost use Rattle.addition.specs.Ways.{ways, hopsOf};
 ghost use Rattle.unwind.specs.Routed.{TriesIn};
 ghost use Rattle.unwind.specs.Lent.{Leads, Sides, PartsIn, Roomy};
@@ -47,7 +47,7 @@ pub fn add_hops(
     stored: Counts,
     exits: &mut [u16],
 )
-    requires { ⌜ AcceptedRoutes (routesIn (now s) y) × TriesIn (routesIn (now s) y) (now nodes) (now edges) (now ends) (now roots) stored × Leads (heldIn (now g) .graph) (routesIn (now s) y) (now ends) (now heads) (now landings) stored × Sides (heldIn (now g) .graph) (routesIn (now s) y) (now guards) (now bases) (now returns) stored × PartsIn (heldIn (now g) .graph) (routesIn (now s) y) (now parts) stored × Bounded (heldIn (now g) .graph) (routesOf (routesIn (now s) y)) × Roomy (now edges) (now ends) (now exits) × HopsFit (hopsOf (ways (heldIn (now g) .graph) (routesOf (routesIn (now s) y)))) × (16 * stored .nodes ≤ length (now parts)) × (16 * stored .nodes ≤ length (now returns)) × (16 * length (routesIn (now s) y .routes) ≤ length (now guards)) × RoutesThere (now s) y ⌝ }
+    requires { ⌜ AcceptedRoutes (routesIn (now s) y) × TriesIn (routesIn (now s) y) (now nodes) (now edges) (now ends) (now roots) stored × Leads (heldIn (now g) .graph) (routesIn (now s) y) (now ends) (now heads) (now landings) stored × Sides (heldIn (now g) .graph) (routesIn (now s) y) (now guards) (now bases) (now returns) stored × PartsIn (heldIn (now g) .graph) (routesIn (now s) y) (now parts) stored × Bounded (heldIn (now g) .graph) (routesOf (routesIn (now s) y)) × Roomy (now edges) (now ends) (now exits) × HopsFit (hopsOf (ways (heldIn (now g) .graph) (routesOf (routesIn (now s) y)))) × (16 * stored .nodes ≤ length (now parts)) × (16 * stored .nodes ≤ length (now returns)) × (16 * length (routesIn (now s) y .routes) ≤ length (now guards)) × RoutesThere (now s) y × (stored .nodes ≤ length (now heads)) × (stored .ends ≤ length (now landings)) × (stored .nodes ≤ length (now bases)) ⌝ }
     ensures { λ _. ⌜ HopsLaid (routesIn (now (s .entry)) y) (now (h .entry)) (now (h .exit)) (hopsOf (ways (heldIn (now (g .entry)) .graph) (routesOf (routesIn (now (s .entry)) y)))) ⌝ }
 {
     let blocks = block_count(g);
@@ -104,7 +104,7 @@ fn add_nodes(
     blocks: usize,
     exits: &mut [u16],
 )
-    requires { ⌜ AllFit (now nodes) (now edges) (now ends) (λ i. i) count × (count ≤ 1024) × NodesRise (now bases) (now parts) (now returns) blocks count × (blocks ≤ 1024) × Roomy (now edges) (now ends) (now exits) × HopsBelow (routesIn (now s) y) blocks (now h) × HopsFit (hopsIn (routesIn (now s) y) (now h) ++ flat (nodeHops (routesIn (now s) y) (now nodes) (now edges) (now ends) (now heads) (now landings) (now bases) (now parts) (now returns) blocks) count) × NodesSets (now parts) (now returns) blocks count × RoutesThere (now s) y ⌝ }
+    requires { ⌜ AllFit (now nodes) (now edges) (now ends) (λ i. i) count × (count ≤ 1024) × NodesRise (now bases) (now parts) (now returns) blocks count × (blocks ≤ 1024) × Roomy (now edges) (now ends) (now exits) × HopsBelow (routesIn (now s) y) blocks (now h) × HopsFit (hopsIn (routesIn (now s) y) (now h) ++ flat (nodeHops (routesIn (now s) y) (now nodes) (now edges) (now ends) (now heads) (now landings) (now bases) (now parts) (now returns) blocks) count) × NodesSets (now parts) (now returns) blocks count × RoutesThere (now s) y × AllThere (now nodes) (now edges) (now heads) (now landings) (λ i. i) count × (count ≤ length (now bases)) ⌝ }
     ensures { λ _. ⌜ HopsHeld (routesIn (now (s .entry)) y) (behindNodes (now (bases .entry)) (now (parts .entry)) blocks count) (now (h .entry)) (now (h .exit)) (hopsIn (routesIn (now (s .entry)) y) (now (h .entry)) ++ flat (nodeHops (routesIn (now (s .entry)) y) (now (nodes .entry)) (now (edges .entry)) (now (ends .entry)) (now (heads .entry)) (now (landings .entry)) (now (bases .entry)) (now (parts .entry)) (now (returns .entry)) blocks) count) ⌝ }
 {
     for i in 0..count {
@@ -144,10 +144,10 @@ fn add_node(
     blocks: usize,
     exits: &mut [u16],
 )
-    requires { ⌜ NodeFits (now edges) (now ends) (recordIn (now nodes) i) × (i < 65536) × NodeRises (now bases) (now parts) (now returns) blocks i × (blocks ≤ 1024) × Roomy (now edges) (now ends) (now exits) × HopsBelow (routesIn (now s) y) (behindNodes (now bases) (now parts) blocks i) (now h) × HopsFit (hopsIn (routesIn (now s) y) (now h) ++ nodeHops (routesIn (now s) y) (now nodes) (now edges) (now ends) (now heads) (now landings) (now bases) (now parts) (now returns) blocks i) × NodeSets (now parts) (now returns) blocks i × RoutesThere (now s) y ⌝ }
+    requires { ⌜ NodeFits (now edges) (now ends) (recordIn (now nodes) i) × (i < 65536) × NodeRises (now bases) (now parts) (now returns) blocks i × (blocks ≤ 1024) × Roomy (now edges) (now ends) (now exits) × HopsBelow (routesIn (now s) y) (behindNodes (now bases) (now parts) blocks i) (now h) × HopsFit (hopsIn (routesIn (now s) y) (now h) ++ nodeHops (routesIn (now s) y) (now nodes) (now edges) (now ends) (now heads) (now landings) (now bases) (now parts) (now returns) blocks i) × NodeSets (now parts) (now returns) blocks i × RoutesThere (now s) y × NodeThere (now nodes) (now edges) (now heads) (now landings) i × (i < length (now bases)) ⌝ }
     ensures { λ _. ⌜ HopsHeld (routesIn (now (s .entry)) y) (behindNodes (now (bases .entry)) (now (parts .entry)) blocks (i + 1)) (now (h .entry)) (now (h .exit)) (hopsIn (routesIn (now (s .entry)) y) (now (h .entry)) ++ nodeHops (routesIn (now (s .entry)) y) (now (nodes .entry)) (now (edges .entry)) (now (ends .entry)) (now (heads .entry)) (now (landings .entry)) (now (bases .entry)) (now (parts .entry)) (now (returns .entry)) blocks i) × (length (now (exits .exit)) ≡ length (now (exits .entry))) ⌝ }
 {
-    let base = number_at(bases, i);
+    let base = number_in(bases, i);
     if base != 0 {
         add_copies(
             h,

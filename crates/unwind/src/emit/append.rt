@@ -10,19 +10,19 @@ use crate::hops::hop_count;
 use crate::hops::list_count;
 use crate::hops::widen_last;
 use crate::tries::store::Branch;
-use crate::tries::store::branch_at;
+use crate::tries::store::branch_in;
 ghost use mathlib.Core.Path.{_≡_};
-ghost use Prim.Native.Nat.{_+_, _≤_, _<_};
+ghost use Prim.Native.Nat.{_+_, _*_, _≤_, _<_};
 ghost use lib.ListN.{length};
 ghost use Rattle.unwind.specs.HopWords.{rowsIn, endsAt, hopTo, lastLeaps, rowsThen, rowsOn, InOrder, HopsStored};
 
 // The n entries of block b.
 pub fn add_exits(h: &mut Hops, b: usize, exits: &[u16], n: usize)
-    requires { ⌜ InOrder (rowsIn (now h)) × (length (rowsIn (now h) .lists) + n ≤ 4096) × (length (rowsOn (rowsIn (now h)) b (now exits) n .hops) ≤ 2048) ⌝ }
+    requires { ⌜ InOrder (rowsIn (now h)) × (length (rowsIn (now h) .lists) + n ≤ 4096) × (length (rowsOn (rowsIn (now h)) b (now exits) n .hops) ≤ 2048) × (3 * n ≤ length (now exits)) ⌝ }
     ensures { λ _. ⌜ HopsStored (now (h .entry)) (now (h .exit)) (rowsOn (rowsIn (now (h .entry))) b (now (exits .entry)) n) ⌝ }
 {
     for k in 0..n {
-        let e = branch_at(exits, k);
+        let e = branch_in(exits, k);
         add_exit(h, b, e);
     }
 }

@@ -2,7 +2,7 @@
 use crate::emit::gather::gather_node;
 use crate::slots::in_set;
 use crate::tries::store::Counts;
-use crate::tries::store::number_at;
+use crate::tries::store::number_in;
 use image::section::RouteLayout;
 ghost use Prim.Native.Nat.{_+_, _*_, _/_, _≤_, _<_};
 ghost use lib.ListN.{length, getD};
@@ -11,7 +11,7 @@ ghost use Rattle.image.specs.Accepted.{AcceptedRoutes};
 ghost use Rattle.image.specs.There.{RoutesThere};
 ghost use Rattle.graph.specs.Fold.{flat};
 ghost use Rattle.unwind.specs.Nodes.{recordIn};
-ghost use Rattle.unwind.specs.Gather.{NodeFits, AllFit, routeRecords, returnRecords, Pooled, Adds};
+ghost use Rattle.unwind.specs.Gather.{NodeFits, AllFit, NodeThere, AllThere, routeRecords, returnRecords, Pooled, Adds};
 ghost use Rattle.unwind.specs.Routed.{TriesIn};
 ghost use Rattle.unwind.specs.Lent.{blockRecords, BlockHeld};
 ghost use Rattle.unwind.specs.Members.{Originals};
@@ -35,7 +35,7 @@ pub fn gather_block(
     b: usize,
     exits: &mut [u16],
 ) -> usize
-    requires { ⌜ AcceptedRoutes (routesIn (now s) y) × TriesIn (routesIn (now s) y) (now nodes) (now edges) (now ends) (now roots) stored × (b < 65536) × (2 * (length (now edges) + length (now ends)) ≤ length (now exits)) × Originals (now bases) (now returns) (now originals) (stored .nodes) (b / 64) listed × RoutesThere (now s) y ⌝ }
+    requires { ⌜ AcceptedRoutes (routesIn (now s) y) × TriesIn (routesIn (now s) y) (now nodes) (now edges) (now ends) (now roots) stored × (b < 65536) × (2 * (length (now edges) + length (now ends)) ≤ length (now exits)) × Originals (now bases) (now returns) (now originals) (stored .nodes) (b / 64) listed × RoutesThere (now s) y × (stored .nodes ≤ length (now heads)) × (stored .ends ≤ length (now landings)) × (stored .nodes ≤ length (now originals)) ⌝ }
     ensures { λ r. ⌜ BlockHeld (routesIn (now (s .entry)) y) b (blockRecords (routesIn (now (s .entry)) y) b (now (nodes .entry)) (now (edges .entry)) (now (ends .entry)) (now (heads .entry)) (now (landings .entry)) (now (roots .entry)) (now (guards .entry)) (now (bases .entry)) (now (returns .entry)) stored) (now (edges .entry)) (now (ends .entry)) (now (exits .entry)) (now (exits .exit)) r ⌝ }
 {
     let count = y.routes.count as usize;
@@ -87,7 +87,7 @@ fn gather_routes(
     exits: &mut [u16],
     held: usize,
 ) -> usize
-    requires { ⌜ Pooled (routesIn (now s) y) b (now edges) (now ends) (now heads) (now landings) (now exits) held × (b < 65536) × (count < 65536) × AllFit (now nodes) (now edges) (now ends) (λ r. getD (now roots) r 0) count × RoutesThere (now s) y ⌝ }
+    requires { ⌜ Pooled (routesIn (now s) y) b (now edges) (now ends) (now heads) (now landings) (now exits) held × (b < 65536) × (count < 65536) × AllFit (now nodes) (now edges) (now ends) (λ r. getD (now roots) r 0) count × RoutesThere (now s) y × AllThere (now nodes) (now edges) (now heads) (now landings) (λ r. getD (now roots) r 0) count × (count ≤ length (now roots)) ⌝ }
     ensures { λ r. ⌜ Adds (routesIn (now (s .entry)) y) b (now (edges .entry)) (now (ends .entry)) (now (heads .entry)) (now (landings .entry)) (now (exits .entry)) held (flat (routeRecords (routesIn (now (s .entry)) y) b (now (edges .entry)) (now (ends .entry)) (now (heads .entry)) (now (landings .entry)) (now (nodes .entry)) (now (roots .entry)) (now (guards .entry))) count) (now (exits .exit)) r ⌝ }
 {
     let mut n = held;
@@ -127,11 +127,11 @@ fn gather_route(
     exits: &mut [u16],
     held: usize,
 ) -> usize
-    requires { ⌜ Pooled (routesIn (now s) y) b (now edges) (now ends) (now heads) (now landings) (now exits) held × (b < 65536) × (r < 65536) × NodeFits (now edges) (now ends) (recordIn (now nodes) (getD (now roots) r 0)) × RoutesThere (now s) y ⌝ }
+    requires { ⌜ Pooled (routesIn (now s) y) b (now edges) (now ends) (now heads) (now landings) (now exits) held × (b < 65536) × (r < 65536) × NodeFits (now edges) (now ends) (recordIn (now nodes) (getD (now roots) r 0)) × RoutesThere (now s) y × NodeThere (now nodes) (now edges) (now heads) (now landings) (getD (now roots) r 0) × (r < length (now roots)) ⌝ }
     ensures { λ n. ⌜ Adds (routesIn (now (s .entry)) y) b (now (edges .entry)) (now (ends .entry)) (now (heads .entry)) (now (landings .entry)) (now (exits .entry)) held (routeRecords (routesIn (now (s .entry)) y) b (now (edges .entry)) (now (ends .entry)) (now (heads .entry)) (now (landings .entry)) (now (nodes .entry)) (now (roots .entry)) (now (guards .entry)) r) (now (exits .exit)) n ⌝ }
 {
     if in_set(guards, r, b) {
-        let i = number_at(roots, r);
+        let i = number_in(roots, r);
         return gather_node(s, y, nodes, edges, ends, heads, landings, i, b, exits, held);
     }
     held
@@ -153,12 +153,12 @@ fn gather_nodes(
     exits: &mut [u16],
     held: usize,
 ) -> usize
-    requires { ⌜ Pooled (routesIn (now s) y) b (now edges) (now ends) (now heads) (now landings) (now exits) held × (b < 65536) × AllFit (now nodes) (now edges) (now ends) (λ k. getD (now originals) k 0) count × RoutesThere (now s) y ⌝ }
+    requires { ⌜ Pooled (routesIn (now s) y) b (now edges) (now ends) (now heads) (now landings) (now exits) held × (b < 65536) × AllFit (now nodes) (now edges) (now ends) (λ k. getD (now originals) k 0) count × RoutesThere (now s) y × AllThere (now nodes) (now edges) (now heads) (now landings) (λ k. getD (now originals) k 0) count × (count ≤ length (now originals)) ⌝ }
     ensures { λ r. ⌜ Adds (routesIn (now (s .entry)) y) b (now (edges .entry)) (now (ends .entry)) (now (heads .entry)) (now (landings .entry)) (now (exits .entry)) held (flat (λ k. returnRecords (routesIn (now (s .entry)) y) b (now (edges .entry)) (now (ends .entry)) (now (heads .entry)) (now (landings .entry)) (now (nodes .entry)) (now (returns .entry)) (getD (now (originals .entry)) k 0)) count) (now (exits .exit)) r ⌝ }
 {
     let mut n = held;
     for k in 0..count {
-        let i = number_at(originals, k);
+        let i = number_in(originals, k);
         n = gather_returned(
             s,
             y,
@@ -192,7 +192,7 @@ fn gather_returned(
     exits: &mut [u16],
     held: usize,
 ) -> usize
-    requires { ⌜ Pooled (routesIn (now s) y) b (now edges) (now ends) (now heads) (now landings) (now exits) held × (b < 65536) × (i < 65536) × NodeFits (now edges) (now ends) (recordIn (now nodes) i) × RoutesThere (now s) y ⌝ }
+    requires { ⌜ Pooled (routesIn (now s) y) b (now edges) (now ends) (now heads) (now landings) (now exits) held × (b < 65536) × (i < 65536) × NodeFits (now edges) (now ends) (recordIn (now nodes) i) × RoutesThere (now s) y × NodeThere (now nodes) (now edges) (now heads) (now landings) i ⌝ }
     ensures { λ r. ⌜ Adds (routesIn (now (s .entry)) y) b (now (edges .entry)) (now (ends .entry)) (now (heads .entry)) (now (landings .entry)) (now (exits .entry)) held (returnRecords (routesIn (now (s .entry)) y) b (now (edges .entry)) (now (ends .entry)) (now (heads .entry)) (now (landings .entry)) (now (nodes .entry)) (now (returns .entry)) i) (now (exits .exit)) r ⌝ }
 {
     if in_set(returns, i, b) {

@@ -1,6 +1,6 @@
 // The blocks that have a way out, and the nodes that return from some of them: the others need not be looked at.
 use crate::slots::set_at;
-use crate::tries::store::number_at;
+use crate::tries::store::number_in;
 use graph::blockset::add_all;
 use graph::blockset::sixteen;
 ghost use Prim.Native.Nat.{_*_, _≤_, _<_};
@@ -16,7 +16,7 @@ pub fn busy_blocks(
     returns: &[u64],
     n: usize,
 ) -> [u64; 16]
-    requires { ⌜ (16 * routes ≤ length (now guards)) × (16 * n ≤ length (now returns)) ⌝ }
+    requires { ⌜ (16 * routes ≤ length (now guards)) × (16 * n ≤ length (now returns)) × (n ≤ length (now bases)) ⌝ }
     ensures { λ w. ⌜ Busy (now (guards .entry)) routes (now (bases .entry)) (now (returns .entry)) n w ⌝ }
 {
     let mut busy = guarded_blocks(guards, routes);
@@ -41,12 +41,12 @@ fn guarded_blocks(guards: &[u64], routes: usize) -> [u64; 16]
 
 // Those that one of the first n nodes returns from, on the original blocks.
 fn returned_blocks(bases: &[u16], returns: &[u64], n: usize) -> [u64; 16]
-    requires { ⌜ 16 * n ≤ length (now returns) ⌝ }
+    requires { ⌜ (16 * n ≤ length (now returns)) × (n ≤ length (now bases)) ⌝ }
     ensures { λ w. ⌜ Joins (originalReturns (now (bases .entry)) (now (returns .entry))) n w ⌝ }
 {
     let mut all = [0u64; 16];
     for i in 0..n {
-        if number_at(bases, i) == 0 {
+        if number_in(bases, i) == 0 {
             let set = set_at(returns, i);
             add_all(&mut all, &set);
         }
@@ -57,12 +57,12 @@ fn returned_blocks(bases: &[u16], returns: &[u64], n: usize) -> [u64; 16]
 // The nodes on the original blocks that return from one of the 64 blocks of word w: those of the first n, and how many there
 // are.
 pub fn original_nodes(bases: &[u16], returns: &[u64], n: usize, w: usize, list: &mut [u16]) -> usize
-    requires { ⌜ (n ≤ length (now list)) × (n ≤ 544) × (16 * n ≤ length (now returns)) × (w < 16) ⌝ }
+    requires { ⌜ (n ≤ length (now list)) × (n ≤ 544) × (16 * n ≤ length (now returns)) × (w < 16) × (n ≤ length (now bases)) ⌝ }
     ensures { λ r. ⌜ Originals (now (bases .entry)) (now (returns .entry)) (now (list .exit)) n w r ⌝ }
 {
     let mut count = 0;
     for i in 0..n {
-        if number_at(bases, i) == 0 {
+        if number_in(bases, i) == 0 {
             if returns[16 * i + w] != 0 {
                 list[count] = i as u16;
                 count += 1;

@@ -16,7 +16,7 @@ ghost use Rattle.image.specs.Image.{routesIn};
 ghost use Rattle.image.specs.There.{RoutesThere};
 ghost use Rattle.graph.specs.Fold.{flat};
 ghost use Rattle.unwind.specs.Nodes.{recordIn};
-ghost use Rattle.unwind.specs.Gather.{NodeFits};
+ghost use Rattle.unwind.specs.Gather.{NodeFits, NodeThere};
 ghost use Rattle.unwind.specs.Lent.{Roomy};
 ghost use Rattle.unwind.specs.Copies.{copyNumber, hopsFrom, copyHops};
 ghost use Rattle.unwind.specs.HopWords.{hopsIn, HopsHeld, HopsFit, HopsBelow, ReturnsWithin};
@@ -39,7 +39,7 @@ pub fn add_copies(
     blocks: usize,
     exits: &mut [u16],
 )
-    requires { ⌜ NodeFits (now edges) (now ends) (recordIn (now nodes) i) × (i < 65536) × (base ≤ 1024) × (blocks ≤ 1024) × Roomy (now edges) (now ends) (now exits) × ReturnsWithin (now parts) (now returns) i × HopsBelow (routesIn (now s) y) base (now h) × HopsFit (hopsIn (routesIn (now s) y) (now h) ++ flat (copyHops (routesIn (now s) y) (now nodes) (now edges) (now ends) (now heads) (now landings) (now parts) (now returns) i base) blocks) × NodeSets (now parts) (now returns) blocks i × RoutesThere (now s) y ⌝ }
+    requires { ⌜ NodeFits (now edges) (now ends) (recordIn (now nodes) i) × (i < 65536) × (base ≤ 1024) × (blocks ≤ 1024) × Roomy (now edges) (now ends) (now exits) × ReturnsWithin (now parts) (now returns) i × HopsBelow (routesIn (now s) y) base (now h) × HopsFit (hopsIn (routesIn (now s) y) (now h) ++ flat (copyHops (routesIn (now s) y) (now nodes) (now edges) (now ends) (now heads) (now landings) (now parts) (now returns) i base) blocks) × NodeSets (now parts) (now returns) blocks i × RoutesThere (now s) y × NodeThere (now nodes) (now edges) (now heads) (now landings) i ⌝ }
     ensures { λ _. ⌜ HopsHeld (routesIn (now (s .entry)) y) (copyNumber (now (parts .entry)) i base blocks) (now (h .entry)) (now (h .exit)) (hopsIn (routesIn (now (s .entry)) y) (now (h .entry)) ++ flat (copyHops (routesIn (now (s .entry)) y) (now (nodes .entry)) (now (edges .entry)) (now (ends .entry)) (now (heads .entry)) (now (landings .entry)) (now (parts .entry)) (now (returns .entry)) i base) blocks) × (length (now (exits .exit)) ≡ length (now (exits .entry))) ⌝ }
 {
     let part = set_at(parts, i);
@@ -68,7 +68,7 @@ fn add_copy(
     b: usize,
     exits: &mut [u16],
 )
-    requires { ⌜ NodeFits (now edges) (now ends) (recordIn (now nodes) i) × (b < 65536) × Roomy (now edges) (now ends) (now exits) × HopsBelow (routesIn (now s) y) b (now h) × HopsFit (hopsIn (routesIn (now s) y) (now h) ++ hopsFrom (routesIn (now s) y) (now nodes) (now edges) (now ends) (now heads) (now landings) i b) × RoutesThere (now s) y ⌝ }
+    requires { ⌜ NodeFits (now edges) (now ends) (recordIn (now nodes) i) × (b < 65536) × Roomy (now edges) (now ends) (now exits) × HopsBelow (routesIn (now s) y) b (now h) × HopsFit (hopsIn (routesIn (now s) y) (now h) ++ hopsFrom (routesIn (now s) y) (now nodes) (now edges) (now ends) (now heads) (now landings) i b) × RoutesThere (now s) y × NodeThere (now nodes) (now edges) (now heads) (now landings) i ⌝ }
     ensures { λ _. ⌜ HopsHeld (routesIn (now (s .entry)) y) (b + 1) (now (h .entry)) (now (h .exit)) (hopsIn (routesIn (now (s .entry)) y) (now (h .entry)) ++ hopsFrom (routesIn (now (s .entry)) y) (now (nodes .entry)) (now (edges .entry)) (now (ends .entry)) (now (heads .entry)) (now (landings .entry)) i b) × (length (now (exits .exit)) ≡ length (now (exits .entry))) ⌝ }
 {
     let n = gather_node(s, y, nodes, edges, ends, heads, landings, i, b, exits, 0);

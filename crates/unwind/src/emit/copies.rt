@@ -4,19 +4,19 @@ use crate::emit::count::sizes_both;
 use crate::emit::count::sizes_of;
 use crate::emit::gather::gather_node;
 use crate::slots::set_at;
-use crate::tries::store::number_at;
+use crate::tries::store::number_in;
 use graph::blockset::Lowest;
 use graph::blockset::lowest_in;
 use graph::blockset::rank_in;
 use graph::blockset::take_from;
 use image::section::RouteLayout;
 ghost use Prim.Native.Nat.{_≤_, _<_};
-ghost use lib.ListN.{getD};
+ghost use lib.ListN.{length, getD};
 ghost use Rattle.image.specs.Image.{routesIn};
 ghost use Rattle.image.specs.There.{RoutesThere};
 ghost use Rattle.graph.specs.Fold.{flat};
 ghost use Rattle.unwind.specs.Nodes.{recordIn};
-ghost use Rattle.unwind.specs.Gather.{NodeFits, AllFit};
+ghost use Rattle.unwind.specs.Gather.{NodeFits, AllFit, NodeThere, AllThere};
 ghost use Rattle.unwind.specs.Lent.{Roomy};
 ghost use Rattle.unwind.specs.Copies.{hopsFrom, copyHops, FewHops, SumSize, ManyHops, BasesFew, nodeHops};
 ghost use Rattle.unwind.specs.Members.{NodeSets, NodesSets};
@@ -37,7 +37,7 @@ pub fn count_nodes(
     blocks: usize,
     exits: &mut [u16],
 ) -> Sizes
-    requires { ⌜ AllFit (now nodes) (now edges) (now ends) (λ i. i) count × (count ≤ 1024) × BasesFew (now bases) count × (blocks ≤ 1024) × Roomy (now edges) (now ends) (now exits) × NodesSets (now parts) (now returns) blocks count × RoutesThere (now s) y ⌝ }
+    requires { ⌜ AllFit (now nodes) (now edges) (now ends) (λ i. i) count × (count ≤ 1024) × BasesFew (now bases) count × (blocks ≤ 1024) × Roomy (now edges) (now ends) (now exits) × NodesSets (now parts) (now returns) blocks count × RoutesThere (now s) y × AllThere (now nodes) (now edges) (now heads) (now landings) (λ i. i) count × (count ≤ length (now bases)) ⌝ }
     ensures { λ r. ⌜ ManyHops (flat (nodeHops (routesIn (now (s .entry)) y) (now (nodes .entry)) (now (edges .entry)) (now (ends .entry)) (now (heads .entry)) (now (landings .entry)) (now (bases .entry)) (now (parts .entry)) (now (returns .entry)) blocks) count) r ⌝ }
 {
     let mut sizes = Sizes {
@@ -82,10 +82,10 @@ fn count_node(
     blocks: usize,
     exits: &mut [u16],
 ) -> Sizes
-    requires { ⌜ NodeFits (now edges) (now ends) (recordIn (now nodes) i) × (i < 65536) × (getD (now bases) i 0 ≤ 1024) × (blocks ≤ 1024) × Roomy (now edges) (now ends) (now exits) × NodeSets (now parts) (now returns) blocks i × RoutesThere (now s) y ⌝ }
+    requires { ⌜ NodeFits (now edges) (now ends) (recordIn (now nodes) i) × (i < 65536) × (getD (now bases) i 0 ≤ 1024) × (blocks ≤ 1024) × Roomy (now edges) (now ends) (now exits) × NodeSets (now parts) (now returns) blocks i × RoutesThere (now s) y × NodeThere (now nodes) (now edges) (now heads) (now landings) i × (i < length (now bases)) ⌝ }
     ensures { λ r. ⌜ SumSize (nodeHops (routesIn (now (s .entry)) y) (now (nodes .entry)) (now (edges .entry)) (now (ends .entry)) (now (heads .entry)) (now (landings .entry)) (now (bases .entry)) (now (parts .entry)) (now (returns .entry)) blocks i) (now (exits .entry)) (now (exits .exit)) r ⌝ }
 {
-    let base = number_at(bases, i);
+    let base = number_in(bases, i);
     if base == 0 {
         return Sizes {
             hops: 0,
@@ -126,7 +126,7 @@ fn count_copies(
     blocks: usize,
     exits: &mut [u16],
 ) -> Sizes
-    requires { ⌜ NodeFits (now edges) (now ends) (recordIn (now nodes) i) × (i < 65536) × (base ≤ 1024) × (blocks ≤ 1024) × Roomy (now edges) (now ends) (now exits) × NodeSets (now parts) (now returns) blocks i × RoutesThere (now s) y ⌝ }
+    requires { ⌜ NodeFits (now edges) (now ends) (recordIn (now nodes) i) × (i < 65536) × (base ≤ 1024) × (blocks ≤ 1024) × Roomy (now edges) (now ends) (now exits) × NodeSets (now parts) (now returns) blocks i × RoutesThere (now s) y × NodeThere (now nodes) (now edges) (now heads) (now landings) i ⌝ }
     ensures { λ r. ⌜ SumSize (flat (copyHops (routesIn (now (s .entry)) y) (now (nodes .entry)) (now (edges .entry)) (now (ends .entry)) (now (heads .entry)) (now (landings .entry)) (now (parts .entry)) (now (returns .entry)) i base) blocks) (now (exits .entry)) (now (exits .exit)) r ⌝ }
 {
     let part = set_at(parts, i);
@@ -160,7 +160,7 @@ fn sizes_from(
     b: usize,
     exits: &mut [u16],
 ) -> Sizes
-    requires { ⌜ NodeFits (now edges) (now ends) (recordIn (now nodes) i) × (b < 65536) × Roomy (now edges) (now ends) (now exits) × RoutesThere (now s) y ⌝ }
+    requires { ⌜ NodeFits (now edges) (now ends) (recordIn (now nodes) i) × (b < 65536) × Roomy (now edges) (now ends) (now exits) × RoutesThere (now s) y × NodeThere (now nodes) (now edges) (now heads) (now landings) i ⌝ }
     ensures { λ r. ⌜ FewHops (hopsFrom (routesIn (now (s .entry)) y) (now (nodes .entry)) (now (edges .entry)) (now (ends .entry)) (now (heads .entry)) (now (landings .entry)) i b) (now (exits .entry)) (now (exits .exit)) r ⌝ }
 {
     let n = gather_node(s, y, nodes, edges, ends, heads, landings, i, b, exits, 0);

@@ -7,7 +7,7 @@ use crate::emit::busy::busy_blocks;
 use crate::emit::busy::original_nodes;
 use crate::emit::entries::LEAVE;
 use crate::tries::store::Counts;
-use crate::tries::store::branch_at;
+use crate::tries::store::branch_in;
 use graph::blockset::Lowest;
 use graph::blockset::lowest_in;
 use graph::blockset::take_from;
@@ -52,7 +52,7 @@ pub fn count_blocks(
     blocks: usize,
     exits: &mut [u16],
 ) -> Sizes
-    requires { ⌜ AcceptedRoutes (routesIn (now s) y) × TriesIn (routesIn (now s) y) (now nodes) (now edges) (now ends) (now roots) stored × (blocks ≤ 1024) × Roomy (now edges) (now ends) (now exits) × BlockSets (now guards) (now returns) blocks (length (routesIn (now s) y .routes)) (stored .nodes) × RoutesThere (now s) y ⌝ }
+    requires { ⌜ AcceptedRoutes (routesIn (now s) y) × TriesIn (routesIn (now s) y) (now nodes) (now edges) (now ends) (now roots) stored × (blocks ≤ 1024) × Roomy (now edges) (now ends) (now exits) × BlockSets (now guards) (now returns) blocks (length (routesIn (now s) y .routes)) (stored .nodes) × RoutesThere (now s) y × (stored .nodes ≤ length (now heads)) × (stored .ends ≤ length (now landings)) × (stored .nodes ≤ length (now bases)) ⌝ }
     ensures { λ r. ⌜ SumSize (flat (blockHops (routesIn (now (s .entry)) y) (now (nodes .entry)) (now (edges .entry)) (now (ends .entry)) (now (heads .entry)) (now (landings .entry)) (now (roots .entry)) (now (guards .entry)) (now (bases .entry)) (now (returns .entry)) stored) blocks) (now (exits .entry)) (now (exits .exit)) r ⌝ }
 {
     let routes = y.routes.count as usize;
@@ -128,7 +128,7 @@ pub fn sizes_of(exits: &[u16], n: usize) -> Sizes
     };
     let mut last = NOWHERE;
     for k in 0..n {
-        let end = branch_at(exits, k).what;
+        let end = branch_in(exits, k).what;
         sizes = with_entry(sizes, last, end);
         last = end;
     }

@@ -4,7 +4,7 @@ use crate::tries::compare::Order;
 use crate::tries::compare::compare_calls;
 use crate::tries::compare::compare_numbers;
 use crate::tries::store::Branch;
-use crate::tries::store::branch_at;
+use crate::tries::store::branch_in;
 use crate::tries::store::put_branch;
 use image::section::RouteLayout;
 ghost use Prim.Native.Nat.{_+_, _*_, _≤_};
@@ -31,7 +31,7 @@ pub fn put_entry(s: &[u8], y: RouteLayout, entries: &mut [u16], n: usize, x: Bra
 {
     match entry_place(s, y, entries, n, x) {
         Place::At(p) => {
-            if x.step < branch_at(entries, p).step {
+            if x.step < branch_in(entries, p).step {
                 put_branch(entries, p, x);
             }
             n
@@ -52,7 +52,7 @@ fn entry_place(s: &[u8], y: RouteLayout, entries: &[u16], n: usize, x: Branch) -
     let mut hi = n;
     while lo < hi {
         let mid = lo + (hi - lo) / 2;
-        let e = branch_at(entries, mid);
+        let e = branch_in(entries, mid);
         match compare_entries(s, y, x, e) {
             Order::Less => hi = mid,
             Order::Greater => lo = mid + 1,
@@ -81,7 +81,7 @@ fn shift_entries(entries: &mut [u16], p: usize, n: usize)
 {
     let mut k = n;
     while p < k {
-        let e = branch_at(entries, k - 1);
+        let e = branch_in(entries, k - 1);
         put_branch(entries, k, e);
         k -= 1;
     }

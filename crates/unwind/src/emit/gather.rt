@@ -2,18 +2,18 @@
 use crate::emit::entries::put_entry;
 use crate::sides::STAY;
 use crate::tries::store::Branch;
-use crate::tries::store::branch_at;
-use crate::tries::store::node_at;
-use crate::tries::store::number_at;
+use crate::tries::store::branch_in;
+use crate::tries::store::node_in;
+use crate::tries::store::number_in;
 use image::section::RouteLayout;
 ghost use mathlib.Core.Path.{_≡_};
-ghost use Prim.Native.Nat.{_+_, _*_, _≤_, _<_};
+ghost use Prim.Native.Nat.{ℕ, _+_, _*_, _≤_, _<_};
 ghost use lib.ListN.{length};
 ghost use Rattle.image.specs.Image.{routesIn};
 ghost use Rattle.image.specs.There.{RoutesThere};
-ghost use Rattle.unwind.specs.Nodes.{recordIn, BranchSmall};
+ghost use Rattle.unwind.specs.Nodes.{recordIn, branchIn, BranchSmall};
 ghost use Rattle.unwind.specs.Entries.{Ordered};
-ghost use Rattle.unwind.specs.Gather.{EntryTo, endNumber, endExits, recordExits, Gathers, GathersEdges};
+ghost use Rattle.unwind.specs.Gather.{EntryTo, endNumber, endExits, recordExits, Gathers, GathersEdges, NodeFits, NodeThere};
 
 // Those of node i, out of block b: `heads` has the entry of each node, `landings` where each end lands.
 pub fn gather_node(
@@ -29,10 +29,10 @@ pub fn gather_node(
     exits: &mut [u16],
     held: usize,
 ) -> usize
-    requires { ⌜ Ordered (routesIn (now s) y) (now exits) held × (b < 65536) × (3 * (held + (recordIn (now nodes) i .edges + recordIn (now nodes) i .ends)) ≤ length (now exits)) × RoutesThere (now s) y ⌝ }
+    requires { ⌜ Ordered (routesIn (now s) y) (now exits) held × (b < 65536) × (3 * (held + (recordIn (now nodes) i .edges + recordIn (now nodes) i .ends)) ≤ length (now exits)) × RoutesThere (now s) y × NodeFits (now edges) (now ends) (recordIn (now nodes) i) × NodeThere (now nodes) (now edges) (now heads) (now landings) i ⌝ }
     ensures { λ r. ⌜ Gathers (routesIn (now (s .entry)) y) b (now (exits .entry)) held (recordExits (routesIn (now (s .entry)) y) b (now (edges .entry)) (now (ends .entry)) (now (heads .entry)) (now (landings .entry)) (recordIn (now (nodes .entry)) i)) (now (exits .exit)) r ⌝ }
 {
-    let node = node_at(nodes, i);
+    let node = node_in(nodes, i);
     let n = gather_edges(s, y, edges, heads, node.first_edge, node.edges, exits, held);
     gather_ends(s, y, ends, landings, node.first_end, node.ends, b, exits, n)
 }
@@ -48,13 +48,13 @@ fn gather_edges(
     exits: &mut [u16],
     held: usize,
 ) -> usize
-    requires { ⌜ Ordered (routesIn (now s) y) (now exits) held × (first < 65536) × (3 * (held + count) ≤ length (now exits)) × RoutesThere (now s) y ⌝ }
+    requires { ⌜ Ordered (routesIn (now s) y) (now exits) held × (first < 65536) × (3 * (held + count) ≤ length (now exits)) × RoutesThere (now s) y × (3 * (first + count) ≤ length (now edges)) × ((k : ℕ) → k < count → branchIn (now edges) (first + k) .what < length (now heads)) ⌝ }
     ensures { λ r. ⌜ GathersEdges (routesIn (now (s .entry)) y) (now (exits .entry)) held (now (edges .entry)) (now (heads .entry)) first count (now (exits .exit)) r ⌝ }
 {
     let mut n = held;
     for k in 0..count {
-        let e = branch_at(edges, first + k);
-        let end = number_at(heads, e.what);
+        let e = branch_in(edges, first + k);
+        let end = number_in(heads, e.what);
         n = put_entry(s, y, exits, n, entry_to(e, end));
     }
     n
@@ -72,12 +72,12 @@ fn gather_ends(
     exits: &mut [u16],
     held: usize,
 ) -> usize
-    requires { ⌜ Ordered (routesIn (now s) y) (now exits) held × (first < 65536) × (b < 65536) × (3 * (held + count) ≤ length (now exits)) × RoutesThere (now s) y ⌝ }
+    requires { ⌜ Ordered (routesIn (now s) y) (now exits) held × (first < 65536) × (b < 65536) × (3 * (held + count) ≤ length (now exits)) × RoutesThere (now s) y × (3 * (first + count) ≤ length (now ends)) × (first + count ≤ length (now landings)) ⌝ }
     ensures { λ r. ⌜ Gathers (routesIn (now (s .entry)) y) b (now (exits .entry)) held (endExits (routesIn (now (s .entry)) y) b (now (ends .entry)) (now (landings .entry)) first count) (now (exits .exit)) r ⌝ }
 {
     let mut n = held;
     for k in 0..count {
-        let e = branch_at(ends, first + k);
+        let e = branch_in(ends, first + k);
         let end = end_number(landings, first + k, b);
         n = put_entry(s, y, exits, n, entry_to(e, end));
     }
@@ -86,10 +86,10 @@ fn gather_ends(
 
 // The number of end k of the trie, out of block b.
 pub fn end_number(landings: &[u16], k: usize, b: usize) -> usize
-    requires { ⌜ b < 65536 ⌝ }
+    requires { ⌜ (b < 65536) × (k < length (now landings)) ⌝ }
     ensures { λ r. ⌜ (r ≡ endNumber b (now (landings .entry)) k) × (r < 65536) ⌝ }
 {
-    let l = number_at(landings, k);
+    let l = number_in(landings, k);
     if l == STAY {
         return b;
     }

@@ -4,6 +4,7 @@ use borrow.Author.Needs.{needs}
 use Rattle.image.specs.Record.{routeFrom}
 use Rattle.image.specs.Image.{routesIn}
 use Rattle.image.proofs.Tables.{length-records}
+use Rattle.unwind.proofs.LentLaws.{node-there, roots-fit}
 use Rattle.unwind.proofs.WantLaws.{hops-join, lent-stand, lent-wants}
 use Rattle.unwind.proofs.wants.add_route_edges.Statement.{statement}
 use Rattle.unwind.proofs.wants.add_route_edges.Tie as tie
@@ -17,6 +18,8 @@ want-guarded-requires c κs =
       (m, a .ends .now, lent-stand m (a .nodes .now) (a .edges .now) (a .ends .now) (a .heads .now) (a .landings .now) (a .roots .now) (a .guards .now) (a .bases .now) (a .parts .now) (a .returns .now) (a .y .routes .count) (a .stored .nodes) (a .h .now) (rw count at (start .pre .5)) .0),
       start .pre .0,
       omega (arith, count, start .pre .1),
+      record { there = λ r h. node-there m (a .nodes .now) (a .edges .now) (a .ends .now) (a .roots .now) (a .stored) (start .pre .6) (a .heads .now) (a .landings .now) (start .pre .7) (start .pre .8) _ (start .pre .6 .roots-in r (omega (arith, count, h))) },
+      omega (arith, count, roots-fit m (a .nodes .now) (a .edges .now) (a .ends .now) (a .roots .now) (a .stored) (start .pre .6)),
     )
 
 want-returned-requires : tie.Need-want-returned-requires
@@ -30,6 +33,8 @@ want-returned-requires c κs =
       start .pre .2,
       start .pre .3,
       start .pre .4,
+      record { there = node-there m (a .nodes .now) (a .edges .now) (a .ends .now) (a .roots .now) (a .stored) (start .pre .6) (a .heads .now) (a .landings .now) (start .pre .7) (start .pre .8) },
+      start .pre .9,
     )
 
 returns : tie.Need-returns

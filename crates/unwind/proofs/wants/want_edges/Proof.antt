@@ -27,11 +27,16 @@ loop-holds : tie.Need-loop-holds Inv-loop μ-loop
 unfolding edgeExits table
 loop-holds c = let a = c .before .before .args in (omega arith, c .before .before .pre .2, λ m. wants-none (a .h .now) (a .g .now) (a .done .now))
 
+number-in-requires : tie.Need-number-in-requires Inv-loop μ-loop
+number-in-requires c κs =
+    let start = c .before .before .before .before .before in
+    omega (arith, start .pre .6 (c .before .before .loop .k) (c .before .loop-test .taken), ap (λ (e : Branch). e .what) (c .branch-in .ensures .is))
+
 want-requires : tie.Need-want-requires Inv-loop μ-loop
 want-requires c κs =
     let a = c .before .before .before .before .before .before .before .before .args in
     let top = c .before .before .before .before .before .loop in
-    let is = c .before .before .number-at .ensures .0 ∙ ap (λ (e : Branch). getD (a .heads .now) (e .what) 0) (c .before .before .before .branch-at .ensures .is) in
+    let is = c .before .before .number-in .ensures .0 ∙ ap (λ (e : Branch). getD (a .heads .now) (e .what) 0) (c .before .before .before .branch-in .ensures .is) in
     (c .before .before .before .before .before .before .before .before .pre .0, subst (λ (t : ℕ). HopStands (a .h .now) (leapTo (a .b) t)) (sym is) (c .before .before .before .before .before .before .before .before .pre .1 (top .k) (c .before .before .before .before .loop-test .taken)), top .inv .1)
 
 loop-again : tie.Need-loop-again Inv-loop μ-loop
@@ -40,7 +45,7 @@ loop-again c =
     let a = c .before .before .before .before .before .before .before .before .before .args in
     let top = c .before .before .before .before .before .before .loop in
     let there : ℕ → Branch = λ j. branchIn (a .edges .now) (a .first + j) in
-    let is = c .before .before .before .number-at .ensures .0 ∙ ap (λ (e : Branch). getD (a .heads .now) (e .what) 0) (c .before .before .before .before .branch-at .ensures .is) in (
+    let is = c .before .before .before .number-in .ensures .0 ∙ ap (λ (e : Branch). getD (a .heads .now) (e .what) 0) (c .before .before .before .before .branch-in .ensures .is) in (
       omega (arith, c .before .before .before .before .before .loop-test .taken),
       hops-join (c .want .ensures [] .runs) (top .inv .1),
       λ m. want-next m (a .r) (a .b) there (λ j. getD (a .heads .now) (there j .what) 0) (top .k) _ is (top .inv .2 m) (c .want .ensures),
@@ -61,7 +66,7 @@ want-edges-spec =
     loop-holds
     (λ c. search needs)
     (λ c κs. search needs)
-    (λ c κs. search needs)
+    number-in-requires
     want-requires
     (λ c. search needs)
     (λ c. search needs)

@@ -36,11 +36,12 @@ want-set-requires c κs =
         m,
         ends,
         subst (WaysStand (a .h .now))
-            (guard-set m (a .nodes .now) (a .edges .now) ends (a .heads .now) (a .landings .now) (a .roots .now) (a .guards .now) _ (top .r) _ _ (c .before .before .before .before .before .number-at .ensures .0) (c .before .before .before .before .set-at .ensures))
+            (guard-set m (a .nodes .now) (a .edges .now) ends (a .heads .now) (a .landings .now) (a .roots .now) (a .guards .now) _ (top .r) _ _ (c .before .before .before .before .before .number-in .ensures .0) (c .before .before .before .before .set-at .ensures))
             (stand-flat (guardWays m (a .nodes .now) (a .edges .now) ends (a .heads .now) (a .landings .now) (a .roots .now) (a .guards .now)) _ (top .r) (c .before .before .before .before .before .before .loop-test .taken) (pre .0 .2)),
       ),
       hops-join (top .inv .1 m ends .runs) (pre .1),
       omega arith,
+      rw (c .before .before .before .before .before .number-in .ensures .0) (pre .3 .there (top .r) (c .before .before .before .before .before .before .loop-test .taken)),
     )
 
 loop-again : tie.Need-loop-again Inv-loop μ-loop
@@ -49,7 +50,7 @@ loop-again c =
     let top = c .before .before .before .before .before .before .before .before .loop in (
       omega (arith, c .before .before .before .before .before .before .before .loop-test .taken),
       λ m ends. flat-next (guardWays m (a .nodes .now) (a .edges .now) ends (a .heads .now) (a .landings .now) (a .roots .now) (a .guards .now)) (top .r) (top .inv .1 m ends)
-          (rw (guard-set m (a .nodes .now) (a .edges .now) ends (a .heads .now) (a .landings .now) (a .roots .now) (a .guards .now) _ (top .r) (c .before .before .before .before .before .set-at .result) _ (c .before .before .before .before .before .before .number-at .ensures .0) (c .before .before .before .before .before .set-at .ensures))
+          (rw (guard-set m (a .nodes .now) (a .edges .now) ends (a .heads .now) (a .landings .now) (a .roots .now) (a .guards .now) _ (top .r) (c .before .before .before .before .before .set-at .result) _ (c .before .before .before .before .before .before .number-in .ensures .0) (c .before .before .before .before .before .set-at .ensures))
           (c .want-set .ensures m ends)),
     )
 

@@ -23,6 +23,9 @@ loop-holds c =
     let a = c .before .before .before .before .before .before .before .args in
     (omega arith, λ m ends. flat-start (returnWays m (a .nodes .now) (a .edges .now) ends (a .heads .now) (a .landings .now) (a .bases .now) (a .parts .now) (a .returns .now)))
 
+node-in-requires : tie.Need-node-in-requires Inv-loop μ-loop
+node-in-requires c κs = c .before .before .before .before .before .before .before .before .before .pre .5 .there (c .before .loop .i) (c .loop-test .taken) .node-in
+
 set-at-requires : tie.Need-set-at-requires Inv-loop μ-loop
 set-at-requires c κs = omega (arith, c .before .before .loop-test .taken, c .before .before .before .before .before .before .before .before .before .before .before .pre .2)
 
@@ -36,16 +39,17 @@ want-set-requires c κs =
     let m = pre .0 .0 in
     let ends = pre .0 .1 in
     let top = c .before .before .before .before .before .before .before .before .before .loop in
-    let base = c .before .before .before .before .before .before .number-at .ensures .0 in (
+    let base = c .before .before .before .before .before .before .number-in .ensures .0 in (
       (
         m,
         ends,
         subst (WaysStand (a .h .now))
-            (return-set m (a .nodes .now) (a .edges .now) ends (a .heads .now) (a .landings .now) (a .bases .now) (a .parts .now) (a .returns .now) (top .i) _ _ _ _ (ap (λ (x : NodeRecord). x .route) (c .before .before .before .before .before .before .before .node-at .ensures .is)) base (c .before .before .before .before .before .set-at .ensures) (c .before .before .before .before .set-at2 .ensures))
+            (return-set m (a .nodes .now) (a .edges .now) ends (a .heads .now) (a .landings .now) (a .bases .now) (a .parts .now) (a .returns .now) (top .i) _ _ _ _ (ap (λ (x : NodeRecord). x .route) (c .before .before .before .before .before .before .before .node-in .ensures .is)) base (c .before .before .before .before .before .set-at .ensures) (c .before .before .before .before .set-at2 .ensures))
             (stand-flat (returnWays m (a .nodes .now) (a .edges .now) ends (a .heads .now) (a .landings .now) (a .bases .now) (a .parts .now) (a .returns .now)) _ (top .i) (c .before .before .before .before .before .before .before .before .loop-test .taken) (pre .0 .2)),
       ),
       hops-join (top .inv .1 m ends .runs) (pre .1),
       rw base (pre .4 (top .i) (c .before .before .before .before .before .before .before .before .loop-test .taken)),
+      pre .5 .there (top .i) (c .before .before .before .before .before .before .before .before .loop-test .taken),
     )
 
 add-i : tie.Need-add-i Inv-loop μ-loop
@@ -60,7 +64,7 @@ loop-again c =
     let top = c .before .before .before .before .before .before .before .before .before .before .loop in (
       omega (arith, c .before .before .before .before .before .before .before .before .before .loop-test .taken),
       λ m ends. flat-next (returnWays m (a .nodes .now) (a .edges .now) ends (a .heads .now) (a .landings .now) (a .bases .now) (a .parts .now) (a .returns .now)) (top .i) (top .inv .1 m ends)
-          (rw (return-set m (a .nodes .now) (a .edges .now) ends (a .heads .now) (a .landings .now) (a .bases .now) (a .parts .now) (a .returns .now) (top .i) _ _ _ _ (ap (λ (x : NodeRecord). x .route) (c .before .before .before .before .before .before .before .before .node-at .ensures .is)) (c .before .before .before .before .before .before .before .number-at .ensures .0) (c .before .before .before .before .before .before .set-at .ensures) (c .before .before .before .before .before .set-at2 .ensures))
+          (rw (return-set m (a .nodes .now) (a .edges .now) ends (a .heads .now) (a .landings .now) (a .bases .now) (a .parts .now) (a .returns .now) (top .i) _ _ _ _ (ap (λ (x : NodeRecord). x .route) (c .before .before .before .before .before .before .before .before .node-in .ensures .is)) (c .before .before .before .before .before .before .before .number-in .ensures .0) (c .before .before .before .before .before .before .set-at .ensures) (c .before .before .before .before .before .set-at2 .ensures))
           (c .want-set .ensures m ends)),
     )
 
@@ -77,7 +81,7 @@ want-returned-spec =
     Inv-loop
     μ-loop
     loop-holds
-    (λ c κs. search needs)
+    node-in-requires
     (λ c κs. search needs)
     set-at-requires
     set-at-requires-2

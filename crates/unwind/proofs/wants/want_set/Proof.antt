@@ -45,6 +45,7 @@ want-from-requires c κs =
       (m, ends, rw (c .before .before .place-of .ensures .0) (wanting-stands (outOf m (a .nodes .now) (a .edges .now) ends (a .heads .now) (a .landings .now) (a .i) (a .r) (a .base) (a .part .now)) inv _ low all)),
       hops-join (inv .wants .runs) (pre .1),
       c .before .before .place-of .ensures .1,
+      pre .3,
     )
 
 loop-less : tie.Need-loop-less Inv-loop μ-loop

@@ -30,7 +30,8 @@ add-placed-requires c κs =
     let k = start .pre .0 in
     let p = start .pre .1 in
     let guarded = c .before .before .before .before .before .before .before .before .before .before .before .before .guard-routes in
-    (at-hand (heldIn (a .g .now)) (a .built) (routesIn (a .s .now) (a .y)) k (a .nodes .now) (a .edges .now) (a .ends .now) (a .roots .now) (a .stored) p (guarded .ensures) (guarded .kept .1 .1 .1 .1 .0) (c .before .before .before .before .before .before .before .land-ends .ensures), search needs)
+    let landed = c .before .before .before .before .before .before .before .land-ends in
+    (at-hand (heldIn (a .g .now)) (a .built) (routesIn (a .s .now) (a .y)) k (a .nodes .now) (a .edges .now) (a .ends .now) (a .roots .now) (a .stored) p (guarded .ensures) (guarded .kept .1 .1 .1 .1 .0) (landed .ensures) (landed .kept .1 .1 .1 .1 .1 .1 .1 .0), search needs)
 
 pub add-instances-spec : {M : Type 1} → statement M
 add-instances-spec =

@@ -12,7 +12,7 @@ add-hops-requires c κs =
     let w = start .args .g .now in
     let m = routesIn (start .args .s .now) (start .args .y) in
     let l = all-lent w m (start .pre .0) in
-    (l .0, l .1, l .2, l .3, l .4, l .6, l .7, hops-fit (heldIn w .graph) m (start .pre .1), l .8, l .9, l .10, search needs)
+    (l .0, l .1, l .2, l .3, l .4, l .6, l .7, hops-fit (heldIn w .graph) m (start .pre .1), l .8, l .9, l .10, search needs, start .pre .0 .instances .slots .entries-fit, start .pre .0 .instances .landings-fit, start .pre .0 .instances .slots .bases-fit)
 
 add-clone-edges-requires : tie.Need-add-clone-edges-requires
 add-clone-edges-requires c κs =
@@ -38,6 +38,10 @@ add-route-edges-requires c κs =
       x .instances .slots .returns-fit,
       l .5 .few,
       hops-lent w m x (c .before .before .before .before .before .before .before .before .add-hops .ensures),
+      x .instances .trie,
+      x .instances .slots .entries-fit,
+      x .instances .landings-fit,
+      x .instances .slots .bases-fit,
     )
 
 returns : tie.Need-returns

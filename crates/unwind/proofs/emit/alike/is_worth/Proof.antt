@@ -31,7 +31,7 @@ loop-again c =
     let a = c .before .before .before .before .before .before .args in
     let top = c .before .before .before .loop in (
       omega (arith, c .before .before .loop-test .taken),
-      record { moves = below-more (λ (k : ℕ). getD (a .landings .now) k 0 ≡ 65534 → ⊥) (top .k) (top .inv .1 .moves) (λ e. c .if2 .left (c .before .number-at .ensures .0 ∙ e)) },
+      record { moves = below-more (λ (k : ℕ). getD (a .landings .now) k 0 ≡ 65534 → ⊥) (top .k) (top .inv .1 .moves) (λ e. c .if2 .left (c .before .number-in .ensures .0 ∙ e)) },
     )
 
 returns-3 : tie.Need-returns-3 Inv-loop μ-loop

@@ -3,7 +3,7 @@ use native.Mathlib.Omega.{arith}
 use borrow.Author.Needs.{needs}
 use Rattle.image.specs.Image.{routesIn}
 use Rattle.graph.specs.Words.{heldIn}
-use Rattle.unwind.proofs.LentLaws.{node-fits}
+use Rattle.unwind.proofs.LentLaws.{node-fits, node-there}
 use Rattle.unwind.proofs.HeldLaws.{held-below}
 use Rattle.unwind.proofs.MemberLaws.{nodes-sets, block-sets}
 use Rattle.unwind.proofs.AllNodesLaws.{fit-stood, fit-others, all-rise, all-laid}
@@ -23,6 +23,9 @@ add-blocks-requires c κs =
       fit-stood (heldIn (a .g .now) .graph) m (a .nodes .now) (a .edges .now) (a .ends .now) (a .roots .now) (a .heads .now) (a .landings .now) (a .guards .now) (a .bases .now) (a .parts .now) (a .returns .now) (a .stored) (start .pre .1) (start .pre .2) (start .pre .3) (start .pre .4) (start .pre .5) (c .before .before .before .before .block-count .result) (c .before .before .before .before .block-count .ensures) (start .pre .7),
       rw (c .before .before .before .before .block-count .ensures) (block-sets (heldIn (a .g .now) .graph) (routesIn (a .s .now) (a .y)) (a .guards .now) (a .bases .now) (a .returns .now) (a .stored) (start .pre .3) (start .pre .10) (start .pre .9)),
       search needs,
+      start .pre .12,
+      start .pre .13,
+      start .pre .14,
     )
 
 add-nodes-requires : tie.Need-add-nodes-requires
@@ -42,6 +45,8 @@ add-nodes-requires c κs =
       fit-others (heldIn (a .g .now) .graph) m (a .nodes .now) (a .edges .now) (a .ends .now) (a .roots .now) (a .heads .now) (a .landings .now) (a .guards .now) (a .bases .now) (a .parts .now) (a .returns .now) (a .stored) (start .pre .1) (start .pre .2) (start .pre .3) (start .pre .4) (start .pre .5) (c .before .before .before .before .before .before .before .before .before .block-count .result) (c .before .before .before .before .before .before .before .before .before .block-count .ensures) (stood .0 .holds) (start .pre .7),
       rw (c .before .before .before .before .before .before .before .before .before .block-count .ensures) (nodes-sets (heldIn (a .g .now) .graph) (routesIn (a .s .now) (a .y)) (a .guards .now) (a .bases .now) (a .parts .now) (a .returns .now) (a .stored) (start .pre .3) (start .pre .8) (start .pre .9)),
       search needs,
+      record { there = node-there m (a .nodes .now) (a .edges .now) (a .ends .now) (a .roots .now) (a .stored) t (a .heads .now) (a .landings .now) (start .pre .12) (start .pre .13) },
+      start .pre .14,
     )
 
 returns : tie.Need-returns

@@ -15,8 +15,8 @@ add-copies-requires c κs =
     let a = start .args in
     let m = routesIn (a .s .now) (a .y) in
     let rises = start .pre .2 in
-    let first = c .before .before .before .number-at .result in
-    let is = c .before .before .before .number-at .ensures .0 in
+    let first = c .before .before .before .number-in .result in
+    let is = c .before .before .before .number-in .ensures .0 in
     let copies = c .before .before .if1 .taken in (
       start .pre .0,
       start .pre .1,
@@ -28,13 +28,14 @@ add-copies-requires c κs =
       node-fit m (a .nodes .now) (a .edges .now) (a .ends .now) (a .heads .now) (a .landings .now) (a .bases .now) (a .parts .now) (a .returns .now) (a .blocks) (a .i) first is copies (hopsIn m (a .h .now)) (start .pre .6),
       start .pre .7,
       search needs,
+      start .pre .9,
     )
 
 returns : tie.Need-returns
 returns c =
     let a = c .before .before .before .before .before .before .before .before .before .before .before .before .before .before .before .before .before .args in
     let m = routesIn (a .s .now) (a .y) in
-    let number = c .before .before .before .before .before .before .number-at in
+    let number = c .before .before .before .before .before .before .number-in in
     let made = c .before .before .add-copies .ensures in
     (node-held m (a .nodes .now) (a .edges .now) (a .ends .now) (a .heads .now) (a .landings .now) (a .bases .now) (a .parts .now) (a .returns .now) (a .blocks) (a .i) (number .result) (number .ensures .0) (c .before .before .before .before .before .if1 .taken) (hopsIn m (a .h .now)) (made .0), made .1)
 
@@ -43,7 +44,7 @@ returns-2 c =
     let start = c .before .before .before .before .before .before .before .before .before .before .before .before in
     let a = start .args in
     let m = routesIn (a .s .now) (a .y) in
-    (node-skipped m (a .nodes .now) (a .edges .now) (a .ends .now) (a .heads .now) (a .landings .now) (a .bases .now) (a .parts .now) (a .returns .now) (a .blocks) (a .i) (hopsIn m (a .h .now)) (sym (c .before .number-at .ensures .0) ∙ c .if1 .left) (start .pre .5), refl)
+    (node-skipped m (a .nodes .now) (a .edges .now) (a .ends .now) (a .heads .now) (a .landings .now) (a .bases .now) (a .parts .now) (a .returns .now) (a .blocks) (a .i) (hopsIn m (a .h .now)) (sym (c .before .number-in .ensures .0) ∙ c .if1 .left) (start .pre .5), refl)
 
 pub add-node-spec : {M : Type 1} → statement M
 add-node-spec = tie.close (tie.spec (λ c κs. search needs) add-copies-requires (λ c. search needs) returns returns-2)

@@ -48,6 +48,8 @@ add-node-requires c κs =
       subst (λ (t : List Hop). HopsFit (t ++ nodeHops m (a .nodes .now) (a .edges .now) (a .ends .now) (a .heads .now) (a .landings .now) (a .bases .now) (a .parts .now) (a .returns .now) (a .blocks) (top .i))) (sym (top .inv .2 .holds)) fit,
       start .pre .7 .each (top .i) test,
       search needs,
+      start .pre .9 .there (top .i) test,
+      omega (arith, start .pre .10, test),
     )
 
 loop-again : tie.Need-loop-again Inv-loop μ-loop

@@ -30,7 +30,7 @@ add-exit-requires c κs =
     let taken = c .before .before .loop-test .taken in
     let hops = ap (λ (q : Rows). length (q .hops)) (on-more r (a .b) l (top .k)) in
     let most = on-longer r (a .b) l (top .k + 1) (a .n) (omega (arith, taken)) in
-    rw (top .inv .1 .holds, c .before .branch-at .ensures .is)
+    rw (top .inv .1 .holds, c .before .branch-in .ensures .is)
     (on-order r (a .b) l (top .k) (start .pre .0), omega (arith, taken, on-lists r (a .b) l (top .k), start .pre .1), omega (arith, hops, most, start .pre .2))
 
 loop-again : tie.Need-loop-again Inv-loop μ-loop
@@ -40,7 +40,7 @@ loop-again c =
     let top = c .before .before .before .before .loop in
     let r = rowsIn (a .h .now) in
     let l = a .exits .now in
-    let e = c .before .before .branch-at in (
+    let e = c .before .before .branch-in in (
       omega (arith, c .before .before .before .loop-test .taken),
       hops-onto (λ (q : Rows). rowsThen q (a .b) (e .result)) (top .inv .1) (c .add-exit .ensures) (ap (rowsThen (rowsOn r (a .b) l (top .k)) (a .b)) (e .ensures .is) ∙ sym (on-more r (a .b) l (top .k))),
     )

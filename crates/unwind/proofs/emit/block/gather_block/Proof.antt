@@ -4,7 +4,7 @@ use lib.ListN.{getD}
 use Rattle.image.specs.Record.{routeFrom}
 use Rattle.image.specs.Image.{routesIn}
 use Rattle.image.proofs.Tables.{length-records}
-use Rattle.unwind.proofs.LentLaws.{pooled-none, node-fits, block-held}
+use Rattle.unwind.proofs.LentLaws.{pooled-none, node-fits, node-there, roots-fit, block-held}
 use Rattle.unwind.proofs.PoolLaws.{adds-some}
 use Rattle.unwind.proofs.MemberLaws.{originals-records}
 use borrow.Author.Needs.{needs}
@@ -22,6 +22,8 @@ gather-routes-requires c κs =
       omega (arith, count, start .pre .0 .routes-most),
       record { fits = λ r h. node-fits (routesIn (a .s .now) (a .y)) (a .nodes .now) (a .edges .now) (a .ends .now) (a .roots .now) (a .stored) t (getD (a .roots .now) r 0) (t .roots-in r (omega (arith, count, h))) },
       search needs,
+      record { there = λ r h. node-there (routesIn (a .s .now) (a .y)) (a .nodes .now) (a .edges .now) (a .ends .now) (a .roots .now) (a .stored) t (a .heads .now) (a .landings .now) (start .pre .6) (start .pre .7) (getD (a .roots .now) r 0) (t .roots-in r (omega (arith, count, h))) },
+      omega (arith, count, roots-fit (routesIn (a .s .now) (a .y)) (a .nodes .now) (a .edges .now) (a .ends .now) (a .roots .now) (a .stored) t),
     )
 
 gather-nodes-requires : tie.Need-gather-nodes-requires
@@ -33,6 +35,8 @@ gather-nodes-requires c κs =
       start .pre .2,
       record { fits = λ k h. node-fits (routesIn (a .s .now) (a .y)) (a .nodes .now) (a .edges .now) (a .ends .now) (a .roots .now) (a .stored) t (getD (a .originals .now) k 0) (start .pre .4 .within k h) },
       search needs,
+      record { there = λ k h. node-there (routesIn (a .s .now) (a .y)) (a .nodes .now) (a .edges .now) (a .ends .now) (a .roots .now) (a .stored) t (a .heads .now) (a .landings .now) (start .pre .6) (start .pre .7) (getD (a .originals .now) k 0) (start .pre .4 .within k h) },
+      omega (arith, start .pre .4 .few, start .pre .8),
     )
 
 returns : tie.Need-returns

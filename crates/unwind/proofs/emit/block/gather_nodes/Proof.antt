@@ -7,7 +7,7 @@ use Rattle.image.specs.Image.{routesIn}
 use Rattle.graph.specs.Fold.{flat}
 use Rattle.unwind.specs.declared.tries.store.NodeRecord.{NodeRecord}
 use Rattle.unwind.specs.Nodes.{recordIn}
-use Rattle.unwind.specs.Gather.{NodeFits, returnRecords, Adds}
+use Rattle.unwind.specs.Gather.{NodeFits, NodeThere, returnRecords, Adds}
 use Rattle.unwind.proofs.PoolLaws.{adds-none, adds-some, adds-next}
 use borrow.Author.Needs.{needs}
 use Rattle.unwind.proofs.emit.block.gather_nodes.Statement.{statement}
@@ -32,16 +32,17 @@ gather-returned-requires c κs =
     let start = c .before .before .before .before .before .before .before .before .before .before .before .before .before in
     let a = start .args in
     let top = c .before .before .before .loop in
-    let read = c .before .number-at .ensures in
+    let read = c .before .number-in .ensures in
     let here = ap (recordIn (a .nodes .now)) (sym (read .0)) in
     let fits = subst (λ (x : NodeRecord). NodeFits (a .edges .now) (a .ends .now) x) here (start .pre .2 .fits (top .k) (omega (arith, c .before .before .loop-test .taken))) in
-    (top .inv .1 .pooled, start .pre .1, read .1, fits, search needs)
+    let there = subst (NodeThere (a .nodes .now) (a .edges .now) (a .heads .now) (a .landings .now)) (sym (read .0)) (start .pre .4 .there (top .k) (omega (arith, c .before .before .loop-test .taken))) in
+    (top .inv .1 .pooled, start .pre .1, read .1, fits, search needs, there)
 
 loop-again : tie.Need-loop-again Inv-loop μ-loop
 loop-again c =
     let a = c .before .before .before .before .before .before .before .before .before .before .before .before .before .before .before .before .args in
     let top = c .before .before .before .before .before .before .loop in
-    let here = ap (returnRecords (routesIn (a .s .now) (a .y)) (a .b) (a .edges .now) (a .ends .now) (a .heads .now) (a .landings .now) (a .nodes .now) (a .returns .now)) (c .before .before .before .before .number-at .ensures .0) in (
+    let here = ap (returnRecords (routesIn (a .s .now) (a .y)) (a .b) (a .edges .now) (a .ends .now) (a .heads .now) (a .landings .now) (a .nodes .now) (a .returns .now)) (c .before .before .before .before .number-in .ensures .0) in (
       omega (arith, c .before .before .before .before .before .loop-test .taken),
       adds-next (routesIn (a .s .now) (a .y)) (a .b) (a .edges .now) (a .ends .now) (a .heads .now) (a .landings .now) (λ k. returnRecords (routesIn (a .s .now) (a .y)) (a .b) (a .edges .now) (a .ends .now) (a .heads .now) (a .landings .now) (a .nodes .now) (a .returns .now) (getD (a .originals .now) k 0)) (top .k) (top .inv .1) (adds-some (routesIn (a .s .now) (a .y)) (a .b) (a .edges .now) (a .ends .now) (a .heads .now) (a .landings .now) here (c .before .before .gather-returned .ensures)),
     )

@@ -11,7 +11,7 @@ gather-node-requires : tie.Need-gather-node-requires
 gather-node-requires c κs =
     let start = c .before .before .before .before .before .before .before .before .before .before .before in
     let a = start .args in
-    (start .pre .0 .ordered, start .pre .1, node-room (routesIn (a .s .now) (a .y)) (a .b) (a .edges .now) (a .ends .now) (a .heads .now) (a .landings .now) (a .exits .now) (a .held) (recordIn (a .nodes .now) (a .i)) (start .pre .0) (start .pre .3), search needs)
+    (start .pre .0 .ordered, start .pre .1, node-room (routesIn (a .s .now) (a .y)) (a .b) (a .edges .now) (a .ends .now) (a .heads .now) (a .landings .now) (a .exits .now) (a .held) (recordIn (a .nodes .now) (a .i)) (start .pre .0) (start .pre .3), search needs, start .pre .3, start .pre .5)
 
 same-length : tie.Need-same-length
 same-length c = c .before .before .gather-node .ensures .long

@@ -28,7 +28,7 @@ gather-route-requires : tie.Need-gather-route-requires Inv-loop μ-loop
 gather-route-requires c κs =
     let start = c .before .before .before .before .before .before .before .before .before .before .before .before in
     let top = c .before .before .loop in
-    (top .inv .1 .pooled, start .pre .1, omega (arith, start .pre .2, c .before .loop-test .taken), start .pre .3 .fits (top .r) (omega (arith, c .before .loop-test .taken)), search needs)
+    (top .inv .1 .pooled, start .pre .1, omega (arith, start .pre .2, c .before .loop-test .taken), start .pre .3 .fits (top .r) (omega (arith, c .before .loop-test .taken)), search needs, start .pre .5 .there (top .r) (omega (arith, c .before .loop-test .taken)), omega (arith, start .pre .6, c .before .loop-test .taken))
 
 loop-again : tie.Need-loop-again Inv-loop μ-loop
 loop-again c =

@@ -58,7 +58,7 @@ loop-again c =
     let returns = start .args .returns .now in
     let top = c .before .before .before .loop in
     let test = c .before .before .loop-test .taken in
-    let base = c .before .number-at .ensures .0 in
+    let base = c .before .number-in .ensures .0 in
     let fit : top .count < length (top .list) = omega (arith, start .pre .0, test, top .inv .1, top .inv .2 .few) in
     ⊎-elim
     (λ v. rw (v .3, v .4) (omega (arith, test), length-set (top .list) (top .count) (top .i) ∙ top .inv .1, originals-more bases returns (top .list) (top .i) (start .args .w) (top .count) (top .inv .2) fit (sym base ∙ v .0 .taken)))

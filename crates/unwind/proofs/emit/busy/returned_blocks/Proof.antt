@@ -20,7 +20,7 @@ loop-holds : tie.Need-loop-holds Inv-loop μ-loop
 loop-holds c = let a = c .before .before .args in (omega arith, joins-none (originalReturns (a .bases .now) (a .returns .now)))
 
 set-at-requires : tie.Need-set-at-requires Inv-loop μ-loop
-set-at-requires c κs = omega (arith, c .before .before .before .before .before .before .pre, c .before .before .loop-test .taken)
+set-at-requires c κs = omega (arith, c .before .before .before .before .before .before .pre .0, c .before .before .loop-test .taken)
 
 loop-again : tie.Need-loop-again Inv-loop μ-loop
 loop-again c =
@@ -29,10 +29,10 @@ loop-again c =
     let sets = start .args .returns .now in
     let top = c .before .before .before .loop in
     let test = c .before .before .loop-test .taken in
-    let base = c .before .number-at .ensures .0 in (
+    let base = c .before .number-in .ensures .0 in (
       omega (arith, test),
       ⊎-elim
-          (λ w. rw (w .5) (joins-more (originalReturns bases sets) (top .inv .1) (setAt sets (top .i)) (returns-own bases sets (top .i) (sym base ∙ w .0 .taken) (omega (arith, start .pre, test))) (rw (w .1 .ensures) at (w .4 .ensures))))
+          (λ w. rw (w .5) (joins-more (originalReturns bases sets) (top .inv .1) (setAt sets (top .i)) (returns-own bases sets (top .i) (sym base ∙ w .0 .taken) (omega (arith, start .pre .0, test))) (rw (w .1 .ensures) at (w .4 .ensures))))
           (λ w. rw (w .1) (joins-skip (originalReturns bases sets) (top .inv .1) (returns-not bases sets (top .i) (λ e. w .0 .left (base ∙ e)))))
           (c .if1 .came),
     )

@@ -80,6 +80,7 @@ add-copy-requires c κs =
       subst (λ (b : ℕ). HopsBelow m b (top .h)) (sym at) (held-below here),
       subst (λ (t : List Hop). HopsFit (t ++ own)) (sym (here .holds)) fit,
       search needs,
+      start .pre .10,
     )
 
 loop-less : tie.Need-loop-less Inv-loop μ-loop

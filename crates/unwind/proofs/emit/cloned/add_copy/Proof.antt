@@ -13,7 +13,7 @@ gather-node-requires c κs =
     let start = c .before .before .before .before .before .before .before .before in
     let a = start .args in
     let fits = start .pre .0 in
-    (pooled-none (routesIn (a .s .now) (a .y)) (a .b) (a .edges .now) (a .ends .now) (a .heads .now) (a .landings .now) (a .exits .now) (start .pre .2 .room) .ordered, start .pre .1, omega (arith, fits .edges-in, fits .ends-in, start .pre .2 .room), search needs)
+    (pooled-none (routesIn (a .s .now) (a .y)) (a .b) (a .edges .now) (a .ends .now) (a .heads .now) (a .landings .now) (a .exits .now) (start .pre .2 .room) .ordered, start .pre .1, omega (arith, fits .edges-in, fits .ends-in, start .pre .2 .room), search needs, fits, start .pre .6)
 
 add-exits-requires : tie.Need-add-exits-requires
 add-exits-requires c κs =
@@ -22,7 +22,8 @@ add-exits-requires c κs =
     let m = routesIn (a .s .now) (a .y) in
     let made = c .before .before .before .before .gather-node in
     let own = copy-own m (a .b) (a .nodes .now) (a .edges .now) (a .ends .now) (a .heads .now) (a .landings .now) (a .i) (made .ensures) in
-    held-room m (a .b) (start .pre .3) _ (made .result) (fit-own (hopsIn m (a .h .now)) own (start .pre .4))
+    let room = held-room m (a .b) (start .pre .3) _ (made .result) (fit-own (hopsIn m (a .h .now)) own (start .pre .4)) in
+    (room .0, room .1, room .2, made .ensures .ordered .fit)
 
 same-length : tie.Need-same-length
 same-length c = c .before .before .before .before .before .gather-node .ensures .long

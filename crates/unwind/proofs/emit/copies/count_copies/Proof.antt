@@ -59,7 +59,7 @@ sizes-from-requires c κs =
     let a = start .args in
     let room = start .pre .4 in
     let few = sets-few (routesIn (a .s .now) (a .y)) (a .nodes .now) (a .edges .now) (a .ends .now) (a .heads .now) (a .landings .now) (a .parts .now) (a .returns .now) (a .i) (a .base) (a .blocks) (start .pre .5) _ (c .before .rank-in .result) _ (c .before .before .before .before .before .before .before .before .before .before .before .before .set-at .ensures) (c .before .rank-in .ensures) in
-    (start .pre .0, omega (arith, few, start .pre .2), record { edges-few = room .edges-few; ends-few = room .ends-few; room = omega (arith, room .room, c .before .before .before .before .before .before .before .before .before .before .loop .inv .0) }, search needs)
+    (start .pre .0, omega (arith, few, start .pre .2), record { edges-few = room .edges-few; ends-few = room .ends-few; room = omega (arith, room .room, c .before .before .before .before .before .before .before .before .before .before .loop .inv .0) }, search needs, start .pre .7)
 
 sizes-both-requires : tie.Need-sizes-both-requires Inv-loop μ-loop
 sizes-both-requires c κs =

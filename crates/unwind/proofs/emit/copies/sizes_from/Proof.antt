@@ -14,7 +14,7 @@ gather-node-requires c κs =
     let a = start .args in
     let fits = start .pre .0 in
     let room = start .pre .2 .room in
-    (pooled-none (routesIn (a .s .now) (a .y)) (a .b) (a .edges .now) (a .ends .now) (a .heads .now) (a .landings .now) (a .exits .now) room .ordered, start .pre .1, omega (arith, fits .edges-in, fits .ends-in), search needs)
+    (pooled-none (routesIn (a .s .now) (a .y)) (a .b) (a .edges .now) (a .ends .now) (a .heads .now) (a .landings .now) (a .exits .now) room .ordered, start .pre .1, omega (arith, fits .edges-in, fits .ends-in), search needs, fits, start .pre .4)
 
 sizes-of-requires : tie.Need-sizes-of-requires
 sizes-of-requires c κs =

@@ -37,7 +37,7 @@ busy-blocks-requires : tie.Need-busy-blocks-requires Inv-loop μ-loop
 busy-blocks-requires c κs =
     let start = c .before .before .before .before .before .before .before .before .before .before .before .before in
     let count = length-records routeFrom (start .args .s .now) (start .args .y .routes) in
-    (omega (arith, count, start .pre .4 .guards-fit), start .pre .4 .returns-fit)
+    (omega (arith, count, start .pre .4 .guards-fit), start .pre .4 .returns-fit, start .pre .8)
 
 slice-aggregate-original-nodes : tie.Need-slice-aggregate-original-nodes Inv-loop μ-loop
 slice-aggregate-original-nodes c = sym (c .before .before .before .before .before .before .before .before .before .loop .inv .4)
@@ -47,7 +47,7 @@ original-nodes-requires c κs =
     let start = c .before .before .before .before .before .before .before .before .before .before .before .before .before .before .before .before .before .before .before .before .before .before .before .before .before in
     let low = rw (c .before .before .before .before .before .b .given .1) at (c .before .before .before .before .before .before .before .lowest-in .ensures) in
     let most = start .pre .1 .nodes-most in
-    (omega (arith, most, c .before .before .before .before .before .before .before .before .before .loop .inv .4), most, start .pre .4 .returns-fit, omega (arith, low .0))
+    (omega (arith, most, c .before .before .before .before .before .before .before .before .before .loop .inv .4), most, start .pre .4 .returns-fit, omega (arith, low .0), start .pre .8)
 
 mark-turns-requires : tie.Need-mark-turns-requires Inv-loop μ-loop
 mark-turns-requires c κs =
@@ -100,7 +100,7 @@ gather-block-requires c κs =
     let start = c .before .before .before .before .before .before .before .before .before .before .before .before .before .before .before .before .before .before .before .before .before .before .before .before .before .before .before .before .before in
     let top = c .before .before .before .before .before .before .before .before .before .before .before .before .before .loop in
     let low = rw (c .before .before .before .before .before .before .before .before .before .b .given .1) at (c .before .before .before .before .before .before .before .before .before .before .before .lowest-in .ensures) in
-    (start .pre .0, start .pre .1, omega (arith, low .0), omega (arith, start .pre .3 .room, top .inv .0), listed (c .before .before .before .before .before) .1, search needs)
+    (start .pre .0, start .pre .1, omega (arith, low .0), omega (arith, start .pre .3 .room, top .inv .0), listed (c .before .before .before .before .before) .1, search needs, start .pre .6, start .pre .7, omega (arith, start .pre .1 .nodes-most, listed (c .before .before .before .before .before) .0))
 
 loop-less : tie.Need-loop-less Inv-loop μ-loop
 loop-less c =

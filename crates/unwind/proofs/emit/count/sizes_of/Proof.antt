@@ -46,9 +46,9 @@ loop-again c =
     let l = c .before .before .before .before .before .args .exits .now in
     let top = c .before .before .before .loop in
     let was = top .inv .1 in
-    let read = ap (λ (x : Branch). x .what) (c .before .branch-at .ensures .is) in
+    let read = ap (λ (x : Branch). x .what) (c .before .branch-in .ensures .is) in
     let next = c .with-entry .ensures in
-    let most = then-most (top .sizes) (top .last) (c .before .branch-at .result .what) in (
+    let most = then-most (top .sizes) (top .last) (c .before .branch-in .result .what) in (
       omega (arith, c .before .before .loop-test .taken),
       record {
         hops = rw next (omega (arith, most .0, was .hops));

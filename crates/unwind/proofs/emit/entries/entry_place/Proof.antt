@@ -31,7 +31,7 @@ add-mid : tie.Need-add-mid Inv-loop μ-loop
 add-mid c = omega (arith, c .before .before .before .before .pre .0 .fit, c .before .loop .inv .most)
 
 compare-entries-requires : tie.Need-compare-entries-requires Inv-loop μ-loop
-compare-entries-requires c κs = (c .before .before .before .before .before .pre .1, c .branch-at .ensures .small, search needs)
+compare-entries-requires c κs = (c .before .before .before .before .before .pre .1, c .branch-in .ensures .small, search needs)
 
 add-lo : tie.Need-add-lo Inv-loop μ-loop
 add-lo c = omega (arith, c .before .before .before .before .before .before .before .before .pre .0 .fit, c .before .before .before .before .before .loop .inv .most)
@@ -42,7 +42,7 @@ told : (c : tie.After-compare-entries Inv-loop μ-loop) (o : Ordering) → order
 told c o e b =
     let start = c .before .before .before .before .before .before in
     let m = routesIn (start .args .s .now) (start .args .y) in
-    ap (λ (z : Branch). compareExits (exitIn m b (start .args .x)) (exitIn m b z)) (sym (c .before .branch-at .ensures .is)) ∙ sym (c .compare-entries .ensures .is b) ∙ e
+    ap (λ (z : Branch). compareExits (exitIn m b (start .args .x)) (exitIn m b z)) (sym (c .before .branch-in .ensures .is)) ∙ sym (c .compare-entries .ensures .is b) ∙ e
 
 loop-again : tie.Need-loop-again Inv-loop μ-loop
 loop-again c =

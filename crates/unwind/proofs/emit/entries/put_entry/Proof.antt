@@ -6,6 +6,13 @@ use borrow.Author.Needs.{needs}
 use Rattle.unwind.proofs.emit.entries.put_entry.Statement.{statement}
 use Rattle.unwind.proofs.emit.entries.put_entry.Tie as tie
 
+branch-in-requires : tie.Need-branch-in-requires
+branch-in-requires c κs =
+    let start = c .before .before .before .before .before .before .before .before in
+    let there = rw (c .before .before .p .given .1) at (c .before .before .before .before .entry-place .ensures) in
+    let h = there .0 in
+    omega (arith, h, start .pre .0 .fit)
+
 put-branch-requires : tie.Need-put-branch-requires
 put-branch-requires c κs =
     let start = c .before .before .before .before .before .before .before .before .before .before .before .before .before in
@@ -49,7 +56,7 @@ put-entry-spec =
     (tie.spec
     (λ c κs. search needs)
     (λ c. search needs)
-    (λ c κs. search needs)
+    branch-in-requires
     put-branch-requires
     (λ c. search needs)
     shift-entries-requires

@@ -24,14 +24,14 @@ put-branch-requires : tie.Need-put-branch-requires Inv-loop μ-loop
 put-branch-requires c κs =
     let start = c .before .before .before .before .before .before in
     let top = c .before .before .before .before .loop in
-    (omega (arith, start .pre .1, top .inv .1, top .inv .2), c .before .branch-at .ensures .small)
+    (omega (arith, start .pre .1, top .inv .1, top .inv .2), c .before .branch-in .ensures .small)
 
 loop-again : tie.Need-loop-again Inv-loop μ-loop
 loop-again c =
     let top = c .before .before .before .before .before .before .before .loop in
     let k = top .k in
     let put = c .before .before .put-branch .ensures in
-    let read = c .before .before .before .before .branch-at .ensures in (
+    let read = c .before .before .before .before .branch-in .ensures in (
       omega arith,
       omega (arith, top .inv .1),
       put .long ∙ top .inv .2,

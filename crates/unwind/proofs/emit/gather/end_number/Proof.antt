@@ -8,12 +8,12 @@ use Rattle.unwind.proofs.emit.gather.end_number.Tie as tie
 returns : tie.Need-returns
 returns c =
     let a = c .before .before .before .args in
-    (number-stays (a .b) (a .landings .now) (a .k) (sym (c .before .number-at .ensures .0) ∙ c .if1 .taken), c .before .before .before .pre)
+    (number-stays (a .b) (a .landings .now) (a .k) (sym (c .before .number-in .ensures .0) ∙ c .if1 .taken), c .before .before .before .pre .0)
 
 returns-2 : tie.Need-returns-2
 returns-2 c =
     let a = c .before .before .before .args in
-    let read = c .before .number-at .ensures in
+    let read = c .before .number-in .ensures in
     (read .0 ∙ number-lands (a .b) (a .landings .now) (a .k) (λ e. c .if1 .left (read .0 ∙ e)), read .1)
 
 pub end-number-spec : {M : Type 1} → statement M

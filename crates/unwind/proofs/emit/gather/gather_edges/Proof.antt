@@ -26,8 +26,15 @@ loop-holds c =
     let start = c .before .before .before .before in
     (omega arith, omega arith, λ b. gather-none (routesIn (start .args .s .now) (start .args .y)) b (start .args .exits .now) (start .args .held) (start .pre .0))
 
+number-in-requires : tie.Need-number-in-requires Inv-loop μ-loop
+number-in-requires c κs =
+    let start = c .before .before .before .before .before .before .before in
+    let top = c .before .before .loop in
+    let test = c .before .loop-test .taken in
+    omega (arith, start .pre .5 (top .k) test, ap (λ (e : Branch). e .what) (c .branch-in .ensures .is))
+
 entry-to-requires : tie.Need-entry-to-requires Inv-loop μ-loop
-entry-to-requires c κs = (c .before .before .branch-at .ensures .small, c .before .number-at .ensures .1)
+entry-to-requires c κs = (c .before .before .branch-in .ensures .small, c .before .number-in .ensures .1)
 
 put-entry-requires : tie.Need-put-entry-requires Inv-loop μ-loop
 put-entry-requires c κs =
@@ -42,8 +49,8 @@ loop-again c =
     let start = c .before .before .before .before .before .before .before .before .before .before .before .before .before in
     let m = routesIn (start .args .s .now) (start .args .y) in
     let top = c .before .before .before .before .before .before .before .before .loop in
-    let read = c .before .before .before .before .before .before .branch-at in
-    let head = c .before .before .before .before .before .number-at in
+    let read = c .before .before .before .before .before .before .branch-in in
+    let head = c .before .before .before .before .before .number-in in
     let made = c .before .before .before .entry-to in
     let there : ℕ → Branch = λ k. branchIn (start .args .edges .now) (start .args .first + k) in
     let f : ℕ → ℕ → Exit = λ b k. exitTo m b (there k) (getD (start .args .heads .now) (there k .what) 0) in
@@ -75,7 +82,7 @@ gather-edges-spec =
     loop-holds
     (λ c. search needs)
     (λ c κs. search needs)
-    (λ c κs. search needs)
+    number-in-requires
     entry-to-requires
     put-entry-requires
     (λ c. search needs)

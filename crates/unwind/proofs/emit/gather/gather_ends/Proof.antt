@@ -25,8 +25,13 @@ loop-holds c =
     let start = c .before .before .before .before in
     (omega arith, omega arith, gather-none (routesIn (start .args .s .now) (start .args .y)) (start .args .b) (start .args .exits .now) (start .args .held) (start .pre .0))
 
+end-number-requires : tie.Need-end-number-requires Inv-loop μ-loop
+end-number-requires c κs =
+    let start = c .before .before .before .before .before .before .before in
+    (start .pre .2, omega (arith, start .pre .6, c .before .loop-test .taken))
+
 entry-to-requires : tie.Need-entry-to-requires Inv-loop μ-loop
-entry-to-requires c κs = (c .before .before .branch-at .ensures .small, c .before .end-number .ensures .1)
+entry-to-requires c κs = (c .before .before .branch-in .ensures .small, c .before .end-number .ensures .1)
 
 put-entry-requires : tie.Need-put-entry-requires Inv-loop μ-loop
 put-entry-requires c κs =
@@ -42,7 +47,7 @@ loop-again c =
     let m = routesIn (start .args .s .now) (start .args .y) in
     let b = start .args .b in
     let top = c .before .before .before .before .before .before .before .before .loop in
-    let read = c .before .before .before .before .before .before .branch-at in
+    let read = c .before .before .before .before .before .before .branch-in in
     let end = c .before .before .before .before .before .end-number in
     let made = c .before .before .before .entry-to in
     let there : ℕ → Branch = λ k. branchIn (start .args .ends .now) (start .args .first + k) in
@@ -75,7 +80,7 @@ gather-ends-spec =
     (λ c. search needs)
     (λ c κs. search needs)
     (λ c. search needs)
-    (λ c κs. search needs)
+    end-number-requires
     entry-to-requires
     put-entry-requires
     (λ c. search needs)

@@ -38,7 +38,7 @@ busy-blocks-requires : tie.Need-busy-blocks-requires Inv-loop μ-loop
 busy-blocks-requires c κs =
     let start = c .before .before .before .before .before .before .before .before .before .before .before .before in
     let count = length-records routeFrom (start .args .s .now) (start .args .y .routes) in
-    (omega (arith, count, start .pre .6 .guards-fit), start .pre .6 .returns-fit)
+    (omega (arith, count, start .pre .6 .guards-fit), start .pre .6 .returns-fit, start .pre .10)
 
 slice-aggregate-original-nodes : tie.Need-slice-aggregate-original-nodes Inv-loop μ-loop
 slice-aggregate-original-nodes c = sym (c .before .before .before .before .before .before .before .before .before .loop .inv .4)
@@ -48,7 +48,7 @@ original-nodes-requires c κs =
     let start = c .before .before .before .before .before .before .before .before .before .before .before .before .before .before .before .before .before .before .before .before .before .before .before .before .before in
     let low = rw (c .before .before .before .before .before .b .given .1) at (c .before .before .before .before .before .before .before .lowest-in .ensures) in
     let most = start .pre .1 .nodes-most in
-    (omega (arith, most, c .before .before .before .before .before .before .before .before .before .loop .inv .4), most, start .pre .6 .returns-fit, omega (arith, low .0))
+    (omega (arith, most, c .before .before .before .before .before .before .before .before .before .loop .inv .4), most, start .pre .6 .returns-fit, omega (arith, low .0), start .pre .10)
 
 mark-turns-requires : tie.Need-mark-turns-requires Inv-loop μ-loop
 mark-turns-requires c κs =
@@ -101,7 +101,7 @@ gather-block-requires c κs =
     let start = c .before .before .before .before .before .before .before .before .before .before .before .before .before .before .before .before .before .before .before .before .before .before .before .before .before .before .before .before .before in
     let top = c .before .before .before .before .before .before .before .before .before .before .before .before .before .loop in
     let low = rw (c .before .before .before .before .before .before .before .before .before .b .given .1) at (c .before .before .before .before .before .before .before .before .before .before .before .lowest-in .ensures) in
-    (start .pre .0, start .pre .1, omega (arith, low .0), omega (arith, start .pre .3 .room, top .inv .0), listed (c .before .before .before .before .before) .1, search needs)
+    (start .pre .0, start .pre .1, omega (arith, low .0), omega (arith, start .pre .3 .room, top .inv .0), listed (c .before .before .before .before .before) .1, search needs, start .pre .8, start .pre .9, omega (arith, start .pre .1 .nodes-most, listed (c .before .before .before .before .before) .0))
 
 loop-less : tie.Need-loop-less Inv-loop μ-loop
 loop-less c =
@@ -144,7 +144,8 @@ add-exits-requires c κs =
     let held = gathered joined in
     let own = block-own m _ (a .nodes .now) (a .edges .now) (a .ends .now) (a .heads .now) (a .landings .now) (a .roots .now) (a .guards .now) (a .bases .now) (a .returns .now) (a .stored) _ (joined .if3 .n) (held .holds) in
     let here = holding-here m (blockHops m (a .nodes .now) (a .edges .now) (a .ends .now) (a .heads .now) (a .landings .now) (a .roots .now) (a .guards .now) (a .bases .now) (a .returns .now) (a .stored)) (λ k. k) [] (busy .result) (a .blocks) (busy-quiet m (a .nodes .now) (a .edges .now) (a .ends .now) (a .heads .now) (a .landings .now) (a .roots .now) (a .guards .now) (a .bases .now) (a .returns .now) (a .stored) (a .y .routes .count) (length-records routeFrom (a .s .now) (a .y .routes)) (busy .result) (busy .ensures)) (λ k n h. h) (top .inv .1) _ low in
-    held-room m _ here _ (joined .if3 .n) (holding-fit m (blockHops m (a .nodes .now) (a .edges .now) (a .ends .now) (a .heads .now) (a .landings .now) (a .roots .now) (a .guards .now) (a .bases .now) (a .returns .now) (a .stored)) (λ k. k) [] (busy .result) (a .blocks) (busy-quiet m (a .nodes .now) (a .edges .now) (a .ends .now) (a .heads .now) (a .landings .now) (a .roots .now) (a .guards .now) (a .bases .now) (a .returns .now) (a .stored) (a .y .routes .count) (length-records routeFrom (a .s .now) (a .y .routes)) (busy .result) (busy .ensures)) (λ k n h. h) (top .inv .1) _ low _ own (start .pre .5))
+    let room = held-room m _ here _ (joined .if3 .n) (holding-fit m (blockHops m (a .nodes .now) (a .edges .now) (a .ends .now) (a .heads .now) (a .landings .now) (a .roots .now) (a .guards .now) (a .bases .now) (a .returns .now) (a .stored)) (λ k. k) [] (busy .result) (a .blocks) (busy-quiet m (a .nodes .now) (a .edges .now) (a .ends .now) (a .heads .now) (a .landings .now) (a .roots .now) (a .guards .now) (a .bases .now) (a .returns .now) (a .stored) (a .y .routes .count) (length-records routeFrom (a .s .now) (a .y .routes)) (busy .result) (busy .ensures)) (λ k n h. h) (top .inv .1) _ low _ own (start .pre .5)) in
+    (room .0, room .1, room .2, held .holds .ordered .fit)
 
 loop-again : tie.Need-loop-again Inv-loop μ-loop
 loop-again c =

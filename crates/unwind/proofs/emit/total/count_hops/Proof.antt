@@ -2,7 +2,7 @@
 use native.Mathlib.Omega.{arith}
 use Rattle.image.specs.Image.{routesIn}
 use Rattle.graph.specs.Words.{heldIn}
-use Rattle.unwind.proofs.LentLaws.{node-fits}
+use Rattle.unwind.proofs.LentLaws.{node-fits, node-there}
 use Rattle.unwind.proofs.CopiesAre.{counted-all}
 use Rattle.unwind.proofs.MemberLaws.{nodes-sets, block-sets}
 use borrow.Author.Needs.{needs}
@@ -20,6 +20,9 @@ count-blocks-requires c κs =
       start .pre .7,
       rw blocks (block-sets (heldIn (a .g .now) .graph) (routesIn (a .s .now) (a .y)) (a .guards .now) (a .bases .now) (a .returns .now) (a .stored) (start .pre .3) (start .pre .10) (start .pre .9)),
       search needs,
+      start .pre .12,
+      start .pre .13,
+      start .pre .14,
     )
 
 count-nodes-requires : tie.Need-count-nodes-requires
@@ -36,6 +39,8 @@ count-nodes-requires c κs =
       record { edges-few = room .edges-few; ends-few = room .ends-few; room = omega (arith, room .room, c .before .before .before .count-blocks .ensures .long) },
       rw (blocks) (nodes-sets (heldIn (a .g .now) .graph) (routesIn (a .s .now) (a .y)) (a .guards .now) (a .bases .now) (a .parts .now) (a .returns .now) (a .stored) (start .pre .3) (start .pre .8) (start .pre .9)),
       search needs,
+      record { there = node-there (routesIn (a .s .now) (a .y)) (a .nodes .now) (a .edges .now) (a .ends .now) (a .roots .now) (a .stored) t (a .heads .now) (a .landings .now) (start .pre .12) (start .pre .13) },
+      start .pre .14,
     )
 
 returns : tie.Need-returns
