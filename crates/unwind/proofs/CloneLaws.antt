@@ -4,28 +4,34 @@
 --     copies-none, copies-some     the blocks that a node copies
 --     nodeCopies, edges-next, none-next, some-next, count-some, no-edges     the copies of edges by a node more, and by none
 --     set-front, joined-none       the edges out of a set: the lowest block apart, and none
+--     excluding-in                 what is left of a set
 --     rank-few                     a rank is small
 --     copy-in, copy-out            the copy of an edge to a block that is copied, and to another
 -- Assumes nothing.
 use mathlib.Core.Path.{_≡_, refl, sym, ap, ap₂, _∙_}
-use mathlib.Core.Bool.{Bool, true, false, cond}
+use mathlib.Core.Bool.{Bool, true, false, cond, not}
 use mathlib.Core.List.{List, [], _∷_, _++_, map, append-nil}
 use Prim.Native.Nat.{ℕ, zero, suc, _+_, _*_, _≤_, _<_, min}
 use native.Mathlib.Nat.{mul-suc, le-trans}
 use native.Mathlib.Omega.{arith}
 use borrow.Author.Tests.{eq-eqb, ne-eqb}
+use lib.Dec.{eqb}
 use lib.ListN.{length, getD, length-append, length-map}
 use Rattle.graph.specs.declared.record.Edge.{Edge}
 use Rattle.graph.specs.Graph.{Graph}
 use Rattle.graph.specs.Fold.{flat, count}
 use Rattle.graph.specs.BlockSet.{member, excluding}
 use Rattle.graph.proofs.FoldLaws.{flat-more, count-le}
-use Rattle.graph.proofs.BlockLaws.{rank-all}
+use Rattle.graph.proofs.BlockLaws.{member-excluding, rank-all}
 use Rattle.addition.specs.Lists.{keep, joined, upto}
 use Rattle.addition.specs.Part.{outgoing}
 use Rattle.unwind.specs.Placed.{setAt}
 use Rattle.unwind.specs.Clones.{listOf, copiesIn, copyOf, edgeCopies}
+use Rattle.addition.proofs.Lists.{and-both}
 use Rattle.unwind.proofs.ChainLaws.{list-none, list-front}
+
+pub excluding-in : (w : List ℕ) → length w ≡ 16 → (b c : ℕ) → member (excluding w b) c ≡ true → member w c ≡ true
+excluding-in w long b c m = and-both (not (eqb b c)) (member w c) (sym (member-excluding w long b c) ∙ m) .1
 
 -- ---- how many
 

@@ -9,12 +9,12 @@
 --     map-same                     f and g agree on a list
 -- Assumes nothing.
 use mathlib.Core.Path.{_≡_, refl, sym, ap, ap₂, _∙_, subst}
-use mathlib.Core.Bool.{Bool, true, false, cond, not}
+use mathlib.Core.Bool.{Bool, true, false, cond}
 use mathlib.Core.List.{List, [], _∷_, _++_, map, append-nil, append-assoc, map-append, List·Memᴰ·head, List·Memᴰ·tail}
 use Prim.Native.Nat.{ℕ, suc, _+_, _≤_, _<_}
 use native.Mathlib.Nat.{le-trans}
 use native.Mathlib.Omega.{arith}
-use lib.Dec.{eqb, ltb}
+use lib.Dec.{ltb}
 use lib.ListN.{length, getD, take, length-append}
 use lib.Seq.{take-append-le, take-length, getD-take, length-take-le}
 use Rattle.graph.specs.declared.record.Block.{Block}
@@ -28,16 +28,16 @@ use Rattle.graph.specs.Search.{Ends, Linked, Roomy}
 use Rattle.graph.specs.Stored.{more, edgesIn, blocksIn, withBlock, withEdge, Stored}
 use Rattle.graph.specs.Adding.{mores, adding, withBlocks, Added}
 use Rattle.graph.proofs.FoldLaws.{flat-more}
-use Rattle.graph.proofs.BlockLaws.{member-excluding, length-excluding}
+use Rattle.graph.proofs.BlockLaws.{length-excluding}
 use Rattle.graph.proofs.AddingLaws.{added-none, added-then, edge-added, blocks-none, blocks-then, block-one}
 use Rattle.addition.specs.Lists.{joined, upto}
 use Rattle.addition.specs.Part.{outgoing}
 use Rattle.unwind.specs.Placed.{setAt}
 use Rattle.addition.specs.Walk.{_∈_}
 use Rattle.unwind.specs.Clones.{listOf, copiesIn, copyOf, blockCopies, edgeCopies, firstEdges, LinkedTo}
-use Rattle.addition.proofs.Lists.{and-both, keep-mem}
+use Rattle.addition.proofs.Lists.{keep-mem}
 use Rattle.unwind.proofs.ChainLaws.{chain, OnChain, chain-start, chain-next, chain-none, list-none, list-front}
-use Rattle.unwind.proofs.CloneLaws.{copies-none, copies-some, none-next, some-next}
+use Rattle.unwind.proofs.CloneLaws.{excluding-in, copies-none, copies-some, none-next, some-next}
 
 -- ---- what stood is as it was
 
@@ -133,7 +133,7 @@ module _ (l₀ l w left : List ℕ) (p : BlocksGoing l₀ l w left) where
       let same : r ≡ block g b = read ∙ blocks-kept (p .done) (p .stored) b (p .inside b is) in
       record {
         long = length-excluding left b ∙ p .long;
-        inside = λ c m. p .inside c (and-both (not (eqb b c)) (member left c) (sym (member-excluding left (p .long) b c) ∙ m) .1);
+        inside = λ c m. p .inside c (excluding-in left (p .long) b c m);
         done = p .done ++ (block g b ∷ []);
         stored = blocks-then (p .done) (block g b ∷ []) (p .stored) (block-one (block g b) (rw same at st));
         rest = append-assoc (p .done) (block g b ∷ []) _ ∙ ap (λ (k : List ℕ). p .done ++ map (block g) k) (sym (list-front left b (p .long) h is low)) ∙ p .rest;
@@ -231,13 +231,14 @@ module _ (m base : ℕ) (w : List ℕ) where
 
   pub record SetGoing (l₀ l left : List ℕ) : Type 0 where
     pub long : length left ≡ 16
+    pub within : (c : ℕ) → member left c ≡ true → member w c ≡ true
     pub done : List ℕ
     pub added : Added l₀ l (joined (copiesFrom l₀) done) [] []
     pub rest : done ++ listOf left ≡ listOf w
 
   pub set-start : (l : List ℕ) → length w ≡ 16 → SetGoing l l w
   unfolding joined
-  set-start l long = record { long = long; done = []; added = added-none l; rest = refl }
+  set-start l long = record { long = long; within = λ c m. m; done = []; added = added-none l; rest = refl }
 
   module _ (l₀ l left : List ℕ) (p : SetGoing l₀ l left) where
     pub set-end : ((c : ℕ) → member left c ≡ false) → Added l₀ l (joined (copiesFrom l₀) (listOf w)) [] []
@@ -250,6 +251,7 @@ module _ (m base : ℕ) (w : List ℕ) where
         let same : copiesFrom l b ≡ copiesFrom l₀ b = ap (λ (g : Graph). map (copyOf base w) (outgoing g b)) (first-kept (p .added) m stood) in
         record {
           long = length-excluding left b ∙ p .long;
+          within = λ c m. p .within c (excluding-in left (p .long) b c m);
           done = p .done ++ (b ∷ []);
           added = rw (joined-append (copiesFrom l₀) (p .done) (b ∷ []) ∙ ap (λ (k : List Edge). joined (copiesFrom l₀) (p .done) ++ k) (append-nil (copiesFrom l₀ b))) (added-then (p .added) (rw same at a));
           rest = append-assoc (p .done) (b ∷ []) _ ∙ ap (λ (k : List ℕ). p .done ++ k) (sym (list-front left b (p .long) h is low)) ∙ p .rest;

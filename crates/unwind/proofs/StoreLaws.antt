@@ -160,14 +160,17 @@ module _ (w : List ℕ) (m : RouteImage) {nodes edges ends roots head next bases
         i .guards-fit,
       )
 
-  pub links-lent : Ends g × links.Roomy g head next × Linked g head next 0 × (c .nodes ≤ 1024) × (16 * c .nodes ≤ length parts)
-  links-lent = (stands-of (heldIn w) (x .graphed) .ends, x .links, x .linked, omega (arith, x .instances .trie .nodes-most), x .instances .slots .parts-fit)
-
   all-nodes : length z ≡ c .nodes
   all-nodes = ap length (sym (x .instances .trie .nodes-are)) ∙ length-nodes m nodes edges ends (c .nodes)
 
   few : length (g .blocks) ≤ 1024
   few = omega (arith, x .instances .bounded .few)
+
+  sets-here : SetsIn g parts (c .nodes)
+  sets-here = sets-in g few (x .instances .bounded .some) rs z bases heads parts returns (c .nodes) (x .instances .placed) (x .instances .slots .parts-fit)
+
+  pub links-lent : Ends g × links.Roomy g head next × Linked g head next 0 × (c .nodes ≤ 1024) × (16 * c .nodes ≤ length parts) × SetsIn g parts (c .nodes) × (c .nodes ≤ length bases)
+  links-lent = (stands-of (heldIn w) (x .graphed) .ends, x .links, x .linked, omega (arith, x .instances .trie .nodes-most), x .instances .slots .parts-fit, sets-here, x .instances .slots .bases-fit)
 
   edges-copied : edgeCopies g bases parts (c .nodes) ≡ newEdges
   edges-copied = edges-are g few (x .instances .bounded .some) rs z bases heads parts returns (c .nodes) (x .instances .placed) all-nodes
@@ -225,9 +228,7 @@ module _ (w : List ℕ) (m : RouteImage) {nodes edges ends roots head next bases
     blocks-stood = ap (λ (h : Held). h .graph .blocks) (cloned .stored .holds)
 
     pub sets-stood : SetsIn (heldIn w₁ .graph) parts (c .nodes)
-    sets-stood =
-        let sets = sets-in g few (x .instances .bounded .some) rs z bases heads parts returns (c .nodes) (x .instances .placed) (x .instances .slots .parts-fit) in
-        record { fit = sets .fit; stand = λ i b h k. rw blocks-stood (sets .stand i b h k) }
+    sets-stood = record { fit = sets-here .fit; stand = λ i b h k. rw blocks-stood (sets-here .stand i b h k) }
 
     copies-same : blockCopies (heldIn w₁ .graph) bases parts (c .nodes) ≡ newBlocks
     unfolding blockCopies

@@ -98,6 +98,11 @@ pub record NodeFits (edges ends : List ℕ) (x : NodeRecord) : Type 0 where
 abbrev pub NodesFit : List ℕ → List ℕ → List ℕ → ℕ → Type 0
 NodesFit nodes edges ends n = (i : ℕ) → i < n → NodeFits edges ends (recordIn nodes i)
 
+-- node i and its ends stand in the slices
+pub record EndsThere (nodes ends : List ℕ) (i : ℕ) : Type 0 where
+  pub node-in : 6 * i + 6 ≤ length nodes
+  pub ends-in : 3 * (recordIn nodes i .«first_end» + recordIn nodes i .ends) ≤ length ends
+
 -- ---- what is read and stored
 
 -- numbers that a u16 holds

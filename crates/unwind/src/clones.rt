@@ -1,6 +1,6 @@
 // Copies of blocks, and of the edges that go out of them, node by node. `clone_region`.
 use crate::slots::set_at;
-use crate::tries::store::number_at;
+use crate::tries::store::number_in;
 use graph::blockset::Lowest;
 use graph::blockset::has_in;
 use graph::blockset::lowest_in;
@@ -38,12 +38,12 @@ pub fn clone_edge_count(
     parts: &[u64],
     n: usize,
 ) -> usize
-    requires { ⌜ Ends (heldIn (now g) .graph) × Roomy (heldIn (now g) .graph) (now head) (now next) × Linked (heldIn (now g) .graph) (now head) (now next) 0 × (n ≤ 1024) × (16 * n ≤ length (now parts)) ⌝ }
+    requires { ⌜ Ends (heldIn (now g) .graph) × Roomy (heldIn (now g) .graph) (now head) (now next) × Linked (heldIn (now g) .graph) (now head) (now next) 0 × (n ≤ 1024) × (16 * n ≤ length (now parts)) × SetsIn (heldIn (now g) .graph) (now parts) n × (n ≤ length (now bases)) ⌝ }
     ensures { λ r. ⌜ r ≡ length (edgeCopies (heldIn (now (g .entry)) .graph) (now (bases .entry)) (now (parts .entry)) n) ⌝ }
 {
     let mut count = 0;
     for i in 0..n {
-        if number_at(bases, i) != 0 {
+        if number_in(bases, i) != 0 {
             let part = set_at(parts, i);
             count += edges_out(g, head, next, &part);
         }
@@ -53,7 +53,7 @@ pub fn clone_edge_count(
 
 // How many edges go out of the blocks of a set.
 fn edges_out(g: &Words, head: &[u16], next: &[u16], set: &[u64; 16]) -> usize
-    requires { ⌜ Ends (heldIn (now g) .graph) × Roomy (heldIn (now g) .graph) (now head) (now next) × Linked (heldIn (now g) .graph) (now head) (now next) 0 ⌝ }
+    requires { ⌜ Ends (heldIn (now g) .graph) × Roomy (heldIn (now g) .graph) (now head) (now next) × Linked (heldIn (now g) .graph) (now head) (now next) 0 × ((b : ℕ) → member (now set) b ≡ true → b < length (now head)) ⌝ }
     ensures { λ r. ⌜ (r ≡ length (joined (outgoing (heldIn (now (g .entry)) .graph)) (listOf (now (set .entry))))) × (r ≤ 4194304) ⌝ }
 {
     sixteen(set);
@@ -70,14 +70,14 @@ fn edges_out(g: &Words, head: &[u16], next: &[u16], set: &[u64; 16]) -> usize
 
 // How many edges go out of block b.
 fn out_degree(g: &Words, head: &[u16], next: &[u16], b: usize) -> usize
-    requires { ⌜ Ends (heldIn (now g) .graph) × Roomy (heldIn (now g) .graph) (now head) (now next) × Linked (heldIn (now g) .graph) (now head) (now next) 0 ⌝ }
+    requires { ⌜ Ends (heldIn (now g) .graph) × Roomy (heldIn (now g) .graph) (now head) (now next) × Linked (heldIn (now g) .graph) (now head) (now next) 0 × (b < length (now head)) ⌝ }
     ensures { λ r. ⌜ (r ≡ length (outgoing (heldIn (now (g .entry)) .graph) b)) × (r ≤ 4096) ⌝ }
 {
     let mut count = 0;
-    let mut at = number_at(head, b);
+    let mut at = number_in(head, b);
     while at != 0 {
         count += 1;
-        at = number_at(next, at - 1);
+        at = number_in(next, at - 1);
     }
     count
 }
@@ -91,12 +91,12 @@ pub fn add_clone_edges(
     parts: &[u64],
     n: usize,
 )
-    requires { ⌜ Ends (heldIn (now g) .graph) × Roomy (heldIn (now g) .graph) (now head) (now next) × Linked (heldIn (now g) .graph) (now head) (now next) 0 × (16 * n ≤ length (now parts)) ⌝ }
+    requires { ⌜ Ends (heldIn (now g) .graph) × Roomy (heldIn (now g) .graph) (now head) (now next) × Linked (heldIn (now g) .graph) (now head) (now next) 0 × (16 * n ≤ length (now parts)) × SetsIn (heldIn (now g) .graph) (now parts) n × (n ≤ length (now bases)) ⌝ }
     ensures { λ _. ⌜ Added (now (g .entry)) (now (g .exit)) (edgeCopies (heldIn (now (g .entry)) .graph) (now (bases .entry)) (now (parts .entry)) n) [] [] ⌝ }
 {
     let m = edge_count(g);
     for i in 0..n {
-        let base = number_at(bases, i);
+        let base = number_in(bases, i);
         if base != 0 {
             let part = set_at(parts, i);
             copy_edges(g, m, head, next, base, &part);
@@ -106,7 +106,7 @@ pub fn add_clone_edges(
 
 // Adds those of the edges out of the blocks of a set, of which the first is copied as block `base`. The first m edges are linked.
 fn copy_edges(g: &mut Words, m: usize, head: &[u16], next: &[u16], base: usize, set: &[u64; 16])
-    requires { ⌜ LinkedTo (heldIn (now g) .graph) m (now head) (now next) × (base < 65536) ⌝ }
+    requires { ⌜ LinkedTo (heldIn (now g) .graph) m (now head) (now next) × (base < 65536) × ((b : ℕ) → member (now set) b ≡ true → b < length (now head)) ⌝ }
     ensures { λ _. ⌜ Added (now (g .entry)) (now (g .exit)) (joined (λ b. map (copyOf base (now (set .entry))) (outgoing (firstEdges (heldIn (now (g .entry)) .graph) m) b)) (listOf (now (set .entry)))) [] [] ⌝ }
 {
     sixteen(set);
@@ -130,15 +130,15 @@ fn copy_from(
     set: &[u64; 16],
     b: usize,
 )
-    requires { ⌜ LinkedTo (heldIn (now g) .graph) m (now head) (now next) × (base < 65536) ⌝ }
+    requires { ⌜ LinkedTo (heldIn (now g) .graph) m (now head) (now next) × (base < 65536) × (b < length (now head)) ⌝ }
     ensures { λ _. ⌜ Added (now (g .entry)) (now (g .exit)) (map (copyOf base (now (set .entry))) (outgoing (firstEdges (heldIn (now (g .entry)) .graph) m) b)) [] [] ⌝ }
 {
-    let mut at = number_at(head, b);
+    let mut at = number_in(head, b);
     while at != 0 {
         let e = at - 1;
         let copy = copy_of(base, set, edge_in(g, e));
         add_edge(g, copy);
-        at = number_at(next, e);
+        at = number_in(next, e);
     }
 }
 
@@ -168,11 +168,11 @@ fn copy_of(base: usize, set: &[u64; 16], e: Edge) -> Edge
 
 // Adds the copies of the blocks of n nodes.
 pub fn add_clone_blocks(g: &mut Words, bases: &[u16], parts: &[u64], n: usize)
-    requires { ⌜ SetsIn (heldIn (now g) .graph) (now parts) n ⌝ }
+    requires { ⌜ SetsIn (heldIn (now g) .graph) (now parts) n × (n ≤ length (now bases)) ⌝ }
     ensures { λ _. ⌜ Stored (now (g .entry)) (now (g .exit)) (withBlocks (heldIn (now (g .entry))) (blockCopies (heldIn (now (g .entry)) .graph) (now (bases .entry)) (now (parts .entry)) n)) ⌝ }
 {
     for i in 0..n {
-        if number_at(bases, i) != 0 {
+        if number_in(bases, i) != 0 {
             let part = set_at(parts, i);
             copy_blocks(g, &part);
         }

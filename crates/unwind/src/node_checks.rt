@@ -2,15 +2,16 @@
 use crate::checks::check_lead;
 use crate::routes::path_of;
 use crate::routes::step_of;
-use crate::tries::store::branch_at;
-use crate::tries::store::node_at;
+use crate::tries::store::branch_in;
+use crate::tries::store::node_in;
 use graph::error::Checked;
 use graph::resume::HANDLER;
 use graph::store::Words;
 use image::section::RouteLayout;
 ghost use mathlib.Core.Path.{_≡_};
 ghost use mathlib.Core.List.{List};
-ghost use Prim.Native.Nat.{ℕ, _+_, _<_};
+ghost use Prim.Native.Nat.{ℕ, _+_, _*_, _≤_, _<_};
+ghost use lib.ListN.{length};
 ghost use Rattle.image.specs.Image.{routesIn};
 ghost use Rattle.image.specs.Deal.{endOf};
 ghost use Rattle.image.specs.There.{RoutesThere};
@@ -20,7 +21,7 @@ ghost use Rattle.graph.specs.Fold.{checks};
 ghost use Rattle.graph.specs.WellFormed.{Built};
 ghost use Rattle.unwind.specs.Stands.{Stands};
 ghost use Rattle.addition.specs.Trie.{nodeAt};
-ghost use Rattle.unwind.specs.Nodes.{branchIn, pathRecord, funcletIn, recordIn, nodeIn, nodesIn};
+ghost use Rattle.unwind.specs.Nodes.{branchIn, pathRecord, funcletIn, recordIn, nodeIn, nodesIn, EndsThere};
 ghost use Rattle.addition.specs.Add.{funcletCheck, endCheck, nodeCheck};
 
 // The first refusal among those of the n nodes, whatever their edges.
@@ -34,7 +35,7 @@ pub fn check_nodes(
     ends: &[u16],
     n: usize,
 ) -> Checked
-    requires { ⌜ Stands (heldIn (now g) .graph) × Built (heldIn (now g) .graph) built × RoutesThere (now s) y ⌝ }
+    requires { ⌜ Stands (heldIn (now g) .graph) × Built (heldIn (now g) .graph) built × RoutesThere (now s) y × ((i : ℕ) → i < n → EndsThere (now nodes) (now ends) i) ⌝ }
     ensures { λ r. ⌜ ((edges : List ℕ) → checkOf r ≡ checks (λ i. nodeCheck (heldIn (now (g .entry)) .graph) (nodeAt (nodesIn (routesIn (now (s .entry)) y) (now (nodes .entry)) edges (now (ends .entry)) n) i)) n) ⌝ }
 {
     for i in 0..n {
@@ -57,10 +58,10 @@ fn check_node(
     ends: &[u16],
     i: usize,
 ) -> Checked
-    requires { ⌜ Stands (heldIn (now g) .graph) × Built (heldIn (now g) .graph) built × RoutesThere (now s) y ⌝ }
+    requires { ⌜ Stands (heldIn (now g) .graph) × Built (heldIn (now g) .graph) built × RoutesThere (now s) y × EndsThere (now nodes) (now ends) i ⌝ }
     ensures { λ r. ⌜ ((edges : List ℕ) → checkOf r ≡ nodeCheck (heldIn (now (g .entry)) .graph) (nodeIn (routesIn (now (s .entry)) y) edges (now (ends .entry)) (recordIn (now (nodes .entry)) i))) ⌝ }
 {
-    let x = node_at(nodes, i);
+    let x = node_in(nodes, i);
     let found = check_funclet(g, built, hints, s, y, x.funclet);
     let Checked::Clear = found else {
         return found;
@@ -97,11 +98,11 @@ fn check_ends(
     first: usize,
     n: usize,
 ) -> Checked
-    requires { ⌜ Stands (heldIn (now g) .graph) × Built (heldIn (now g) .graph) built × (first < 65536) × (n < 65536) × RoutesThere (now s) y ⌝ }
+    requires { ⌜ Stands (heldIn (now g) .graph) × Built (heldIn (now g) .graph) built × (first < 65536) × (n < 65536) × RoutesThere (now s) y × (3 * (first + n) ≤ length (now ends)) ⌝ }
     ensures { λ r. ⌜ checkOf r ≡ checks (λ k. endCheck (heldIn (now (g .entry)) .graph) (endOf (pathRecord (routesIn (now (s .entry)) y) (branchIn (now (ends .entry)) (first + k) .what)))) n ⌝ }
 {
     for k in 0..n {
-        let found = check_end(g, built, hints, s, y, branch_at(ends, first + k).what);
+        let found = check_end(g, built, hints, s, y, branch_in(ends, first + k).what);
         let Checked::Clear = found else {
             return found;
         };

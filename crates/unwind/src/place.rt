@@ -6,7 +6,7 @@ use crate::routes::step_of;
 use crate::slots::put_set;
 use crate::slots::set_at;
 use crate::tries::store::node_at;
-use crate::tries::store::number_at;
+use crate::tries::store::number_in;
 use graph::blockset::common_of;
 use graph::blockset::rank_in;
 use graph::blockset::size_of;
@@ -114,7 +114,7 @@ fn place_node(
     let f = node_at(nodes, i).funclet;
     let entry = entry_of(g, built, hints, s, y, f);
     let slot = slot_of(f, entry);
-    let first = number_at(firsts, slot);
+    let first = number_in(firsts, slot);
     if first != 0 {
         return place_clone(first - 1, i, base, bases, entries, parts, returns);
     }
@@ -140,7 +140,7 @@ fn place_clone(
 {
     let part = set_at(parts, first);
     let ret = set_at(returns, first);
-    let entry = base + rank_in(&part, number_at(entries, first));
+    let entry = base + rank_in(&part, number_in(entries, first));
     store_node(i, base, entry, &part, &ret, bases, entries, parts, returns);
     size_of(&part)
 }

@@ -5,7 +5,7 @@ use crate::blocks::leading_block;
 use crate::emit::entries::LEAVE;
 use crate::routes::path_of;
 use crate::slots::put_set;
-use crate::tries::store::branch_at;
+use crate::tries::store::branch_in;
 use graph::resume::HANDLER;
 use graph::store::Words;
 use image::access::route_in;
@@ -51,11 +51,11 @@ pub fn land_ends(
     n: usize,
     landings: &mut [u16],
 )
-    requires { ⌜ Stands (heldIn (now g) .graph) × Built (heldIn (now g) .graph) built × (n ≤ length (now landings)) × RoutesThere (now s) y ⌝ }
+    requires { ⌜ Stands (heldIn (now g) .graph) × Built (heldIn (now g) .graph) built × (n ≤ length (now landings)) × RoutesThere (now s) y × (3 * n ≤ length (now ends)) ⌝ }
     ensures { λ _. ⌜ Lands (heldIn (now (g .entry)) .graph) (routesIn (now (s .entry)) y) (now (ends .entry)) (now (landings .exit)) n ⌝ }
 {
     for k in 0..n {
-        let b = land(g, built, hints, s, y, branch_at(ends, k).what);
+        let b = land(g, built, hints, s, y, branch_in(ends, k).what);
         landings[k] = b as u16;
     }
 }

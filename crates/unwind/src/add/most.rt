@@ -1,10 +1,10 @@
 // The most ways out of blocks that routes can give: there are no more hops, lists of hops or route edges.
 use crate::slots::members_of;
-use crate::tries::store::node_at;
-use crate::tries::store::number_at;
+use crate::tries::store::node_in;
+use crate::tries::store::number_in;
 ghost use mathlib.Core.Path.{_≡_};
-ghost use Prim.Native.Nat.{_+_, _*_, _≤_};
-ghost use lib.ListN.{length};
+ghost use Prim.Native.Nat.{ℕ, _+_, _*_, _≤_, _<_};
+ghost use lib.ListN.{length, getD};
 ghost use Rattle.unwind.specs.Most.{waysOf, guardedWays, returnedWays};
 
 // Of each route out of the blocks that it guards, and of each node out of those from which it returns.
@@ -17,7 +17,7 @@ pub fn most_ways(
     n: usize,
     blocks: usize,
 ) -> usize
-    requires { ⌜ (routes ≤ 1024) × (n ≤ 1024) × (blocks ≤ 1024) × (16 * routes ≤ length (now guards)) × (16 * n ≤ length (now returns)) ⌝ }
+    requires { ⌜ (routes ≤ 1024) × (n ≤ 1024) × (blocks ≤ 1024) × (16 * routes ≤ length (now guards)) × (16 * n ≤ length (now returns)) × ((r : ℕ) → r < routes → 6 * getD (now roots) r 0 + 6 ≤ length (now nodes)) × (routes ≤ length (now roots)) × (6 * n ≤ length (now nodes)) ⌝ }
     ensures { λ r. ⌜ guardedWays (now (nodes .entry)) (now (roots .entry)) (now (guards .entry)) blocks routes + returnedWays (now (nodes .entry)) (now (returns .entry)) blocks n ≤ r ⌝ }
 {
     most_guarded(nodes, roots, guards, routes, blocks) + most_returned(nodes, returns, n, blocks)
@@ -25,19 +25,19 @@ pub fn most_ways(
 
 // Those of the routes.
 fn most_guarded(nodes: &[u16], roots: &[u16], guards: &[u64], routes: usize, blocks: usize) -> usize
-    requires { ⌜ (routes ≤ 1024) × (blocks ≤ 1024) × (16 * routes ≤ length (now guards)) ⌝ }
+    requires { ⌜ (routes ≤ 1024) × (blocks ≤ 1024) × (16 * routes ≤ length (now guards)) × ((r : ℕ) → r < routes → 6 * getD (now roots) r 0 + 6 ≤ length (now nodes)) × (routes ≤ length (now roots)) ⌝ }
     ensures { λ r. ⌜ (guardedWays (now (nodes .entry)) (now (roots .entry)) (now (guards .entry)) blocks routes ≤ r) × (r ≤ 134217728 * routes) ⌝ }
 {
     let mut most = 0;
     for r in 0..routes {
-        most += ways_of(nodes, number_at(roots, r)) * members_of(guards, r, blocks);
+        most += ways_of(nodes, number_in(roots, r)) * members_of(guards, r, blocks);
     }
     most
 }
 
 // Those of the n nodes.
 fn most_returned(nodes: &[u16], returns: &[u64], n: usize, blocks: usize) -> usize
-    requires { ⌜ (n ≤ 1024) × (blocks ≤ 1024) × (16 * n ≤ length (now returns)) ⌝ }
+    requires { ⌜ (n ≤ 1024) × (blocks ≤ 1024) × (16 * n ≤ length (now returns)) × (6 * n ≤ length (now nodes)) ⌝ }
     ensures { λ r. ⌜ (returnedWays (now (nodes .entry)) (now (returns .entry)) blocks n ≤ r) × (r ≤ 134217728 * n) ⌝ }
 {
     let mut most = 0;
@@ -49,8 +49,9 @@ fn most_returned(nodes: &[u16], returns: &[u64], n: usize, blocks: usize) -> usi
 
 // How many ways node i has out of one block.
 fn ways_of(nodes: &[u16], i: usize) -> usize
+    requires { ⌜ 6 * i + 6 ≤ length (now nodes) ⌝ }
     ensures { λ r. ⌜ (r ≡ waysOf (now (nodes .entry)) i) × (r ≤ 131072) ⌝ }
 {
-    let x = node_at(nodes, i);
+    let x = node_in(nodes, i);
     x.edges + x.ends
 }

@@ -23,23 +23,23 @@ loop-holds : tie.Need-loop-holds Inv-loop μ-loop
 loop-holds c = let a = c .before .before .args in (omega arith, no-blocks (a .g .now) (a .bases .now) (a .parts .now))
 
 set-at-requires : tie.Need-set-at-requires Inv-loop μ-loop
-set-at-requires c κs = omega (arith, c .before .before .before .before .before .before .pre .fit)
+set-at-requires c κs = omega (arith, c .before .before .before .before .before .before .pre .0 .fit)
 
 copy-blocks-requires : tie.Need-copy-blocks-requires Inv-loop μ-loop
 copy-blocks-requires c κs =
     let a = c .before .before .before .before .before .before .before .before .before .args in
     let top = c .before .before .before .before .before .before .loop in
-    rw (c .before .before .set-at .ensures) (λ b m. le-trans (c .before .before .before .before .before .before .before .before .before .pre .stand (top .i) b (c .before .before .before .before .before .loop-test .taken) m) (blocks-grow (blockCopies (heldIn (a .g .now) .graph) (a .bases .now) (a .parts .now) (top .i)) (top .inv .1)))
+    rw (c .before .before .set-at .ensures) (λ b m. le-trans (c .before .before .before .before .before .before .before .before .before .pre .0 .stand (top .i) b (c .before .before .before .before .before .loop-test .taken) m) (blocks-grow (blockCopies (heldIn (a .g .now) .graph) (a .bases .now) (a .parts .now) (top .i)) (top .inv .1)))
 
 loop-again : tie.Need-loop-again Inv-loop μ-loop
 loop-again c =
     let a = c .before .before .before .before .before .before .args in
     let top = c .before .before .before .loop in
-    let base = c .before .number-at .ensures .0 in (
+    let base = c .before .number-in .ensures .0 in (
       omega arith,
       ⊎-elim
           (λ w. rw (w .5)
-          (node-blocks (a .g .now) (top .g) (a .bases .now) (a .parts .now) (top .i) (top .inv .1) (λ e. w .0 .taken (base ∙ e)) (λ b m. c .before .before .before .before .before .before .pre .stand (top .i) b (c .before .before .loop-test .taken) m) _ (rw (w .1 .ensures) at (w .4 .ensures))))
+          (node-blocks (a .g .now) (top .g) (a .bases .now) (a .parts .now) (top .i) (top .inv .1) (λ e. w .0 .taken (base ∙ e)) (λ b m. c .before .before .before .before .before .before .pre .0 .stand (top .i) b (c .before .before .loop-test .taken) m) _ (rw (w .1 .ensures) at (w .4 .ensures))))
           (λ w. rw (w .1) (node-skips (a .g .now) (top .g) (a .bases .now) (a .parts .now) (top .i) (top .inv .1) (sym base ∙ w .0 .left)))
           (c .if1 .came),
     )

@@ -30,14 +30,15 @@ copy-edges-requires c κs =
     let pre = c .before .before .before .before .before .before .before .before .before .before .before .before .before .pre in
     let g = heldIn (a .g .now) .graph in (
       linked-kept (c .before .before .before .before .before .before .loop .inv .1) _ (a .head .now) (a .next .now) (rw (c .before .before .before .before .before .before .before .edge-count .ensures) (linked-start g (a .head .now) (a .next .now) (pre .0) (pre .1) (pre .2))),
-      c .before .before .before .before .number-at .ensures .1,
+      c .before .before .before .before .number-in .ensures .1,
+      rw (c .before .before .set-at .ensures) (λ b m. omega (arith, pre .4 .stand (c .before .before .before .before .before .before .loop .i) b (c .before .before .before .before .before .loop-test .taken) m, pre .1 .blocks)),
     )
 
 loop-again : tie.Need-loop-again Inv-loop μ-loop
 loop-again c =
     let a = c .before .before .before .before .before .before .before .before .before .before .args in
     let top = c .before .before .before .loop in
-    let base = c .before .number-at .ensures .0 in (
+    let base = c .before .number-in .ensures .0 in (
       omega arith,
       ⊎-elim
           (λ w. rw (w .5)

@@ -24,7 +24,11 @@ set-at-requires : tie.Need-set-at-requires Inv-loop μ-loop
 set-at-requires c κs = omega (arith, c .before .before .before .before .before .before .before .before .pre .4)
 
 edges-out-requires : tie.Need-edges-out-requires Inv-loop μ-loop
-edges-out-requires c κs = let pre = c .before .before .before .before .before .before .before .before .before .before .pre in (pre .0, pre .1, pre .2)
+edges-out-requires c κs =
+    let pre = c .before .before .before .before .before .before .before .before .before .before .pre in
+    let top = c .before .before .before .before .before .loop in
+    let test = c .before .before .before .before .loop-test .taken in
+    (pre .0, pre .1, pre .2, rw (c .before .set-at .ensures) (λ b m. omega (arith, pre .5 .stand (top .i) b test m, pre .1 .blocks)))
 
 add-count : tie.Need-add-count Inv-loop μ-loop
 add-count c = omega (arith, c .before .before .before .before .before .before .loop .inv .1, c .edges-out .ensures .1, c .before .before .before .before .before .before .before .before .before .before .before .pre .3)
@@ -34,7 +38,7 @@ loop-again c =
     let a = c .before .before .before .before .before .before .before .before .args in
     let g = heldIn (a .g .now) .graph in
     let top = c .before .before .before .loop in
-    let base = c .before .number-at .ensures .0 in
+    let base = c .before .number-in .ensures .0 in
     ⊎-elim
     (λ w.
     let out = rw (w .1 .ensures) at (w .3 .ensures .0) in

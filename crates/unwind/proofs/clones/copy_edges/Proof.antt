@@ -26,7 +26,9 @@ copy-from-requires : tie.Need-copy-from-requires Inv-loop μ-loop
 copy-from-requires c κs =
     let a = c .before .before .before .before .before .before .before .before .before .before .before .before .before .args in
     let pre = c .before .before .before .before .before .before .before .before .before .before .before .before .before .pre in
-    (linked-kept (c .before .before .before .before .before .before .before .before .loop .inv .added) (a .m) (a .head .now) (a .next .now) (pre .0), pre .1)
+    let top = c .before .before .before .before .before .before .before .before .loop in
+    let low = rw (c .before .before .before .before .b .given .1) at (c .before .before .before .before .before .before .lowest-in .ensures) in
+    (linked-kept (top .inv .added) (a .m) (a .head .now) (a .next .now) (pre .0), pre .1, pre .2 _ (top .inv .within _ (low .1)))
 
 loop-less : tie.Need-loop-less Inv-loop μ-loop
 loop-less c =

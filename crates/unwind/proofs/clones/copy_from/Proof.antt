@@ -19,7 +19,7 @@ abbrev μ-loop : tie.MeasureT-loop
 loop-holds : tie.Need-loop-holds Inv-loop μ-loop
 loop-holds c =
     let a = c .before .before .before .args in
-    edges-start (a .m) (a .base) (a .set .now) (a .b) (a .g .now) (a .head .now) (a .next .now) (c .before .before .before .pre .0) _ (c .number-at .ensures .0)
+    edges-start (a .m) (a .base) (a .set .now) (a .b) (a .g .now) (a .head .now) (a .next .now) (c .before .before .before .pre .0) _ (c .number-in .ensures .0)
 
 sub-e : tie.Need-sub-e Inv-loop μ-loop
 sub-e c = let ne = c .loop-test .taken in omega arith
@@ -35,12 +35,19 @@ edge-in-requires c κs =
 copy-of-requires : tie.Need-copy-of-requires Inv-loop μ-loop
 copy-of-requires c κs = c .before .before .before .before .before .before .before .pre .1
 
+number-in-requires-2 : tie.Need-number-in-requires-2 Inv-loop μ-loop
+number-in-requires-2 c κs =
+    let top = c .before .before .before .before .before .before .loop in
+    let ne = c .before .before .before .before .before .loop-test .taken in
+    let here = top .inv .on .here (top .at - 1) (omega arith) in
+    omega (arith, here .0, c .before .before .before .before .before .before .before .before .before .before .pre .0 .roomy .edges)
+
 loop-less : tie.Need-loop-less Inv-loop μ-loop
 loop-less c =
     let a = c .before .before .before .before .before .before .before .before .before .before .before .args in
     let top = c .before .before .before .before .before .before .before .loop in
     let ne = c .before .before .before .before .before .before .loop-test .taken in
-    let less = chain-less (a .m) (a .base) (a .set .now) (a .b) (a .g .now) (a .head .now) (a .next .now) (c .before .before .before .before .before .before .before .before .before .before .before .pre .0) (top .g) (top .at) (top .inv) (top .at - 1) _ (omega arith) (c .number-at2 .ensures .0) in
+    let less = chain-less (a .m) (a .base) (a .set .now) (a .b) (a .g .now) (a .head .now) (a .next .now) (c .before .before .before .before .before .before .before .before .before .before .before .pre .0) (top .g) (top .at) (top .inv) (top .at - 1) _ (omega arith) (c .number-in2 .ensures .0) in
     omega (arith, less)
 
 loop-again : tie.Need-loop-again Inv-loop μ-loop
@@ -48,7 +55,7 @@ loop-again c =
     let a = c .before .before .before .before .before .before .before .before .before .before .before .args in
     let top = c .before .before .before .before .before .before .before .loop in
     let ne = c .before .before .before .before .before .before .loop-test .taken in
-    edges-next (a .m) (a .base) (a .set .now) (a .b) (a .g .now) (a .head .now) (a .next .now) (c .before .before .before .before .before .before .before .before .before .before .before .pre .0) (top .g) (top .at) (top .inv) (top .at - 1) _ (omega arith) (c .number-at2 .ensures .0)
+    edges-next (a .m) (a .base) (a .set .now) (a .b) (a .g .now) (a .head .now) (a .next .now) (c .before .before .before .before .before .before .before .before .before .before .before .pre .0) (top .g) (top .at) (top .inv) (top .at - 1) _ (omega arith) (c .number-in2 .ensures .0)
     _ _ _ (c .before .before .before .before .edge-in .ensures) (c .before .before .before .copy-of .ensures) (c .before .add-edge .ensures)
 
 returns : tie.Need-returns Inv-loop μ-loop
@@ -69,7 +76,7 @@ copy-from-spec =
     edge-in-requires
     copy-of-requires
     (λ c κs. search needs)
-    (λ c κs. search needs)
+    number-in-requires-2
     loop-less
     loop-again
     returns)

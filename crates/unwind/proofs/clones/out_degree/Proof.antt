@@ -22,27 +22,34 @@ loop-holds : tie.Need-loop-holds Inv-loop μ-loop
 loop-holds c =
     let a = c .before .before .before .args in
     let pre = c .before .before .before .pre in
-    let s = chain-start (heldIn (a .g .now) .graph) (a .b) (a .head .now) (a .next .now) (pre .0) (pre .1) (pre .2) _ (c .number-at .ensures .0) in
+    let s = chain-start (heldIn (a .g .now) .graph) (a .b) (a .head .now) (a .next .now) (pre .0) (pre .1) (pre .2) _ (c .number-in .ensures .0) in
     (s .0, omega (arith, ap length (s .1)))
 
 -- one link further
-further : (c : tie.After-number-at2 Inv-loop μ-loop) → let a = c .before .before .before .before .before .before .args in let at = c .before .before .loop .at in
-    OnChain (heldIn (a .g .now) .graph) (a .b) (c .number-at2 .result) × (length (chain (heldIn (a .g .now) .graph) (a .b) at) ≡ 1 + length (chain (heldIn (a .g .now) .graph) (a .b) (c .number-at2 .result)))
+further : (c : tie.After-number-in2 Inv-loop μ-loop) → let a = c .before .before .before .before .before .before .args in let at = c .before .before .loop .at in
+    OnChain (heldIn (a .g .now) .graph) (a .b) (c .number-in2 .result) × (length (chain (heldIn (a .g .now) .graph) (a .b) at) ≡ 1 + length (chain (heldIn (a .g .now) .graph) (a .b) (c .number-in2 .result)))
 further c =
     let a = c .before .before .before .before .before .before .args in
     let pre = c .before .before .before .before .before .before .pre in
     let top = c .before .before .loop in
     let ne = c .before .loop-test .taken in
-    let s = chain-next (heldIn (a .g .now) .graph) (a .b) (a .head .now) (a .next .now) (pre .0) (pre .1) (pre .2) (top .at) (top .at - 1) (c .number-at2 .result) (omega arith) (top .inv .0) (c .number-at2 .ensures .0) in
+    let s = chain-next (heldIn (a .g .now) .graph) (a .b) (a .head .now) (a .next .now) (pre .0) (pre .1) (pre .2) (top .at) (top .at - 1) (c .number-in2 .result) (omega arith) (top .inv .0) (c .number-in2 .ensures .0) in
     (s .0, ap length (s .1) ∙ omega arith)
+
+number-in-requires-2 : tie.Need-number-in-requires-2 Inv-loop μ-loop
+number-in-requires-2 c κs =
+    let top = c .before .loop in
+    let ne = c .loop-test .taken in
+    let here = top .inv .0 .here (top .at - 1) (omega arith) in
+    omega (arith, here .0, c .before .before .before .before .before .pre .1 .edges)
 
 add-count : tie.Need-add-count Inv-loop μ-loop
 add-count c =
     let a = c .before .before .before .before .before .args in
     omega (arith, c .before .loop .inv .1, out-most (heldIn (a .g .now) .graph) (a .b), edge-most (a .g .now))
 
-sub-number-at : tie.Need-sub-number-at Inv-loop μ-loop
-sub-number-at c = let ne = c .loop-test .taken in omega arith
+sub-number-in : tie.Need-sub-number-in Inv-loop μ-loop
+sub-number-in c = let ne = c .loop-test .taken in omega arith
 
 loop-less : tie.Need-loop-less Inv-loop μ-loop
 loop-less c = omega (arith, further c .1)
@@ -66,8 +73,8 @@ out-degree-spec =
     (λ c κs. search needs)
     loop-holds
     add-count
-    sub-number-at
-    (λ c κs. search needs)
+    sub-number-in
+    number-in-requires-2
     loop-less
     loop-again
     returns)

@@ -22,22 +22,22 @@ loop-holds : tie.Need-loop-holds Inv-loop μ-loop
 unfolding checks
 loop-holds c = (omega arith, refl)
 
-add-branch-at : tie.Need-add-branch-at Inv-loop μ-loop
-add-branch-at c = let pre = c .before .before .before .before .before .pre in omega (arith, pre .2, pre .3)
+add-branch-in : tie.Need-add-branch-in Inv-loop μ-loop
+add-branch-in c = let pre = c .before .before .before .before .before .pre in omega (arith, pre .2, pre .3)
 
 returns : tie.Need-returns Inv-loop μ-loop
 returns c =
     let a = c .before .before .before .before .before .before .before .before .before .args in
     let top = c .before .before .before .before .before .loop in
     let told = ap checkOf (c .enum-told2 .given .1) in
-    let here = rw (c .before .before .before .branch-at .ensures .is) at (c .before .before .check-end .ensures) in
+    let here = rw (c .before .before .before .branch-in .ensures .is) at (c .before .before .check-end .ensures) in
     told ∙ sym (checks-stop (endsCheck (heldIn (a .g .now) .graph) (routesIn (a .s .now) (a .y)) (a .ends .now) (a .first)) (top .k) (a .n) _ (c .before .before .before .before .loop-test .taken) (top .inv .1) (sym here ∙ told))
 
 loop-again : tie.Need-loop-again Inv-loop μ-loop
 loop-again c =
     let a = c .before .before .before .before .before .before .before .before .before .args in
     let top = c .before .before .before .before .before .loop in
-    let here = rw (c .before .before .before .branch-at .ensures .is) at (c .before .before .check-end .ensures) in
+    let here = rw (c .before .before .before .branch-in .ensures .is) at (c .before .before .check-end .ensures) in
     (omega arith, checks-more (endsCheck (heldIn (a .g .now) .graph) (routesIn (a .s .now) (a .y)) (a .ends .now) (a .first)) (top .k) (top .inv .1) ∙ sym here ∙ ap checkOf (c .enum-told .given .1))
 
 returns-2 : tie.Need-returns-2 Inv-loop μ-loop
@@ -53,7 +53,7 @@ check-ends-spec =
     Inv-loop
     μ-loop
     loop-holds
-    add-branch-at
+    add-branch-in
     (λ c κs. search needs)
     (λ c κs. search needs)
     (λ c. search needs)

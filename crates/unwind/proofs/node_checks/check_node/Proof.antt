@@ -14,20 +14,20 @@ returns c =
     let a = c .before .before .before .before .before .before .before .before .args in
     let m = routesIn (a .s .now) (a .y) in
     let told = ap checkOf (c .enum-told2 .given .1) in
-    let funclet = rw (c .before .before .before .node-at .ensures .is) at (sym (c .before .before .check-funclet .ensures) ∙ told) in
+    let funclet = rw (c .before .before .before .node-in .ensures .is) at (sym (c .before .before .check-funclet .ensures) ∙ told) in
     λ edges. told ∙ sym (node-checks (heldIn (a .g .now) .graph) m edges (a .ends .now) (recordIn (a .nodes .now) (a .i)) ∙ rw funclet)
 
 check-ends-requires : tie.Need-check-ends-requires
 check-ends-requires c κs =
     let pre = c .before .before .before .before .before .before .before .before .pre in
-    let small = c .before .before .before .node-at .ensures .small in
-    (pre .0, pre .1, small .first-end, small .ends, search needs)
+    let node = c .before .before .before .node-in .ensures in
+    (pre .0, pre .1, node .small .first-end, node .small .ends, search needs, rw (node .is) (pre .3 .ends-in))
 
 returns-2 : tie.Need-returns-2
 returns-2 c =
     let a = c .before .before .before .before .before .before .before .before .before .args in
     let m = routesIn (a .s .now) (a .y) in
-    let read = c .before .before .before .before .node-at .ensures .is in
+    let read = c .before .before .before .before .node-in .ensures .is in
     let funclet = rw read at (sym (c .before .before .before .check-funclet .ensures) ∙ ap checkOf (c .before .enum-told .given .1)) in
     λ edges. rw read at (c .check-ends .ensures) ∙ sym (node-checks (heldIn (a .g .now) .graph) m edges (a .ends .now) (recordIn (a .nodes .now) (a .i)) ∙ rw funclet)
 

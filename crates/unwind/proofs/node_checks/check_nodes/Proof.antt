@@ -26,6 +26,11 @@ loop-holds : tie.Need-loop-holds Inv-loop μ-loop
 unfolding checks
 loop-holds c = (omega arith, λ edges. refl)
 
+check-node-requires : tie.Need-check-node-requires Inv-loop μ-loop
+check-node-requires c κs =
+    let pre = c .before .before .before .before .before .before .pre in
+    (pre .0, pre .1, pre .2, pre .3 (c .before .loop .i) (c .loop-test .taken))
+
 returns : tie.Need-returns Inv-loop μ-loop
 returns c =
     let a = c .before .before .before .before .before .before .before .before .before .args in
@@ -60,7 +65,7 @@ check-nodes-spec =
     Inv-loop
     μ-loop
     loop-holds
-    (λ c κs. search needs)
+    check-node-requires
     (λ c. search needs)
     (λ c. search needs)
     returns

@@ -40,7 +40,7 @@ same-length-4 c = sizes-kept (c .before .before .before .before .before .before 
 returns : tie.Need-returns
 returns c =
     let part = c .before .before .before .before .before .before .before .before .before .before .before .before .before .before .before .before .before .before .before .before .before .before .before .set-at .ensures in (
-      rw (c .before .before .before .before .before .before .before .before .before .before .before .before .before .before .before .before .before .rank-in .ensures, c .before .before .before .before .before .before .before .before .before .before .before .before .before .before .before .before .before .before .number-at .ensures .0, part, c .before .before .before .before .before .before .before .before .before .before .before .before .before .before .before .before .before .before .before .before .before .set-at2 .ensures) at (c .before .before .before .before .before .before .before .before .before .before .store-node .ensures),
+      rw (c .before .before .before .before .before .before .before .before .before .before .before .before .before .before .before .before .before .rank-in .ensures, c .before .before .before .before .before .before .before .before .before .before .before .before .before .before .before .before .before .before .number-in .ensures .0, part, c .before .before .before .before .before .before .before .before .before .before .before .before .before .before .before .before .before .before .before .before .before .set-at2 .ensures) at (c .before .before .before .before .before .before .before .before .before .before .store-node .ensures),
       rw part at (c .size-of .ensures),
     )
 

@@ -54,7 +54,7 @@ place-clone-requires : tie.Need-place-clone-requires
 place-clone-requires c κs =
     let a = c .before .before .before .before .before .before .before .before .before .before .before .before .before .before .before .before .before .before .before .before .args in
     let pre = c .before .before .before .before .before .before .before .before .before .before .before .before .before .before .before .before .before .before .before .before .pre in
-    (late-lt (heldIn (a .g .now) .graph) (routesIn (a .s .now) (a .y)) (a .nodes .now) (a .firsts .now) (a .i) _ _ (slot (c .before .before .before .before .before .before .before)) (c .before .before .before .before .before .number-at .ensures .0) (pre .1) (pre .3) (c .before .before .before .before .if1 .taken), pre .2, pre .5)
+    (late-lt (heldIn (a .g .now) .graph) (routesIn (a .s .now) (a .y)) (a .nodes .now) (a .firsts .now) (a .i) _ _ (slot (c .before .before .before .before .before .before .before)) (c .before .before .before .before .before .number-in .ensures .0) (pre .1) (pre .3) (c .before .before .before .before .if1 .taken), pre .2, pre .5)
 
 same-length : tie.Need-same-length
 same-length c = sizes-kept (c .before .before .before .before .before .before .before .before .place-clone .ensures .0) .bases-long
@@ -76,7 +76,7 @@ returns c =
     let m = routesIn (a .s .now) (a .y) in
     let taken = c .before .before .before .before .before .before .before .before .before .before .before .before .before .if1 .taken in
     let at = slot (c .before .before .before .before .before .before .before .before .before .before .before .before .before .before .before .before) in
-    let v = c .before .before .before .before .before .before .before .before .before .before .before .before .before .before .number-at .ensures .0 in
+    let v = c .before .before .before .before .before .before .before .before .before .before .before .before .before .before .number-in .ensures .0 in
     let stored = c .before .before .before .before .before .before .before .before .place-clone .ensures in (
       clone-next g m (a .nodes .now) (a .i) _ _ _ _ _ _ _ _ (pre .2) (block-most (a .g .now)) (leads (c .before .before .before .before .before .before .before .before .before .before .before .before .before .before .before .before .before .before .before .before .before .before .before .before .before .before .before .before .before)) (a .base) _
           (late-none g m (a .nodes .now) (a .firsts .now) (a .i) _ _ at v (pre .1) (pre .3) taken)
@@ -88,6 +88,9 @@ returns c =
 
 within : (c : tie.After-slot-of) → c .slot-of .result ≤ length (heldIn (c .before .before .before .before .before .before .before .before .before .before .before .before .before .args .g .now) .graph .blocks)
 within c = rw (slot c) (slot-in (heldIn (c .before .before .before .before .before .before .before .before .before .before .before .before .before .args .g .now) .graph) _ (leads (c .before .before .before .before .before .before .before .before .before .before .before .before .before)))
+
+number-in-requires : tie.Need-number-in-requires
+number-in-requires c κs = omega (arith, within (c .before), c .before .before .before .before .before .before .before .before .before .before .before .before .before .before .pre .3 .room)
 
 mul-firsts : tie.Need-mul-firsts
 mul-firsts c = omega (arith, within (c .before .before .before), block-most (c .before .before .before .before .before .before .before .before .before .before .before .before .before .before .before .before .args .g .now))
@@ -135,7 +138,7 @@ returns-2 c =
     let has = rw f at (part-is g m _ _ _ _ lead (pre .0 .bars) (c .before .before .before .before .before .before .before .before .before .before .before .before .before .before .before .before .before .before .before .before .before .before .entry-of .ensures) (part .ensures .0) (part .ensures .1)) in
     let left = c .before .before .before .before .before .before .before .before .before .before .before .before .before .before .before .before .before .before .if1 .left in
     let at = slot (c .before .before .before .before .before .before .before .before .before .before .before .before .before .before .before .before .before .before .before .before .before) in
-    let v = c .before .before .before .before .before .before .before .before .before .before .before .before .before .before .before .before .before .before .before .number-at .ensures .0 in (
+    let v = c .before .before .before .before .before .before .before .before .before .before .before .before .before .before .before .before .before .before .before .number-in .ensures .0 in (
       first-next g m (a .nodes .now) (a .i) _ _ _ _ _ _ _ _ (pre .2) (a .base)
           (none-yet g m (a .nodes .now) (a .firsts .now) (a .i) _ _ at v (pre .1) (pre .3) left)
           (record {
@@ -155,7 +158,7 @@ place-node-spec =
     (λ c κs. search needs)
     entry-of-requires
     slot-of-requires
-    (λ c κs. search needs)
+    number-in-requires
     (λ c. search needs)
     place-clone-requires
     same-length

@@ -30,7 +30,7 @@ loop-again : tie.Need-loop-again Inv-loop μ-loop
 loop-again c =
     let a = c .before .before .before .before .before .before .before .before .args in
     let top = c .before .before .before .loop in
-    let here = rw (c .before .branch-at .ensures .is) at (c .land .ensures .0) in (
+    let here = rw (c .before .branch-in .ensures .is) at (c .land .ensures .0) in (
       omega arith,
       length-set (top .landings) (top .k) _ ∙ top .inv .1,
       lands-more (heldIn (a .g .now) .graph) (routesIn (a .s .now) (a .y)) (a .ends .now) (top .landings) (top .k) _ (omega (arith, top .inv .1, c .before .before .before .before .before .before .before .before .pre .2)) here (top .inv .2),

@@ -20,6 +20,11 @@ loop-holds : tie.Need-loop-holds Inv-loop μ-loop
 unfolding sum
 loop-holds c = omega arith
 
+ways-of-requires : tie.Need-ways-of-requires Inv-loop μ-loop
+ways-of-requires c κs =
+    let pre = c .before .before .before .before .before .before .pre in
+    rw (c .number-in .ensures .0) (pre .3 (c .before .before .loop .r) (c .before .loop-test .taken))
+
 members-of-requires : tie.Need-members-of-requires Inv-loop μ-loop
 members-of-requires c κs = let pre = c .before .before .before .before .before .before .before .pre in (omega (arith, pre .2, c .before .before .loop-test .taken), pre .1)
 
@@ -37,7 +42,7 @@ loop-again c =
     let a = c .before .before .before .before .before .before .before .before .args in
     let top = c .before .before .before .before .loop in
     let ways = c .before .ways-of .ensures .0 in
-    (omega arith, sum-more (λ r. waysOf (a .nodes .now) (getD (a .roots .now) r 0) * membersOf (a .guards .now) (a .blocks) r) (top .r) (top .most) _ (membersOf (a .guards .now) (a .blocks) (top .r)) _ (ap (λ (x : ℕ). x * membersOf (a .guards .now) (a .blocks) (top .r)) (sym (ways ∙ ap (waysOf (a .nodes .now)) (c .before .before .number-at .ensures .0)))) (c .members-of .ensures .0) (top .inv .1), omega (arith, product c))
+    (omega arith, sum-more (λ r. waysOf (a .nodes .now) (getD (a .roots .now) r 0) * membersOf (a .guards .now) (a .blocks) r) (top .r) (top .most) _ (membersOf (a .guards .now) (a .blocks) (top .r)) _ (ap (λ (x : ℕ). x * membersOf (a .guards .now) (a .blocks) (top .r)) (sym (ways ∙ ap (waysOf (a .nodes .now)) (c .before .before .number-in .ensures .0)))) (c .members-of .ensures .0) (top .inv .1), omega (arith, product c))
 
 returns : tie.Need-returns Inv-loop μ-loop
 returns c =
@@ -54,7 +59,7 @@ most-guarded-spec =
     μ-loop
     loop-holds
     (λ c κs. search needs)
-    (λ c κs. search needs)
+    ways-of-requires
     members-of-requires
     mul-most
     add-most

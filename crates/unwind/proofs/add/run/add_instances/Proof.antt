@@ -21,7 +21,7 @@ land-ends-requires c κs =
     let a = start .args in
     let k = start .pre .0 in
     let p = start .pre .1 in
-    (stands-of (heldIn (a .g .now)) (k .graphed), k .built, p .landings-fit, search needs)
+    (stands-of (heldIn (a .g .now)) (k .graphed), k .built, p .landings-fit, search needs, p .trie .stored .ends-fit)
 
 add-placed-requires : tie.Need-add-placed-requires
 add-placed-requires c κs =

@@ -1,5 +1,6 @@
 -- Each check where those before it found nothing, and then the instances. Assumes nothing.
 use mathlib.Core.Path.{refl, sym}
+use native.Mathlib.Omega.{arith}
 use Rattle.image.specs.Image.{routesIn}
 use Rattle.image.specs.Deal.{routesOf}
 use Rattle.graph.specs.Words.{heldIn}
@@ -25,7 +26,8 @@ check-nodes-requires : tie.Need-check-nodes-requires
 check-nodes-requires c κs =
     let start = c .before .before .before .before .before .before .before .before .before .before .before .before .before .before .before .before .before .before .before .before .before .before in
     let k = start .pre .0 in
-    (stands-of (heldIn (start .args .g .now)) (k .graphed), k .built, search needs)
+    let s = start .pre .1 .stored in
+    (stands-of (heldIn (start .args .g .now)) (k .graphed), k .built, search needs, λ i h. record { node-in = omega (arith, s .nodes-fit); ends-in = omega (arith, s .ends-in i h, s .ends-fit) })
 
 returns : tie.Need-returns
 returns c =

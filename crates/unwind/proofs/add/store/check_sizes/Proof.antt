@@ -10,6 +10,7 @@ use Rattle.image.proofs.Tables.{length-records}
 use Rattle.graph.specs.Words.{heldIn}
 use Rattle.graph.proofs.RecordLaws.{block-most}
 use Rattle.unwind.specs.Most.{guardedWays, returnedWays}
+use Rattle.unwind.proofs.LentLaws.{roots-fit}
 use Rattle.unwind.proofs.StoreLaws.{all-lent, links-lent, counts-check, most-check}
 use Rattle.unwind.proofs.add.store.check_sizes.Statement.{statement}
 use Rattle.unwind.proofs.add.store.check_sizes.Tie as tie
@@ -26,10 +27,11 @@ routes c = length-records routeFrom (c .args .s .now) (c .args .y .routes)
 most-ways-requires : tie.Need-most-ways-requires
 most-ways-requires c κs =
     let start = c .before .before .before .before .before .before .before .before .before .before .before .before .before .before .before .before .before in
+    let a = start .args in
     let x = start .pre .0 in
     let i = x .instances in
     let many = routes (c .before .before .before .before .before .before .before .before .before .before .before .before .before .before .before .before .before) in
-    (omega (arith, many, x .accepted .routes-most), omega (arith, i .trie .nodes-most), omega (arith, c .block-count .ensures, block-most (start .args .g .now)), omega (arith, many, i .guards-fit), i .slots .returns-fit)
+    (omega (arith, many, x .accepted .routes-most), omega (arith, i .trie .nodes-most), omega (arith, c .block-count .ensures, block-most (start .args .g .now)), omega (arith, many, i .guards-fit), i .slots .returns-fit, λ r h. omega (arith, i .trie .roots-in r (omega (arith, many, h)), i .trie .stored .nodes-fit), omega (arith, many, roots-fit _ (a .nodes .now) (a .edges .now) (a .ends .now) (a .roots .now) (a .stored) (i .trie)), i .trie .stored .nodes-fit)
 
 above : (c : tie.After-most-ways) → let a = c .before .before .before .before .before .before .before .before .before .before .before .before .before .before .before .before .before .before .args in
     guardedWays (a .nodes .now) (a .roots .now) (a .guards .now) (length (heldIn (a .g .now) .graph .blocks)) (length (routesIn (a .s .now) (a .y) .routes)) + returnedWays (a .nodes .now) (a .returns .now) (length (heldIn (a .g .now) .graph .blocks)) (a .stored .nodes) ≤ c .most-ways .result

@@ -18,12 +18,12 @@ add-clone-edges-requires : tie.Need-add-clone-edges-requires
 add-clone-edges-requires c κs =
     let start = c .before .before .before .before .before .before .before .before .before .before .before .before .before .before .before .before .before .before .before .before .before in
     let l = links-lent (start .args .g .now) (routesIn (start .args .s .now) (start .args .y)) (start .pre .0) in
-    (l .0, l .1, l .2, l .4)
+    (l .0, l .1, l .2, l .4, l .5, l .6)
 
 add-clone-blocks-requires : tie.Need-add-clone-blocks-requires
 add-clone-blocks-requires c κs =
     let start = c .before .before .before .before .before .before .before .before .before .before .before .before .before .before .before .before .before .before .before .before .before .before .before in
-    sets-stood (start .args .g .now) (routesIn (start .args .s .now) (start .args .y)) (start .pre .0) (c .before .add-clone-edges .ensures)
+    (sets-stood (start .args .g .now) (routesIn (start .args .s .now) (start .args .y)) (start .pre .0) (c .before .add-clone-edges .ensures), start .pre .0 .instances .slots .bases-fit)
 
 add-route-edges-requires : tie.Need-add-route-edges-requires
 add-route-edges-requires c κs =
