@@ -139,6 +139,41 @@ pub fn step_at(s: &[u8], y: Section, i: usize) -> Step
 }
 
 // One of the records that are there. Nothing is tested.
+pub fn instruction_in(s: &[u8], y: Section, i: usize) -> Instruction
+    requires { ⌜ Holds (now s) y 31 × (i < y .count) ⌝ }
+    ensures { λ r. ⌜ r ≡ getD (recordsIn instructionFrom (now (s .entry)) y) i (instructionFrom [] 0) ⌝ }
+{
+    instruction_there(s, place(y, i))
+}
+
+pub fn case_in(s: &[u8], y: Section, i: usize) -> Case
+    requires { ⌜ Holds (now s) y 12 × (i < y .count) ⌝ }
+    ensures { λ r. ⌜ r ≡ getD (recordsIn caseFrom (now (s .entry)) y) i (caseFrom [] 0) ⌝ }
+{
+    case_there(s, place(y, i))
+}
+
+pub fn source_in(s: &[u8], y: Section, i: usize) -> GivenSource
+    requires { ⌜ Holds (now s) y 12 × (i < y .count) ⌝ }
+    ensures { λ r. ⌜ r ≡ getD (recordsIn sourceFrom (now (s .entry)) y) i (sourceFrom [] 0) ⌝ }
+{
+    source_there(s, place(y, i))
+}
+
+pub fn edge_in(s: &[u8], y: Section, i: usize) -> GivenEdge
+    requires { ⌜ Holds (now s) y 13 × (i < y .count) ⌝ }
+    ensures { λ r. ⌜ r ≡ getD (recordsIn edgeFrom (now (s .entry)) y) i (edgeFrom [] 0) ⌝ }
+{
+    edge_there(s, place(y, i))
+}
+
+pub fn handler_in(s: &[u8], y: Section, i: usize) -> Handler
+    requires { ⌜ Holds (now s) y 29 × (i < y .count) ⌝ }
+    ensures { λ r. ⌜ r ≡ getD (recordsIn handlerFrom (now (s .entry)) y) i (handlerFrom [] 0) ⌝ }
+{
+    handler_there(s, place(y, i))
+}
+
 pub fn route_in(s: &[u8], y: Section, i: usize) -> Route
     requires { ⌜ Holds (now s) y 20 × (i < y .count) ⌝ }
     ensures { λ r. ⌜ r ≡ getD (recordsIn routeFrom (now (s .entry)) y) i (routeFrom [] 0) ⌝ }
