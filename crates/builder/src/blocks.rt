@@ -1,5 +1,5 @@
 // The table and its blocks, the runs between leaders: stored in order, and numbered by position. `populate_blocks`.
-use crate::lookup::record_at;
+use image::access::instruction_in;
 use graph::record::Block;
 use graph::record::TableEntry;
 use graph::store::Words;
@@ -12,6 +12,7 @@ ghost use mathlib.Core.Path.{_≡_};
 ghost use Prim.Native.Nat.{ℕ, suc, _+_, _≤_, _<_};
 ghost use lib.ListN.{length, getD};
 ghost use Rattle.image.specs.Image.{Image};
+ghost use Rattle.image.specs.There.{Holds};
 ghost use Rattle.graph.specs.Words.{heldIn};
 ghost use Rattle.graph.specs.Stored.{Stored};
 ghost use Rattle.graph.specs.Adding.{withTable, withBlocks};
@@ -22,11 +23,12 @@ ghost use Rattle.builder.specs.Marks.{Leading};
 
 // The instruction table, as the graph keeps it.
 pub fn store_table(g: &mut Words, s: &[u8], y: Section)
+    requires { ⌜ Holds (now s) y 31 ⌝ }
     ensures { λ _. ⌜ Stored (now (g .entry)) (now (g .exit)) (withTable (heldIn (now (g .entry))) (entriesIn (now (s .entry)) y)) ⌝ }
 {
     let n = y.count as usize;
     for p in 0..n {
-        add_entry(g, table_entry(record_at(s, y, p)));
+        add_entry(g, table_entry(instruction_in(s, y, p)));
     }
 }
 

@@ -32,6 +32,7 @@ ghost use Prim.Native.Nat.{_≤_};
 ghost use Rattle.image.specs.Refusal.{clear};
 ghost use Rattle.image.specs.Image.{imageIn};
 ghost use Rattle.image.specs.Accepted.{Accepted};
+ghost use Rattle.image.specs.There.{ImageThere};
 ghost use Rattle.graph.specs.Error.{checkOf};
 ghost use Rattle.graph.specs.Table.{codeEnd};
 ghost use Rattle.graph.specs.Transfer.{tableOf, size};
@@ -62,7 +63,7 @@ pub fn build(s: &[u8], g: &mut Words) -> Built
 
 // The same of an image that was read, in the smallest frame that has room for it.
 fn build_read(s: &[u8], y: Layout, g: &mut Words) -> Built
-    requires { ⌜ Accepted (imageIn (now s) y) ⌝ }
+    requires { ⌜ Accepted (imageIn (now s) y) × ImageThere (now s) y ⌝ }
     ensures { λ r. ⌜ (buildAnswer (now (g .exit)) r ≡ buildOf (imageIn (now (s .entry)) y)) × BuildLeaves (now (g .entry)) (now (g .exit)) r ⌝ }
 {
     if y.code.instructions.count <= 64 {
@@ -73,7 +74,7 @@ fn build_read(s: &[u8], y: Layout, g: &mut Words) -> Built
 
 // At most 64 instructions.
 fn build_small(s: &[u8], y: Layout, g: &mut Words) -> Built
-    requires { ⌜ Accepted (imageIn (now s) y) × (y .code .instructions .count ≤ 64) ⌝ }
+    requires { ⌜ Accepted (imageIn (now s) y) × (y .code .instructions .count ≤ 64) × ImageThere (now s) y ⌝ }
     ensures { λ r. ⌜ (buildAnswer (now (g .exit)) r ≡ buildOf (imageIn (now (s .entry)) y)) × BuildLeaves (now (g .entry)) (now (g .exit)) r ⌝ }
 {
     let mut hints = [0u16; 127];
@@ -83,7 +84,7 @@ fn build_small(s: &[u8], y: Layout, g: &mut Words) -> Built
 
 // Any number of them.
 fn build_full(s: &[u8], y: Layout, g: &mut Words) -> Built
-    requires { ⌜ Accepted (imageIn (now s) y) ⌝ }
+    requires { ⌜ Accepted (imageIn (now s) y) × ImageThere (now s) y ⌝ }
     ensures { λ r. ⌜ (buildAnswer (now (g .exit)) r ≡ buildOf (imageIn (now (s .entry)) y)) × BuildLeaves (now (g .entry)) (now (g .exit)) r ⌝ }
 {
     let mut hints = [0u16; 1023];
@@ -93,7 +94,7 @@ fn build_full(s: &[u8], y: Layout, g: &mut Words) -> Built
 
 // By hints, and by the numbers of the positions' blocks, for which there is room.
 fn build_in(s: &[u8], y: Layout, g: &mut Words, hints: &mut [u16], blocks: &mut [u16]) -> Built
-    requires { ⌜ Accepted (imageIn (now s) y) × Fits (imageIn (now s) y) (now blocks) ⌝ }
+    requires { ⌜ Accepted (imageIn (now s) y) × Fits (imageIn (now s) y) (now blocks) × ImageThere (now s) y ⌝ }
     ensures { λ r. ⌜ (buildAnswer (now (g .exit)) r ≡ buildOf (imageIn (now (s .entry)) y)) × BuildLeaves (now (g .entry)) (now (g .exit)) r ⌝ }
 {
     let end = code_end(s, y.code.instructions);
@@ -110,7 +111,7 @@ fn build_in(s: &[u8], y: Layout, g: &mut Words, hints: &mut [u16], blocks: &mut 
 
 // 3 to 15, in their order.
 fn check_input(s: &[u8], y: Layout, hints: &mut [u16], end: u64) -> Checked
-    requires { ⌜ Accepted (imageIn (now s) y) × (end ≡ codeEnd (tableOf (imageIn (now s) y))) ⌝ }
+    requires { ⌜ Accepted (imageIn (now s) y) × (end ≡ codeEnd (tableOf (imageIn (now s) y))) × ImageThere (now s) y ⌝ }
     ensures { λ r. ⌜ checkOf r ≡ inputCheck (imageIn (now (s .entry)) y) ⌝ }
 {
     if let Checked::Refused(e) = check_table(s, y.code.instructions, hints) {
@@ -133,7 +134,7 @@ fn check_input(s: &[u8], y: Layout, hints: &mut [u16], end: u64) -> Checked
 
 // 16 and 19.
 fn check_result(s: &[u8], y: Layout, hints: &[u16], end: u64, marks: &[bool; 512]) -> Checked
-    requires { ⌜ Building (imageIn (now s) y) end (now marks) ⌝ }
+    requires { ⌜ Building (imageIn (now s) y) end (now marks) × ImageThere (now s) y ⌝ }
     ensures { λ r. ⌜ checkOf r ≡ resultCheck (imageIn (now (s .entry)) y) ⌝ }
 {
     if let Checked::Refused(e) = check_continuations(s, y, marks) {
@@ -152,7 +153,7 @@ fn store_graph(
     blocks: &mut [u16],
     g: &mut Words,
 )
-    requires { ⌜ Building (imageIn (now s) y) end (now marks) × (resultCheck (imageIn (now s) y) ≡ clear) × Fits (imageIn (now s) y) (now blocks) ⌝ }
+    requires { ⌜ Building (imageIn (now s) y) end (now marks) × (resultCheck (imageIn (now s) y) ≡ clear) × Fits (imageIn (now s) y) (now blocks) × ImageThere (now s) y ⌝ }
     ensures { λ _. ⌜ Laid (now (g .entry)) (now (g .exit)) (graphFrom (imageIn (now (s .entry)) y)) ⌝ }
 {
     let n = y.code.instructions.count as usize;
@@ -165,7 +166,7 @@ fn store_graph(
 
 // The table and its blocks, and nothing else.
 fn store_code(s: &[u8], y: Layout, marks: &[bool; 512], g: &mut Words)
-    requires { ⌜ (size (imageIn (now s) y) ≤ 512) × Leading (imageIn (now s) y) (now marks) ⌝ }
+    requires { ⌜ (size (imageIn (now s) y) ≤ 512) × Leading (imageIn (now s) y) (now marks) × ImageThere (now s) y ⌝ }
     ensures { λ _. ⌜ Laid (now (g .entry)) (now (g .exit)) (codeOnly (imageIn (now (s .entry)) y)) ⌝ }
 {
     let n = y.code.instructions.count as usize;
@@ -184,7 +185,7 @@ fn store_edges(
     blocks: &[u16],
     g: &mut Words,
 )
-    requires { ⌜ Building (imageIn (now s) y) end (now marks) × Numbered (imageIn (now s) y) (now blocks) ⌝ }
+    requires { ⌜ Building (imageIn (now s) y) end (now marks) × Numbered (imageIn (now s) y) (now blocks) × ImageThere (now s) y ⌝ }
     ensures { λ _. ⌜ Added (now (g .entry)) (now (g .exit)) (edgesOf (imageIn (now (s .entry)) y)) (unresolvedOf (imageIn (now (s .entry)) y)) (callsOf (imageIn (now (s .entry)) y)) ⌝ }
 {
     add_normal_edges(g, s, y, hints, marks, blocks);
@@ -194,7 +195,7 @@ fn store_edges(
 
 // The block at which the sequence is entered.
 fn entry_block(s: &[u8], y: Layout, hints: &[u16], blocks: &[u16]) -> u64
-    requires { ⌜ Numbered (imageIn (now s) y) (now blocks) × (entryCheck (imageIn (now s) y) ≡ clear) ⌝ }
+    requires { ⌜ Numbered (imageIn (now s) y) (now blocks) × (entryCheck (imageIn (now s) y) ≡ clear) × ImageThere (now s) y ⌝ }
     ensures { λ r. ⌜ r ≡ entryOf (imageIn (now (s .entry)) y) ⌝ }
 {
     let header = y.header;

@@ -8,6 +8,7 @@ use image::access::instruction_at;
 use image::section::Layout;
 ghost use mathlib.Core.List.{[]};
 ghost use Rattle.image.specs.Image.{imageIn};
+ghost use Rattle.image.specs.There.{ImageThere};
 ghost use Rattle.graph.specs.Edges.{callAt, callsOf};
 ghost use Rattle.graph.specs.Adding.{Added};
 
@@ -17,6 +18,7 @@ const CALL: u64 = 8;
 
 // 'Under Flatten a call counts as Next and is recorded in calls.'
 pub fn add_calls(g: &mut Words, s: &[u8], y: Layout)
+    requires { ⌜ ImageThere (now s) y ⌝ }
     ensures { λ _. ⌜ Added (now (g .entry)) (now (g .exit)) [] [] (callsOf (imageIn (now (s .entry)) y)) ⌝ }
 {
     if y.header.calls != FLATTEN {
@@ -30,6 +32,7 @@ pub fn add_calls(g: &mut Words, s: &[u8], y: Layout)
 
 // The record of the instruction at p, if it calls.
 fn add_call_at(g: &mut Words, s: &[u8], y: Layout, p: usize)
+    requires { ⌜ ImageThere (now s) y ⌝ }
     ensures { λ _. ⌜ Added (now (g .entry)) (now (g .exit)) [] [] (callAt (imageIn (now (s .entry)) y) p) ⌝ }
 {
     let i = instruction_at(s, y.code.instructions, p);

@@ -8,7 +8,7 @@ use crate::cursor::given_at;
 use crate::lookup::address_at;
 use crate::lookup::find;
 use crate::lookup::put_hint;
-use crate::lookup::record_at;
+use image::access::instruction_in;
 use crate::transfer::is_call;
 use graph::error::AddressBuildError;
 use graph::error::Checked;
@@ -28,6 +28,7 @@ ghost use lib.ListN.{length, getD};
 ghost use Rattle.image.specs.Refusal.{refusal, unless};
 ghost use Rattle.image.specs.Record.{instructionFrom, edgeFrom};
 ghost use Rattle.image.specs.Image.{recordsIn, imageIn};
+ghost use Rattle.image.specs.There.{Holds, ImageThere};
 ghost use Rattle.graph.specs.Error.{checkOf};
 ghost use Rattle.graph.specs.Fold.{checks};
 ghost use Rattle.graph.specs.Flow.{Flow, isCall};
@@ -39,6 +40,7 @@ ghost use Rattle.builder.specs.Cursor.{Sourced, cursorAt, visitAt};
 
 // The first refusal among those of the instructions: its end, its size, its order. On the way their addresses become hints.
 pub fn check_table(s: &[u8], y: Section, hints: &mut [u16]) -> Checked
+    requires { ⌜ Holds (now s) y 31 ⌝ }
     ensures { λ r. ⌜ checkOf r ≡ tableCheck (entriesOf (recordsIn instructionFrom (now (s .entry)) y)) ⌝ }
 {
     let n = y.count as usize;
@@ -52,10 +54,10 @@ pub fn check_table(s: &[u8], y: Section, hints: &mut [u16]) -> Checked
 }
 
 fn check_instruction(s: &[u8], y: Section, hints: &mut [u16], p: usize) -> Checked
-    requires { ⌜ p < y .count ⌝ }
+    requires { ⌜ p < y .count × Holds (now s) y 31 ⌝ }
     ensures { λ r. ⌜ checkOf r ≡ instructionCheck (entriesOf (recordsIn instructionFrom (now (s .entry)) y)) p ⌝ }
 {
-    let i = record_at(s, y, p);
+    let i = instruction_in(s, y, p);
     let address = i.address;
     put_hint(hints, address, p);
     if !i.has_end {
@@ -69,7 +71,7 @@ fn check_instruction(s: &[u8], y: Section, hints: &mut [u16], p: usize) -> Check
 
 // The instruction at p, which starts at `address`, stands behind the one before it.
 fn check_order(s: &[u8], y: Section, p: usize, address: u64) -> Checked
-    requires { ⌜ (p < y .count) × (address ≡ entryAt (entriesOf (recordsIn instructionFrom (now s) y)) p .address) ⌝ }
+    requires { ⌜ (p < y .count) × (address ≡ entryAt (entriesOf (recordsIn instructionFrom (now s) y)) p .address) × Holds (now s) y 31 ⌝ }
     ensures { λ r. ⌜ checkOf r ≡ orderCheck (entriesOf (recordsIn instructionFrom (now (s .entry)) y)) p ⌝ }
 {
     if p == 0 {
@@ -84,7 +86,7 @@ fn check_order(s: &[u8], y: Section, p: usize, address: u64) -> Checked
 
 // The entry, if there is one, is a start.
 pub fn check_entry(s: &[u8], y: Layout, hints: &[u16]) -> Checked
-    requires { ⌜ Rising (tableOf (imageIn (now s) y)) ⌝ }
+    requires { ⌜ Rising (tableOf (imageIn (now s) y)) × ImageThere (now s) y ⌝ }
     ensures { λ r. ⌜ checkOf r ≡ entryCheck (imageIn (now (s .entry)) y) ⌝ }
 {
     let header = y.header;
@@ -101,7 +103,7 @@ pub fn check_entry(s: &[u8], y: Layout, hints: &[u16]) -> Checked
 
 // Each given source is a start.
 pub fn check_sources(s: &[u8], y: Layout, hints: &[u16]) -> Checked
-    requires { ⌜ Rising (tableOf (imageIn (now s) y)) ⌝ }
+    requires { ⌜ Rising (tableOf (imageIn (now s) y)) × ImageThere (now s) y ⌝ }
     ensures { λ r. ⌜ checkOf r ≡ checks (sourceCheck (imageIn (now (s .entry)) y)) (length (imageIn (now (s .entry)) y .sources)) ⌝ }
 {
     let n = y.code.sources.count as usize;
@@ -118,7 +120,7 @@ pub fn check_sources(s: &[u8], y: Layout, hints: &[u16]) -> Checked
 
 // The targets of the given edges are starts, and where nothing is given the flow does without. The other modes give nothing.
 pub fn check_given(s: &[u8], y: Layout, hints: &[u16]) -> Checked
-    requires { ⌜ Sourced (imageIn (now s) y) ⌝ }
+    requires { ⌜ Sourced (imageIn (now s) y) × ImageThere (now s) y ⌝ }
     ensures { λ r. ⌜ checkOf r ≡ checks (givenCheck (imageIn (now (s .entry)) y)) (size (imageIn (now (s .entry)) y)) ⌝ }
 {
     if y.header.mode != 2 {
@@ -129,7 +131,7 @@ pub fn check_given(s: &[u8], y: Layout, hints: &[u16]) -> Checked
     let n = table.count as usize;
     let mut c = cursor_start();
     while c.at < n {
-        let i = record_at(s, table, c.at);
+        let i = instruction_in(s, table, c.at);
         let given = given_at(s, sources, c.source, i.address);
         let next = cursor_after(c, i.cases, given);
         let visit = Visit {
@@ -147,7 +149,7 @@ pub fn check_given(s: &[u8], y: Layout, hints: &[u16]) -> Checked
 }
 
 fn check_visit(s: &[u8], y: Layout, hints: &[u16], c: Cursor, visit: Visit) -> Checked
-    requires { ⌜ Sourced (imageIn (now s) y) × (y .header .mode ≡ 2) ⌝ }
+    requires { ⌜ Sourced (imageIn (now s) y) × (y .header .mode ≡ 2) × ImageThere (now s) y ⌝ }
     requires { ⌜ (c ≡ cursorAt (imageIn (now s) y) (c .at)) × (c .at < y .code .instructions .count) × (visit ≡ visitAt (imageIn (now s) y) (c .at)) ⌝ }
     ensures { λ r. ⌜ checkOf r ≡ givenCheck (imageIn (now (s .entry)) y) (c .at) ⌝ }
 {
@@ -168,7 +170,7 @@ fn check_targets(
     edge: usize,
     n: usize,
 ) -> Checked
-    requires { ⌜ Rising (entriesOf (recordsIn instructionFrom (now s) (code .instructions))) × (edge + n ≤ 512) ⌝ }
+    requires { ⌜ Rising (entriesOf (recordsIn instructionFrom (now s) (code .instructions))) × (edge + n ≤ 512) × Holds (now s) (code .instructions) 31 × Holds (now s) (code .edges) 13 ⌝ }
     ensures { λ r. ⌜ checkOf r ≡ checks (λ k. targetCheck (entriesOf (recordsIn instructionFrom (now (s .entry)) (code .instructions))) source (getD (recordsIn edgeFrom (now (s .entry)) (code .edges)) (edge + k) (edgeFrom [] 0))) n ⌝ }
 {
     for k in 0..n {

@@ -1,7 +1,7 @@
 // A scan of the table: each instruction with what is given for it, and where its cases and given edges stand.
 //
 // The cursor is carried along, so that no position is counted anew.
-use crate::lookup::record_at;
+use image::access::instruction_in;
 use image::access::source_at;
 use image::little::octet;
 use image::little::quad;
@@ -16,6 +16,7 @@ ghost use Prim.Native.Nat.{_+_, _<_, _≤_};
 ghost use lib.ListN.{getD};
 ghost use Rattle.image.specs.Image.{Image, recordsIn, imageIn};
 ghost use Rattle.image.specs.Record.{sourceFrom};
+ghost use Rattle.image.specs.There.{Holds, ImageThere};
 ghost use Rattle.builder.specs.Cursor.{Sourced, cursorAt, givenHere, visitAt, after};
 
 // Position `at` of the table. The cases of its instruction stand from `case` on. `source` is the first given source that
@@ -54,12 +55,12 @@ pub fn cursor_start() -> Cursor
 // A scan that every build makes does these three steps in its own loop instead: a `Visit` that is handed over costs more than
 // what is done with it.
 pub fn visit_at(s: &[u8], y: Layout, c: Cursor) -> Visit
-    requires { ⌜ Sourced (imageIn (now s) y) × (c ≡ cursorAt (imageIn (now s) y) (c .at)) × (c .at < y .code .instructions .count) ⌝ }
+    requires { ⌜ Sourced (imageIn (now s) y) × (c ≡ cursorAt (imageIn (now s) y) (c .at)) × (c .at < y .code .instructions .count) × ImageThere (now s) y ⌝ }
     ensures { λ r. ⌜ r ≡ visitAt (imageIn (now (s .entry)) y) (c .at) ⌝ }
 {
     let code = y.code;
     let at = c.at;
-    let instruction = record_at(s, code.instructions, at);
+    let instruction = instruction_in(s, code.instructions, at);
     let given = given_at(s, code.sources, c.source, instruction.address);
     let next = cursor_after(c, instruction.cases, given);
     Visit {
@@ -70,6 +71,7 @@ pub fn visit_at(s: &[u8], y: Layout, c: Cursor) -> Visit
 }
 
 pub fn given_at(s: &[u8], sources: Section, i: usize, address: u64) -> Given
+    requires { ⌜ Holds (now s) sources 12 ⌝ }
     ensures { λ r. ⌜ r ≡ givenHere (recordsIn sourceFrom (now (s .entry)) sources) i address ⌝ }
 {
     let count = sources.count as usize;
@@ -84,7 +86,7 @@ pub fn given_at(s: &[u8], sources: Section, i: usize, address: u64) -> Given
 
 // Source i: each field is one load, where all its bytes are there.
 fn given_source(s: &[u8], sources: Section, i: usize) -> GivenSource
-    requires { ⌜ i < sources .count ⌝ }
+    requires { ⌜ i < sources .count × Holds (now s) sources 12 ⌝ }
     ensures { λ r. ⌜ r ≡ getD (recordsIn sourceFrom (now (s .entry)) sources) i (sourceFrom [] 0) ⌝ }
 {
     let at = place(sources, i);

@@ -6,13 +6,14 @@ ghost use mathlib.Core.Path.{_≡_};
 ghost use Prim.Native.Nat.{_+_, _≤_, _<_};
 ghost use lib.ListN.{length, take, replicate};
 ghost use Rattle.image.specs.Image.{Image, imageIn};
+ghost use Rattle.image.specs.There.{ImageThere};
 ghost use Rattle.graph.specs.Leaders.{handlerAt};
 ghost use Rattle.graph.specs.Regions.{sameRange, isDraft, span, place, draftsBelow};
 ghost use Rattle.builder.specs.Drafts.{Extents, Counted, Drafted, put};
 
 // The ranges of all handlers, into arrays of zeros.
 pub fn read_ranges(starts: &mut [u64; 32], ends: &mut [u64; 32], s: &[u8], y: Layout)
-    requires { ⌜ (now starts ≡ replicate 32 0) × (now ends ≡ replicate 32 0) × (length (imageIn (now s) y .handlers) ≤ 32) ⌝ }
+    requires { ⌜ (now starts ≡ replicate 32 0) × (now ends ≡ replicate 32 0) × (length (imageIn (now s) y .handlers) ≤ 32) × ImageThere (now s) y ⌝ }
     ensures { λ _. ⌜ Extents (imageIn (now (s .entry)) y) (now (starts .exit)) (now (ends .exit)) ⌝ }
 {
     let n = y.code.handlers.count as usize;
@@ -122,6 +123,7 @@ pub fn span(starts: &[u64; 32], ends: &[u64; 32], h: usize) -> u64
 }
 
 pub fn handler(s: &[u8], y: Layout, h: usize) -> Handler
+    requires { ⌜ ImageThere (now s) y ⌝ }
     ensures { λ r. ⌜ r ≡ handlerAt (imageIn (now (s .entry)) y) h ⌝ }
 {
     let code = y.code;

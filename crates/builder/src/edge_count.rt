@@ -32,6 +32,7 @@ ghost use lib.ListN.{length, getD};
 ghost use Rattle.image.specs.Refusal.{clear, refusal, unless};
 ghost use Rattle.image.specs.Record.{caseFrom};
 ghost use Rattle.image.specs.Image.{imageIn};
+ghost use Rattle.image.specs.There.{ImageThere};
 ghost use Rattle.graph.specs.Error.{checkOf};
 ghost use Rattle.graph.specs.Fold.{count};
 ghost use Rattle.graph.specs.Table.{codeEnd};
@@ -54,7 +55,7 @@ pub fn check_edge_count(
     code_end: u64,
     marks: &[bool; 512],
 ) -> Checked
-    requires { ⌜ Passed (imageIn (now s) y) × Leading (imageIn (now s) y) (now marks) × («code_end» ≡ codeEnd (tableOf (imageIn (now s) y))) ⌝ }
+    requires { ⌜ Passed (imageIn (now s) y) × Leading (imageIn (now s) y) (now marks) × («code_end» ≡ codeEnd (tableOf (imageIn (now s) y))) × ImageThere (now s) y ⌝ }
     ensures { λ r. ⌜ checkOf r ≡ unless (leb (length (edgesOf (imageIn (now (s .entry)) y))) 4096) (refusal 19 0 0) ⌝ }
 {
     if y.header.mode != 0 {
@@ -79,7 +80,7 @@ pub fn check_edge_count(
 
 // How many exception edges the handlers have, in mode 0.
 fn exception_count(s: &[u8], y: Layout, hints: &[u16], code_end: u64) -> usize
-    requires { ⌜ Passed (imageIn (now s) y) × (y .header .mode ≡ 0) × («code_end» ≡ codeEnd (tableOf (imageIn (now s) y))) ⌝ }
+    requires { ⌜ Passed (imageIn (now s) y) × (y .header .mode ≡ 0) × («code_end» ≡ codeEnd (tableOf (imageIn (now s) y))) × ImageThere (now s) y ⌝ }
     ensures { λ r. ⌜ r ≡ length (exceptionEdges (imageIn (now (s .entry)) y)) ⌝ }
 {
     let kept = kept_before(s, y);
@@ -93,7 +94,7 @@ fn exception_count(s: &[u8], y: Layout, hints: &[u16], code_end: u64) -> usize
 
 // How many of the instructions before each position keep their exception edge.
 fn kept_before(s: &[u8], y: Layout) -> [usize; 513]
-    requires { ⌜ size (imageIn (now s) y) ≤ 512 ⌝ }
+    requires { ⌜ size (imageIn (now s) y) ≤ 512 × ImageThere (now s) y ⌝ }
     ensures { λ r. ⌜ Kept (imageIn (now (s .entry)) y) r ⌝ }
 {
     let n = y.code.instructions.count as usize;
@@ -122,7 +123,7 @@ fn kept_by(
     kept: &[usize; 513],
     h: usize,
 ) -> usize
-    requires { ⌜ Ended (tableOf (imageIn (now s) y)) «code_end» × (handlerCheck (imageIn (now s) y) h ≡ clear) ⌝ }
+    requires { ⌜ Ended (tableOf (imageIn (now s) y)) «code_end» × (handlerCheck (imageIn (now s) y) h ≡ clear) × ImageThere (now s) y ⌝ }
     requires { ⌜ (size (imageIn (now s) y) ≤ 512) × Kept (imageIn (now s) y) (now kept) ⌝ }
     ensures { λ r. ⌜ r ≡ length (handlerEdges (imageIn (now (s .entry)) y) h) ⌝ }
 {
@@ -138,7 +139,7 @@ fn kept_by(
 
 // How many normal edges the blocks' ends have, in mode 0: no edges are given there.
 fn normal_count(s: &[u8], y: Layout, hints: &[u16], marks: &[bool; 512]) -> usize
-    requires { ⌜ Sourced (imageIn (now s) y) × Leading (imageIn (now s) y) (now marks) × (y .header .mode ≡ 0) ⌝ }
+    requires { ⌜ Sourced (imageIn (now s) y) × Leading (imageIn (now s) y) (now marks) × (y .header .mode ≡ 0) × ImageThere (now s) y ⌝ }
     ensures { λ r. ⌜ r ≡ length (normalEdges (imageIn (now (s .entry)) y)) ⌝ }
 {
     let n = y.code.instructions.count as usize;
@@ -161,7 +162,7 @@ fn normal_count(s: &[u8], y: Layout, hints: &[u16], marks: &[bool; 512]) -> usiz
 
 // Those of the instruction at a cursor, where it ends its block.
 fn end_count(s: &[u8], y: Layout, hints: &[u16], c: Cursor, i: Instruction, ends: bool) -> usize
-    requires { ⌜ Sourced (imageIn (now s) y) × (y .header .mode ≡ 0) ⌝ }
+    requires { ⌜ Sourced (imageIn (now s) y) × (y .header .mode ≡ 0) × ImageThere (now s) y ⌝ }
     requires { ⌜ (c ≡ cursorAt (imageIn (now s) y) (c .at)) × (c .at < size (imageIn (now s) y)) × (i ≡ instructionAt (imageIn (now s) y) (c .at)) ⌝ }
     ensures { λ r. ⌜ r ≡ length (cond ends (edgesAt (imageIn (now (s .entry)) y) (c .at)) []) ⌝ }
 {
@@ -173,7 +174,7 @@ fn end_count(s: &[u8], y: Layout, hints: &[u16], c: Cursor, i: Instruction, ends
 
 // How many transfers of the instruction at a cursor are resolved.
 fn transfer_count(s: &[u8], y: Layout, hints: &[u16], c: Cursor, i: Instruction) -> usize
-    requires { ⌜ Sourced (imageIn (now s) y) × (c ≡ cursorAt (imageIn (now s) y) (c .at)) × (c .at < size (imageIn (now s) y)) × (i ≡ instructionAt (imageIn (now s) y) (c .at)) ⌝ }
+    requires { ⌜ Sourced (imageIn (now s) y) × (c ≡ cursorAt (imageIn (now s) y) (c .at)) × (c .at < size (imageIn (now s) y)) × (i ≡ instructionAt (imageIn (now s) y) (c .at)) × ImageThere (now s) y ⌝ }
     ensures { λ r. ⌜ r ≡ length (slotEdges (imageIn (now (s .entry)) y) (c .at) (slotCount (imageIn (now (s .entry)) y) (c .at))) ⌝ }
 {
     let flow = flow_under(y.header.calls, i.flow);
@@ -187,7 +188,7 @@ fn transfer_count(s: &[u8], y: Layout, hints: &[u16], c: Cursor, i: Instruction)
 
 // How many of the n cases from `first` on are resolved.
 fn case_count(s: &[u8], y: Layout, hints: &[u16], first: usize, n: usize) -> usize
-    requires { ⌜ Rising (tableOf (imageIn (now s) y)) × (first + n ≤ 512) ⌝ }
+    requires { ⌜ Rising (tableOf (imageIn (now s) y)) × (first + n ≤ 512) × ImageThere (now s) y ⌝ }
     ensures { λ r. ⌜ r ≡ count (λ k. resolved (imageIn (now (s .entry)) y) (caseTransfer (getD (imageIn (now (s .entry)) y .cases) (first + k) (caseFrom [] 0)) k)) n ⌝ }
 {
     let mut edges: usize = 0;
@@ -200,7 +201,7 @@ fn case_count(s: &[u8], y: Layout, hints: &[u16], first: usize, n: usize) -> usi
 
 // One where a transfer is resolved, else none.
 fn resolves(s: &[u8], y: Layout, hints: &[u16], x: Transfer) -> usize
-    requires { ⌜ Rising (tableOf (imageIn (now s) y)) ⌝ }
+    requires { ⌜ Rising (tableOf (imageIn (now s) y)) × ImageThere (now s) y ⌝ }
     ensures { λ r. ⌜ r ≡ word (resolved (imageIn (now (s .entry)) y) (transferIn x)) ⌝ }
 {
     match resolve(s, y.code.instructions, hints, x) {

@@ -6,7 +6,7 @@ use crate::cursor::cursor_after;
 use crate::cursor::cursor_start;
 use crate::cursor::given_at;
 use crate::lookup::find;
-use crate::lookup::record_at;
+use image::access::instruction_in;
 use crate::transfer::Slots;
 use crate::transfer::Transfer;
 use crate::transfer::case_transfer;
@@ -37,6 +37,7 @@ ghost use lib.Dec.{eqb};
 ghost use lib.ListN.{length, getD};
 ghost use Rattle.image.specs.Image.{Image, imageIn};
 ghost use Rattle.image.specs.Record.{edgeFrom};
+ghost use Rattle.image.specs.There.{Holds, ImageThere};
 ghost use Rattle.graph.specs.Table.{isStart};
 ghost use Rattle.graph.specs.Lookup.{entriesIn, Rising};
 ghost use Rattle.graph.specs.Flow.{Flow, From, slotsOf, fallsThrough, flowUnder};
@@ -61,7 +62,7 @@ pub fn add_normal_edges(
     marks: &[bool; 512],
     blocks: &[u16],
 )
-    requires { ⌜ Emitting (imageIn (now s) y) (now blocks) ⌝ }
+    requires { ⌜ Emitting (imageIn (now s) y) (now blocks) × ImageThere (now s) y ⌝ }
     requires { ⌜ Leading (imageIn (now s) y) (now marks) ⌝ }
     ensures { λ _. ⌜ Added (now (g .entry)) (now (g .exit)) (normalEdges (imageIn (now (s .entry)) y)) (unresolvedOf (imageIn (now (s .entry)) y)) [] ⌝ }
 {
@@ -70,7 +71,7 @@ pub fn add_normal_edges(
     let n = table.count as usize;
     let mut c = cursor_start();
     for p in 0..n {
-        let i = record_at(s, table, c.at);
+        let i = instruction_in(s, table, c.at);
         let given = given_at(s, sources, c.source, i.address);
         let next = cursor_after(c, i.cases, given);
         let visit = Visit {
@@ -105,7 +106,7 @@ fn emit_if(
     visit: Visit,
     ends: bool,
 )
-    requires { ⌜ Emitting (imageIn (now s) y) (now blocks) ⌝ }
+    requires { ⌜ Emitting (imageIn (now s) y) (now blocks) × ImageThere (now s) y ⌝ }
     requires { ⌜ Visiting (imageIn (now s) y) c visit ⌝ }
     ensures { λ _. ⌜ Added (now (g .entry)) (now (g .exit)) (cond ends (edgesAt (imageIn (now (s .entry)) y) (c .at)) []) (cond ends (unresolvedAt (imageIn (now (s .entry)) y) (c .at)) []) [] ⌝ }
 {
@@ -115,7 +116,7 @@ fn emit_if(
 }
 
 fn emit(g: &mut Words, s: &[u8], y: Layout, hints: &[u16], blocks: &[u16], c: Cursor, visit: Visit)
-    requires { ⌜ Emitting (imageIn (now s) y) (now blocks) ⌝ }
+    requires { ⌜ Emitting (imageIn (now s) y) (now blocks) × ImageThere (now s) y ⌝ }
     requires { ⌜ Visiting (imageIn (now s) y) c visit ⌝ }
     ensures { λ _. ⌜ Added (now (g .entry)) (now (g .exit)) (edgesAt (imageIn (now (s .entry)) y) (c .at)) (unresolvedAt (imageIn (now (s .entry)) y) (c .at)) [] ⌝ }
 {
@@ -137,7 +138,7 @@ fn add_given_edges(
     n: usize,
 )
     requires { ⌜ Emitting (imageIn (now s) y) (now blocks) ⌝ }
-    requires { ⌜ (c ≡ cursorAt (imageIn (now s) y) (c .at)) × (c .at < size (imageIn (now s) y)) ⌝ }
+    requires { ⌜ (c ≡ cursorAt (imageIn (now s) y) (c .at)) × (c .at < size (imageIn (now s) y)) × ImageThere (now s) y ⌝ }
     requires { ⌜ (isGiven (imageIn (now s) y) (c .at) ≡ true) × (length (givenAt (imageIn (now s) y) (c .at)) ≡ n) ⌝ }
     ensures { λ _. ⌜ Added (now (g .entry)) (now (g .exit)) (edgesAt (imageIn (now (s .entry)) y) (c .at)) [] [] ⌝ }
 {
@@ -151,7 +152,7 @@ fn add_given_edges(
 // Given edge e, of the instruction at p. Its target starts an instruction (8).
 fn add_given(g: &mut Words, s: &[u8], y: Layout, hints: &[u16], blocks: &[u16], p: usize, e: usize)
     requires { ⌜ Emitting (imageIn (now s) y) (now blocks) ⌝ }
-    requires { ⌜ (p < size (imageIn (now s) y)) × (isStart (tableOf (imageIn (now s) y)) (getD (imageIn (now s) y .edges) e (edgeFrom [] 0) .target) ≡ true) ⌝ }
+    requires { ⌜ (p < size (imageIn (now s) y)) × (isStart (tableOf (imageIn (now s) y)) (getD (imageIn (now s) y .edges) e (edgeFrom [] 0) .target) ≡ true) × ImageThere (now s) y ⌝ }
     ensures { λ _. ⌜ Added (now (g .entry)) (now (g .exit)) (givenEdge (imageIn (now (s .entry)) y) p (getD (imageIn (now (s .entry)) y .edges) e (edgeFrom [] 0)) ∷ []) [] [] ⌝ }
 {
     let table = y.code.instructions;
@@ -185,7 +186,7 @@ fn add_transfers(
     i: Instruction,
 )
     requires { ⌜ Emitting (imageIn (now s) y) (now blocks) ⌝ }
-    requires { ⌜ (c ≡ cursorAt (imageIn (now s) y) (c .at)) × (c .at < size (imageIn (now s) y)) × (i ≡ instructionAt (imageIn (now s) y) (c .at)) ⌝ }
+    requires { ⌜ (c ≡ cursorAt (imageIn (now s) y) (c .at)) × (c .at < size (imageIn (now s) y)) × (i ≡ instructionAt (imageIn (now s) y) (c .at)) × ImageThere (now s) y ⌝ }
     ensures { λ _. ⌜ Added (now (g .entry)) (now (g .exit)) (slotEdges (imageIn (now (s .entry)) y) (c .at) (slotCount (imageIn (now (s .entry)) y) (c .at))) (slotUnresolved (imageIn (now (s .entry)) y) (c .at) (slotCount (imageIn (now (s .entry)) y) (c .at))) [] ⌝ }
 {
     let flow = flow_under(y.header.calls, i.flow);
@@ -217,7 +218,7 @@ fn transfer_of(
     slots: Slots,
     k: usize,
 ) -> Transfer
-    requires { ⌜ Sourced (imageIn (now s) y) × (c ≡ cursorAt (imageIn (now s) y) (c .at)) × (c .at < size (imageIn (now s) y)) × (i ≡ instructionAt (imageIn (now s) y) (c .at)) ⌝ }
+    requires { ⌜ Sourced (imageIn (now s) y) × (c ≡ cursorAt (imageIn (now s) y) (c .at)) × (c .at < size (imageIn (now s) y)) × (i ≡ instructionAt (imageIn (now s) y) (c .at)) × ImageThere (now s) y ⌝ }
     requires { ⌜ (flow ≡ flowUnder (y .header .calls) (i .flow)) × (slotsIn slots ≡ slotsOf flow) × (k < slotCount (imageIn (now s) y) (c .at)) ⌝ }
     ensures { λ r. ⌜ transferIn r ≡ transferAt (imageIn (now (s .entry)) y) (c .at) k ⌝ }
 {
@@ -245,7 +246,7 @@ fn add_transfer(
     x: Transfer,
 )
     requires { ⌜ Emitting (imageIn (now s) y) (now blocks) ⌝ }
-    requires { ⌜ (p < size (imageIn (now s) y)) × (source ≡ addressAt (imageIn (now s) y) p) ⌝ }
+    requires { ⌜ (p < size (imageIn (now s) y)) × (source ≡ addressAt (imageIn (now s) y) p) × ImageThere (now s) y ⌝ }
     ensures { λ _. ⌜ Added (now (g .entry)) (now (g .exit)) (transferEdges (imageIn (now (s .entry)) y) p (transferIn x)) (transferUnresolved (imageIn (now (s .entry)) y) p (transferIn x)) [] ⌝ }
 {
     let table = y.code.instructions;
@@ -260,7 +261,7 @@ fn add_transfer(
 
 // Where a transfer leads: the position of its target, if it has one that starts an instruction.
 pub fn resolve(s: &[u8], table: Section, hints: &[u16], x: Transfer) -> Found
-    requires { ⌜ Rising (entriesIn (now s) table) ⌝ }
+    requires { ⌜ Rising (entriesIn (now s) table) × Holds (now s) table 31 ⌝ }
     ensures { λ r. ⌜ ((m : Image) → tableOf m ≡ entriesIn (now (s .entry)) table → Resolves m (transferIn x) r) ⌝ }
 {
     if has_target(x) {

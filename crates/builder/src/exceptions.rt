@@ -2,7 +2,7 @@
 use crate::drafts::handler;
 use crate::edges::block_of;
 use crate::edges::edge_between;
-use crate::lookup::record_at;
+use image::access::instruction_in;
 use crate::ranges::Ranged;
 use crate::ranges::range_check;
 use crate::regions::block_at;
@@ -17,6 +17,7 @@ ghost use mathlib.Core.Path.{_≡_};
 ghost use Prim.Native.Nat.{_<_};
 ghost use Rattle.image.specs.Refusal.{clear};
 ghost use Rattle.image.specs.Image.{imageIn};
+ghost use Rattle.image.specs.There.{ImageThere};
 ghost use Rattle.graph.specs.Table.{codeEnd};
 ghost use Rattle.graph.specs.Flow.{Role, From};
 ghost use Rattle.graph.specs.Transfer.{tableOf, size, instructionAt};
@@ -39,7 +40,7 @@ pub fn add_exception_edges(
     code_end: u64,
     blocks: &[u16],
 )
-    requires { ⌜ Handled (imageIn (now s) y) (now blocks) × («code_end» ≡ codeEnd (tableOf (imageIn (now s) y))) ⌝ }
+    requires { ⌜ Handled (imageIn (now s) y) (now blocks) × («code_end» ≡ codeEnd (tableOf (imageIn (now s) y))) × ImageThere (now s) y ⌝ }
     ensures { λ _. ⌜ Added (now (g .entry)) (now (g .exit)) (exceptionEdges (imageIn (now (s .entry)) y)) [] [] ⌝ }
 {
     if y.header.mode != 0 {
@@ -61,7 +62,7 @@ fn add_handler_edges(
     blocks: &[u16],
     h: usize,
 )
-    requires { ⌜ Handled (imageIn (now s) y) (now blocks) × («code_end» ≡ codeEnd (tableOf (imageIn (now s) y))) ⌝ }
+    requires { ⌜ Handled (imageIn (now s) y) (now blocks) × («code_end» ≡ codeEnd (tableOf (imageIn (now s) y))) × ImageThere (now s) y ⌝ }
     requires { ⌜ handlerCheck (imageIn (now s) y) h ≡ clear ⌝ }
     ensures { λ _. ⌜ Added (now (g .entry)) (now (g .exit)) (handlerEdges (imageIn (now (s .entry)) y) h) [] [] ⌝ }
 {
@@ -95,11 +96,11 @@ fn unwind_transfer(h: usize, entry: u64) -> Transfer
 
 // The edge to block `to` of a transfer of the instruction at p, where that one keeps its exception edge.
 fn add_if_kept(g: &mut Words, s: &[u8], y: Layout, blocks: &[u16], p: usize, to: u64, x: Transfer)
-    requires { ⌜ Numbered (imageIn (now s) y) (now blocks) × (p < size (imageIn (now s) y)) ⌝ }
+    requires { ⌜ Numbered (imageIn (now s) y) (now blocks) × (p < size (imageIn (now s) y)) × ImageThere (now s) y ⌝ }
     requires { ⌜ (resolved (imageIn (now s) y) (transferIn x) ≡ true) × (to ≡ blockAt (imageIn (now s) y) (x .target)) ⌝ }
     ensures { λ _. ⌜ Added (now (g .entry)) (now (g .exit)) (cond (instructionAt (imageIn (now (s .entry)) y) p .keeps) (transferEdges (imageIn (now (s .entry)) y) p (transferIn x)) []) [] [] ⌝ }
 {
-    let i = record_at(s, y.code.instructions, p);
+    let i = instruction_in(s, y.code.instructions, p);
     if i.keeps {
         add_edge(g, edge_between(block_of(blocks, p), to, i.address, x));
     }

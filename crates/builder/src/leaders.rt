@@ -12,7 +12,7 @@ use crate::leaders::flows::mark_lead;
 use crate::leaders::routes::mark_routes;
 use crate::lookup::address_at;
 use crate::lookup::find;
-use crate::lookup::record_at;
+use image::access::instruction_in;
 use crate::marks::mark_at;
 use crate::marks::mark_if;
 use crate::marks::mark_range;
@@ -28,6 +28,7 @@ ghost use Prim.Native.Nat.{_+_, _<_};
 ghost use lib.Dec.{eqb, ltb};
 ghost use lib.ListN.{length};
 ghost use Rattle.image.specs.Image.{imageIn};
+ghost use Rattle.image.specs.There.{ImageThere};
 ghost use Rattle.graph.specs.Table.{codeEnd};
 ghost use Rattle.graph.specs.Lookup.{Rising};
 ghost use Rattle.graph.specs.Transfer.{tableOf, instructionAt};
@@ -43,7 +44,7 @@ const EXCEPTIONAL: u64 = 9;
 
 // Which instructions of an image that passed its checks start a block; `code_end` is the greatest end of all.
 pub fn leaders(s: &[u8], y: Layout, hints: &[u16], code_end: u64) -> [bool; 512]
-    requires { ⌜ Passed (imageIn (now s) y) × («code_end» ≡ codeEnd (tableOf (imageIn (now s) y))) ⌝ }
+    requires { ⌜ Passed (imageIn (now s) y) × («code_end» ≡ codeEnd (tableOf (imageIn (now s) y))) × ImageThere (now s) y ⌝ }
     ensures { λ r. ⌜ Leading (imageIn (now (s .entry)) y) r ⌝ }
 {
     let handlers = y.code.handlers;
@@ -61,7 +62,7 @@ pub fn leaders(s: &[u8], y: Layout, hints: &[u16], code_end: u64) -> [bool; 512]
 
 // The first instruction, and the entry.
 fn mark_entry(marks: &mut [bool; 512], s: &[u8], y: Layout, hints: &[u16])
-    requires { ⌜ Passed (imageIn (now s) y) ⌝ }
+    requires { ⌜ Passed (imageIn (now s) y) × ImageThere (now s) y ⌝ }
     ensures { λ _. ⌜ Marked (y .code .instructions .count) (entryMark (imageIn (now (s .entry)) y)) (now (marks .entry)) (now (marks .exit)) ⌝ }
 {
     let header = y.header;
@@ -72,7 +73,7 @@ fn mark_entry(marks: &mut [bool; 512], s: &[u8], y: Layout, hints: &[u16])
 
 // The entry, and instruction by instruction.
 fn mark_code(mut marks: [bool; 512], s: &[u8], y: Layout, hints: &[u16]) -> [bool; 512]
-    requires { ⌜ Passed (imageIn (now s) y) ⌝ }
+    requires { ⌜ Passed (imageIn (now s) y) × ImageThere (now s) y ⌝ }
     ensures { λ r. ⌜ Marked (y .code .instructions .count) (λ p. entryMark (imageIn (now (s .entry)) y) p || instructionMark (imageIn (now (s .entry)) y) p) marks r ⌝ }
 {
     mark_entry(&mut marks, s, y, hints);
@@ -94,13 +95,13 @@ fn mark_visit(
     c: Cursor,
     routed: bool,
 ) -> Cursor
-    requires { ⌜ Passed (imageIn (now s) y) × (c ≡ cursorAt (imageIn (now s) y) (c .at)) × (c .at < y .code .instructions .count) × (routed ≡ ltb 0 (length (routes (imageIn (now s) y)))) ⌝ }
+    requires { ⌜ Passed (imageIn (now s) y) × (c ≡ cursorAt (imageIn (now s) y) (c .at)) × (c .at < y .code .instructions .count) × (routed ≡ ltb 0 (length (routes (imageIn (now s) y)))) × ImageThere (now s) y ⌝ }
     ensures { λ r. ⌜ (r ≡ cursorAt (imageIn (now (s .entry)) y) (c .at + 1)) × Marked (y .code .instructions .count) (visitMark (imageIn (now (s .entry)) y) (c .at)) (now (marks .entry)) (now (marks .exit)) ⌝ }
 {
     let table = y.code.instructions;
     let sources = y.code.sources;
     let q = c.at;
-    let i = record_at(s, table, q);
+    let i = instruction_in(s, table, q);
     let given = given_at(s, sources, c.source, i.address);
     mark_gap(marks, s, y, hints, q, i);
     mark_lead(marks, s, y, hints, c, given, i);
@@ -111,7 +112,7 @@ fn mark_visit(
 
 // An instruction after a gap or an overlap, and the start at that end.
 fn mark_gap(marks: &mut [bool; 512], s: &[u8], y: Layout, hints: &[u16], q: usize, i: Instruction)
-    requires { ⌜ Passed (imageIn (now s) y) × (q < y .code .instructions .count) × (i ≡ instructionAt (imageIn (now s) y) q) ⌝ }
+    requires { ⌜ Passed (imageIn (now s) y) × (q < y .code .instructions .count) × (i ≡ instructionAt (imageIn (now s) y) q) × ImageThere (now s) y ⌝ }
     ensures { λ _. ⌜ Marked (y .code .instructions .count) (gapMark (imageIn (now (s .entry)) y) q) (now (marks .entry)) (now (marks .exit)) ⌝ }
 {
     if goes_on(s, y, q, i) {
@@ -124,7 +125,7 @@ fn mark_gap(marks: &mut [bool; 512], s: &[u8], y: Layout, hints: &[u16], q: usiz
 
 // Whether the next instruction starts where the one at q ends.
 fn goes_on(s: &[u8], y: Layout, q: usize, i: Instruction) -> bool
-    requires { ⌜ (q < y .code .instructions .count) × (i ≡ instructionAt (imageIn (now s) y) q) ⌝ }
+    requires { ⌜ (q < y .code .instructions .count) × (i ≡ instructionAt (imageIn (now s) y) q) × ImageThere (now s) y ⌝ }
     ensures { λ r. ⌜ r ≡ goesOn (imageIn (now (s .entry)) y) q ⌝ }
 {
     let table = y.code.instructions;
@@ -145,7 +146,7 @@ fn mark_funclet_end(
     i: Instruction,
     routed: bool,
 )
-    requires { ⌜ Passed (imageIn (now s) y) × (i ≡ instructionAt (imageIn (now s) y) q) × (routed ≡ ltb 0 (length (routes (imageIn (now s) y)))) ⌝ }
+    requires { ⌜ Passed (imageIn (now s) y) × (i ≡ instructionAt (imageIn (now s) y) q) × (routed ≡ ltb 0 (length (routes (imageIn (now s) y)))) × ImageThere (now s) y ⌝ }
     ensures { λ _. ⌜ Marked (y .code .instructions .count) (λ p. funcletEnd (imageIn (now (s .entry)) y) q && eqb p q) (now (marks .entry)) (now (marks .exit)) ⌝ }
 {
     if routed {
@@ -156,7 +157,7 @@ fn mark_funclet_end(
 
 // Whether a funclet may end at q: by a Return, or by a Jump to no start.
 fn ends_funclet(s: &[u8], y: Layout, hints: &[u16], q: usize, i: Instruction) -> bool
-    requires { ⌜ Rising (tableOf (imageIn (now s) y)) × (i ≡ instructionAt (imageIn (now s) y) q) ⌝ }
+    requires { ⌜ Rising (tableOf (imageIn (now s) y)) × (i ≡ instructionAt (imageIn (now s) y) q) × ImageThere (now s) y ⌝ }
     ensures { λ r. ⌜ r ≡ endsFunclet (imageIn (now (s .entry)) y) q ⌝ }
 {
     if i.flow == RETURN {
@@ -180,7 +181,7 @@ fn mark_handlers(
     hints: &[u16],
     code_end: u64,
 ) -> [bool; 512]
-    requires { ⌜ Passed (imageIn (now s) y) × («code_end» ≡ codeEnd (tableOf (imageIn (now s) y))) ⌝ }
+    requires { ⌜ Passed (imageIn (now s) y) × («code_end» ≡ codeEnd (tableOf (imageIn (now s) y))) × ImageThere (now s) y ⌝ }
     ensures { λ r. ⌜ Marked (y .code .instructions .count) (handlerMark (imageIn (now (s .entry)) y)) marks r ⌝ }
 {
     let n = y.code.handlers.count as usize;
@@ -198,7 +199,7 @@ fn mark_handler(
     code_end: u64,
     h: usize,
 )
-    requires { ⌜ Passed (imageIn (now s) y) × («code_end» ≡ codeEnd (tableOf (imageIn (now s) y))) × (h < y .code .handlers .count) ⌝ }
+    requires { ⌜ Passed (imageIn (now s) y) × («code_end» ≡ codeEnd (tableOf (imageIn (now s) y))) × (h < y .code .handlers .count) × ImageThere (now s) y ⌝ }
     ensures { λ _. ⌜ Marked (y .code .instructions .count) (protectMark (imageIn (now (s .entry)) y) h) (now (marks .entry)) (now (marks .exit)) ⌝ }
 {
     let table = y.code.instructions;

@@ -1,18 +1,12 @@
 // Address look-up: the position of the instruction that starts at an address.
 use graph::found::Found;
-use image::access::instruction_from;
 use image::little::octet;
-use image::little::u64_at;
-use image::record::Instruction;
 use image::section::Section;
 use image::section::place;
-ghost use mathlib.Core.List.{[]};
 ghost use mathlib.Core.Path.{_≡_};
 ghost use mathlib.Core.Bool.{true};
 ghost use Prim.Native.Nat.{_<_};
-ghost use lib.ListN.{getD};
-ghost use Rattle.image.specs.Image.{recordsIn};
-ghost use Rattle.image.specs.Record.{instructionFrom};
+ghost use Rattle.image.specs.There.{Holds};
 ghost use Rattle.graph.specs.Table.{entryAt};
 ghost use Rattle.graph.specs.Lookup.{entriesIn, Rising, Finds};
 ghost use Rattle.graph.specs.declared.found.Found.the-variants.{At};
@@ -35,7 +29,7 @@ fn slot_of(a: u64, slots: usize) -> usize {
 
 // In a table whose addresses rise: by its hint, or else by halving.
 pub fn find(s: &[u8], y: Section, hints: &[u16], a: u64) -> Found
-    requires { ⌜ Rising (entriesIn (now s) y) ⌝ }
+    requires { ⌜ Rising (entriesIn (now s) y) × Holds (now s) y 31 ⌝ }
     ensures { λ r. ⌜ Finds (entriesIn (now (s .entry)) y) a r ⌝ }
 {
     let slot = slot_of(a, hints.len());
@@ -50,7 +44,7 @@ pub fn find(s: &[u8], y: Section, hints: &[u16], a: u64) -> Found
 
 // By halving.
 fn search(s: &[u8], y: Section, a: u64) -> Found
-    requires { ⌜ Rising (entriesIn (now s) y) ⌝ }
+    requires { ⌜ Rising (entriesIn (now s) y) × Holds (now s) y 31 ⌝ }
     ensures { λ r. ⌜ Finds (entriesIn (now (s .entry)) y) a r ⌝ }
 {
     let mut lo = 0;
@@ -72,7 +66,7 @@ fn search(s: &[u8], y: Section, a: u64) -> Found
 
 // Where the position is likely to be `near`.
 pub fn find_near(s: &[u8], y: Section, near: usize, a: u64) -> Found
-    requires { ⌜ Rising (entriesIn (now s) y) ⌝ }
+    requires { ⌜ Rising (entriesIn (now s) y) × Holds (now s) y 31 ⌝ }
     ensures { λ r. ⌜ Finds (entriesIn (now (s .entry)) y) a r ⌝ }
 {
     if stands_at(s, y, near, a) {
@@ -81,9 +75,9 @@ pub fn find_near(s: &[u8], y: Section, near: usize, a: u64) -> Found
     search(s, y, a)
 }
 
-// Whether the instruction at position i starts at address a; not where its bytes are cut off.
+// Whether the instruction at position i starts at address a.
 fn stands_at(s: &[u8], y: Section, i: usize, a: u64) -> bool
-    requires { ⌜ Rising (entriesIn (now s) y) ⌝ }
+    requires { ⌜ Rising (entriesIn (now s) y) × Holds (now s) y 31 ⌝ }
     ensures { λ r. ⌜ (r ≡ true → Finds (entriesIn (now (s .entry)) y) a (At i)) ⌝ }
 {
     let n = y.count as usize;
@@ -91,31 +85,20 @@ fn stands_at(s: &[u8], y: Section, i: usize, a: u64) -> bool
         return false;
     }
     let at = place(y, i);
-    if s.len() < at + 8 {
-        return false;
-    }
     octet(s, at) == a
 }
 
 // Where the instruction at position i starts, and where it ends: of its record that alone is read.
 pub fn address_at(s: &[u8], y: Section, i: usize) -> u64
-    requires { ⌜ i < y .count ⌝ }
+    requires { ⌜ i < y .count × Holds (now s) y 31 ⌝ }
     ensures { λ r. ⌜ r ≡ entryAt (entriesIn (now (s .entry)) y) i .address ⌝ }
 {
-    u64_at(s, place(y, i))
+    octet(s, place(y, i))
 }
 
 pub fn end_at(s: &[u8], y: Section, i: usize) -> u64
-    requires { ⌜ i < y .count ⌝ }
+    requires { ⌜ i < y .count × Holds (now s) y 31 ⌝ }
     ensures { λ r. ⌜ r ≡ entryAt (entriesIn (now (s .entry)) y) i .end ⌝ }
 {
-    u64_at(s, place(y, i) + 8)
-}
-
-// The instruction at position i.
-pub fn record_at(s: &[u8], y: Section, i: usize) -> Instruction
-    requires { ⌜ i < y .count ⌝ }
-    ensures { λ r. ⌜ r ≡ getD (recordsIn instructionFrom (now (s .entry)) y) i (instructionFrom [] 0) ⌝ }
-{
-    instruction_from(s, place(y, i))
+    octet(s, place(y, i) + 8)
 }

@@ -10,6 +10,7 @@ ghost use Prim.Native.Nat.{_≤_};
 ghost use lib.Dec.{eqb, leb};
 ghost use lib.ListN.{length};
 ghost use Rattle.image.specs.Refusal.{clear};
+ghost use Rattle.image.specs.There.{Holds};
 ghost use Rattle.graph.specs.Table.{below, codeEnd, rangeCheck};
 ghost use Rattle.graph.specs.Lookup.{Rising, entriesIn};
 ghost use Rattle.graph.specs.Build.{tableCheck};
@@ -25,7 +26,7 @@ pub fn mark_range(
     start: u64,
     end: u64,
 )
-    requires { ⌜ (tableCheck (entriesIn (now s) y) ≡ clear) × («code_end» ≡ codeEnd (entriesIn (now s) y)) ⌝ }
+    requires { ⌜ (tableCheck (entriesIn (now s) y) ≡ clear) × («code_end» ≡ codeEnd (entriesIn (now s) y)) × Holds (now s) y 31 ⌝ }
     requires { ⌜ (rangeCheck (entriesIn (now s) y) start end ≡ clear) × (y .count ≤ 512) ⌝ }
     ensures { λ _. ⌜ Marked (y .count) (λ p. leb (below (entriesIn (now (s .entry)) y) start) p && leb p (below (entriesIn (now (s .entry)) y) end)) (now (marks .entry)) (now (marks .exit)) ⌝ }
 {
@@ -47,7 +48,7 @@ pub fn mark_target_if(
     leads: bool,
     a: u64,
 )
-    requires { ⌜ Rising (entriesIn (now s) y) ⌝ }
+    requires { ⌜ Rising (entriesIn (now s) y) × Holds (now s) y 31 ⌝ }
     requires { ⌜ y .count ≤ 512 ⌝ }
     ensures { λ _. ⌜ Marked (y .count) (λ p. leads && startMark (entriesIn (now (s .entry)) y) a p) (now (marks .entry)) (now (marks .exit)) ⌝ }
 {
@@ -67,7 +68,7 @@ pub fn mark_if(marks: &mut [bool; 512], leads: bool, p: usize)
 
 // The start at a, if there is one.
 pub fn mark_target(marks: &mut [bool; 512], s: &[u8], y: Section, hints: &[u16], a: u64)
-    requires { ⌜ Rising (entriesIn (now s) y) ⌝ }
+    requires { ⌜ Rising (entriesIn (now s) y) × Holds (now s) y 31 ⌝ }
     requires { ⌜ y .count ≤ 512 ⌝ }
     ensures { λ _. ⌜ Marked (y .count) (startMark (entriesIn (now (s .entry)) y) a) (now (marks .entry)) (now (marks .exit)) ⌝ }
 {

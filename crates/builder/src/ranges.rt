@@ -9,6 +9,7 @@ use image::section::Layout;
 use image::section::Section;
 ghost use mathlib.Core.Path.{_≡_};
 ghost use Rattle.image.specs.Image.{imageIn};
+ghost use Rattle.image.specs.There.{Holds, ImageThere};
 ghost use Rattle.graph.specs.Error.{checkOf};
 ghost use Rattle.graph.specs.Table.{codeEnd};
 ghost use Rattle.graph.specs.Lookup.{entriesIn};
@@ -24,6 +25,7 @@ pub enum Ranged {
 
 // The greatest end of all: a range may end there, where no instruction starts.
 pub fn code_end(s: &[u8], y: Section) -> u64
+    requires { ⌜ Holds (now s) y 31 ⌝ }
     ensures { λ r. ⌜ r ≡ codeEnd (entriesIn (now (s .entry)) y) ⌝ }
 {
     let n = y.count as usize;
@@ -46,7 +48,7 @@ pub fn range_check(
     start: u64,
     end: u64,
 ) -> Ranged
-    requires { ⌜ Ended (entriesIn (now s) y) «code_end» ⌝ }
+    requires { ⌜ Ended (entriesIn (now s) y) «code_end» × Holds (now s) y 31 ⌝ }
     ensures { λ r. ⌜ Ranges (entriesIn (now (s .entry)) y) start end r ⌝ }
 {
     if end <= start {
@@ -67,7 +69,7 @@ pub fn range_check(
 
 // The first refusal among those of the handlers.
 pub fn check_handlers(s: &[u8], y: Layout, hints: &[u16], code_end: u64) -> Checked
-    requires { ⌜ Ended (tableOf (imageIn (now s) y)) «code_end» ⌝ }
+    requires { ⌜ Ended (tableOf (imageIn (now s) y)) «code_end» × ImageThere (now s) y ⌝ }
     ensures { λ r. ⌜ checkOf r ≡ handlersCheck (imageIn (now (s .entry)) y) ⌝ }
 {
     let n = y.code.handlers.count as usize;
@@ -81,7 +83,7 @@ pub fn check_handlers(s: &[u8], y: Layout, hints: &[u16], code_end: u64) -> Chec
 }
 
 fn check_handler(s: &[u8], y: Layout, hints: &[u16], code_end: u64, h: usize) -> Checked
-    requires { ⌜ Ended (tableOf (imageIn (now s) y)) «code_end» ⌝ }
+    requires { ⌜ Ended (tableOf (imageIn (now s) y)) «code_end» × ImageThere (now s) y ⌝ }
     ensures { λ r. ⌜ checkOf r ≡ handlerCheck (imageIn (now (s .entry)) y) h ⌝ }
 {
     let code = y.code;

@@ -23,6 +23,7 @@ ghost use Prim.Native.Nat.{ℕ, _+_, _-_, _≤_, _<_};
 ghost use lib.ListN.{length, getD, take};
 ghost use Rattle.image.specs.Refusal.{clear};
 ghost use Rattle.image.specs.Image.{Image, imageIn};
+ghost use Rattle.image.specs.There.{ImageThere};
 ghost use Rattle.graph.specs.Graph.{held};
 ghost use Rattle.graph.specs.Words.{heldIn};
 ghost use Rattle.graph.specs.Stored.{Stored};
@@ -43,7 +44,7 @@ pub enum Parent {
 
 // The regions and the handlers of the image, in a graph that has none.
 pub fn add_regions(g: &mut Words, s: &[u8], y: Layout, hints: &[u16], code_end: u64, blocks: &[u16])
-    requires { ⌜ Handled (imageIn (now s) y) (now blocks) × («code_end» ≡ codeEnd (tableOf (imageIn (now s) y))) ⌝ }
+    requires { ⌜ Handled (imageIn (now s) y) (now blocks) × («code_end» ≡ codeEnd (tableOf (imageIn (now s) y))) × ImageThere (now s) y ⌝ }
     requires { ⌜ Whole (now g) × (heldIn (now g) .graph .regions ≡ []) × (heldIn (now g) .graph .handlers ≡ []) ⌝ }
     ensures { λ _. ⌜ Stored (now (g .entry)) (now (g .exit)) (held (withHandlers (withRegions (heldIn (now (g .entry)) .graph) (regionsOf (imageIn (now (s .entry)) y))) (handlersOf (imageIn (now (s .entry)) y)))) ⌝ }
 {
@@ -83,7 +84,7 @@ fn store_regions(
     list: &[usize; 32],
     count: usize,
 )
-    requires { ⌜ Handled (imageIn (now s) y) (now blocks) × («code_end» ≡ codeEnd (tableOf (imageIn (now s) y))) ⌝ }
+    requires { ⌜ Handled (imageIn (now s) y) (now blocks) × («code_end» ≡ codeEnd (tableOf (imageIn (now s) y))) × ImageThere (now s) y ⌝ }
     requires { ⌜ Extents (imageIn (now s) y) (now starts) (now ends) × Drafted (now list) count (drafts (imageIn (now s) y)) ⌝ }
     requires { ⌜ Whole (now g) × (heldIn (now g) .graph .regions ≡ []) ⌝ }
     ensures { λ _. ⌜ Stored (now (g .entry)) (now (g .exit)) (held (withRegions (heldIn (now (g .entry)) .graph) (regionsOf (imageIn (now (s .entry)) y)))) ⌝ }
@@ -108,7 +109,7 @@ fn store_handlers(
     count: usize,
 )
     requires { ⌜ Handled (imageIn (now s) y) (now blocks) ⌝ }
-    requires { ⌜ Extents (imageIn (now s) y) (now starts) (now ends) × Drafted (now list) count (drafts (imageIn (now s) y)) ⌝ }
+    requires { ⌜ Extents (imageIn (now s) y) (now starts) (now ends) × Drafted (now list) count (drafts (imageIn (now s) y)) × ImageThere (now s) y ⌝ }
     requires { ⌜ Whole (now g) × (heldIn (now g) .graph .handlers ≡ []) ⌝ }
     ensures { λ _. ⌜ Stored (now (g .entry)) (now (g .exit)) (held (withHandlers (heldIn (now (g .entry)) .graph) (handlersOf (imageIn (now (s .entry)) y)))) ⌝ }
 {
@@ -133,7 +134,7 @@ fn region_of(
     count: usize,
     r: usize,
 ) -> Region
-    requires { ⌜ Handled (imageIn (now s) y) (now blocks) × («code_end» ≡ codeEnd (tableOf (imageIn (now s) y))) ⌝ }
+    requires { ⌜ Handled (imageIn (now s) y) (now blocks) × («code_end» ≡ codeEnd (tableOf (imageIn (now s) y))) × ImageThere (now s) y ⌝ }
     requires { ⌜ Extents (imageIn (now s) y) (now starts) (now ends) × Drafted (now list) count (drafts (imageIn (now s) y)) ⌝ }
     requires { ⌜ r < count ⌝ }
     ensures { λ n. ⌜ n ≡ regionAt (imageIn (now (s .entry)) y) r ⌝ }
@@ -240,7 +241,7 @@ fn protected_by(
     blocks: &[u16],
     h: usize,
 ) -> [u64; 16]
-    requires { ⌜ Handled (imageIn (now s) y) (now blocks) × («code_end» ≡ codeEnd (tableOf (imageIn (now s) y))) ⌝ }
+    requires { ⌜ Handled (imageIn (now s) y) (now blocks) × («code_end» ≡ codeEnd (tableOf (imageIn (now s) y))) × ImageThere (now s) y ⌝ }
     requires { ⌜ handlerCheck (imageIn (now s) y) h ≡ clear ⌝ }
     ensures { λ r. ⌜ r ≡ setBelow (λ i. blockOf (imageIn (now (s .entry)) y) (rangeFirst (imageIn (now (s .entry)) y) h + i)) (rangeSize (imageIn (now (s .entry)) y) h) ⌝ }
 {
@@ -277,7 +278,7 @@ fn handler_record(
     count: usize,
     h: usize,
 ) -> HandlerRecord
-    requires { ⌜ Numbered (imageIn (now s) y) (now blocks) × (handlerCheck (imageIn (now s) y) h ≡ clear) × (h < 32) ⌝ }
+    requires { ⌜ Numbered (imageIn (now s) y) (now blocks) × (handlerCheck (imageIn (now s) y) h ≡ clear) × (h < 32) × ImageThere (now s) y ⌝ }
     requires { ⌜ Extents (imageIn (now s) y) (now starts) (now ends) × Drafted (now list) count (drafts (imageIn (now s) y)) ⌝ }
     ensures { λ r. ⌜ r ≡ handlerRecord (imageIn (now (s .entry)) y) h ⌝ }
 {
@@ -312,7 +313,7 @@ fn region_in(
 
 // The block of the instruction that starts at a.
 pub fn block_at(s: &[u8], y: Layout, hints: &[u16], blocks: &[u16], a: u64) -> u64
-    requires { ⌜ Numbered (imageIn (now s) y) (now blocks) × (isStart (tableOf (imageIn (now s) y)) a ≡ true) ⌝ }
+    requires { ⌜ Numbered (imageIn (now s) y) (now blocks) × (isStart (tableOf (imageIn (now s) y)) a ≡ true) × ImageThere (now s) y ⌝ }
     ensures { λ r. ⌜ r ≡ blockAt (imageIn (now (s .entry)) y) a ⌝ }
 {
     let Found::At(p) = find(s, y.code.instructions, hints, a) else {

@@ -20,6 +20,7 @@ ghost use lib.ListN.{length};
 ghost use Rattle.image.specs.Image.{imageIn, routesIn};
 ghost use Rattle.image.specs.Deal.{routesOf};
 ghost use Rattle.image.specs.Accepted.{Accepted, AcceptedRoutes};
+ghost use Rattle.image.specs.There.{Holds, ImageThere, RoutesThere};
 ghost use Rattle.graph.specs.Error.{checkOf};
 ghost use Rattle.graph.specs.Fold.{checks};
 ghost use Rattle.graph.specs.Lookup.{entriesIn, Rising};
@@ -35,7 +36,7 @@ pub enum Entered {
 
 // The first refusal among those of the routes. The scan carries along where a route's paths and their steps start.
 pub fn check_routes(s: &[u8], y: Layout, hints: &[u16], code_end: u64) -> Checked
-    requires { ⌜ Accepted (imageIn (now s) y) × Ended (tableOf (imageIn (now s) y)) «code_end» ⌝ }
+    requires { ⌜ Accepted (imageIn (now s) y) × Ended (tableOf (imageIn (now s) y)) «code_end» × ImageThere (now s) y ⌝ }
     ensures { λ r. ⌜ checkOf r ≡ routesCheck (imageIn (now (s .entry)) y) ⌝ }
 {
     let instructions = y.code.instructions;
@@ -65,7 +66,7 @@ fn check_route(
     path: usize,
     step: usize,
 ) -> Entered
-    requires { ⌜ Ended (entriesIn (now s) t) «code_end» × Placed (routesIn (now s) y) r path step ⌝ }
+    requires { ⌜ Ended (entriesIn (now s) t) «code_end» × Placed (routesIn (now s) y) r path step × Holds (now s) t 31 × RoutesThere (now s) y ⌝ }
     ensures { λ e. ⌜ Enters (routesIn (now (s .entry)) y) (routeCheck (entriesIn (now (s .entry)) t) (routesOf (routesIn (now (s .entry)) y)) r) (pathsBefore (routesIn (now (s .entry)) y) (r + 1)) e ⌝ }
 {
     let route = route_at(s, y.routes, r);
@@ -90,7 +91,7 @@ fn check_entries(
     n: usize,
     step: usize,
 ) -> Entered
-    requires { ⌜ AcceptedRoutes (routesIn (now s) y) × Rising (entriesIn (now s) t) × (path + n ≤ length (routesIn (now s) y .paths)) × (step ≡ stepsBefore (routesIn (now s) y) path) ⌝ }
+    requires { ⌜ AcceptedRoutes (routesIn (now s) y) × Rising (entriesIn (now s) t) × (path + n ≤ length (routesIn (now s) y .paths)) × (step ≡ stepsBefore (routesIn (now s) y) path) × Holds (now s) t 31 × RoutesThere (now s) y ⌝ }
     ensures { λ e. ⌜ Enters (routesIn (now (s .entry)) y) (checks (λ k. pathCheck (entriesIn (now (s .entry)) t) (pathIn (routesIn (now (s .entry)) y) (path + k))) n) (path + n) e ⌝ }
 {
     let mut next = step;
@@ -105,7 +106,7 @@ fn check_entries(
 
 // The entries of path p, whose steps start at `step`: its funclets in order, then its handler.
 fn check_path(s: &[u8], t: Section, hints: &[u16], y: RouteLayout, p: usize, step: usize) -> Entered
-    requires { ⌜ AcceptedRoutes (routesIn (now s) y) × Rising (entriesIn (now s) t) × (p < length (routesIn (now s) y .paths)) × (step ≡ stepsBefore (routesIn (now s) y) p) ⌝ }
+    requires { ⌜ AcceptedRoutes (routesIn (now s) y) × Rising (entriesIn (now s) t) × (p < length (routesIn (now s) y .paths)) × (step ≡ stepsBefore (routesIn (now s) y) p) × Holds (now s) t 31 × RoutesThere (now s) y ⌝ }
     ensures { λ e. ⌜ Enters (routesIn (now (s .entry)) y) (pathCheck (entriesIn (now (s .entry)) t) (pathIn (routesIn (now (s .entry)) y) p)) (p + 1) e ⌝ }
 {
     let path = path_at(s, y.paths, p);
@@ -127,7 +128,7 @@ fn check_path(s: &[u8], t: Section, hints: &[u16], y: RouteLayout, p: usize, ste
 }
 
 fn check_entry(s: &[u8], t: Section, hints: &[u16], a: u64) -> Checked
-    requires { ⌜ Rising (entriesIn (now s) t) ⌝ }
+    requires { ⌜ Rising (entriesIn (now s) t) × Holds (now s) t 31 ⌝ }
     ensures { λ r. ⌜ checkOf r ≡ namedCheck (entriesIn (now (s .entry)) t) a ⌝ }
 {
     let Found::At(_) = find(s, t, hints, a) else {

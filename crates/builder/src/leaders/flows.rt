@@ -15,6 +15,7 @@ use image::section::Layout;
 ghost use mathlib.Core.Path.{_≡_};
 ghost use Prim.Native.Nat.{_+_, _≤_, _<_};
 ghost use Rattle.image.specs.Image.{imageIn};
+ghost use Rattle.image.specs.There.{ImageThere};
 ghost use Rattle.graph.specs.Transfer.{instructionAt};
 ghost use Rattle.builder.specs.Cursor.{cursorAt, givenFor};
 ghost use Rattle.builder.specs.Slots.{slotIn};
@@ -33,7 +34,7 @@ pub fn mark_lead(
     given: Given,
     i: Instruction,
 )
-    requires { ⌜ Passed (imageIn (now s) y) × (c ≡ cursorAt (imageIn (now s) y) (c .at)) × (c .at < y .code .instructions .count) × (given ≡ givenFor (imageIn (now s) y) (c .at)) × (i ≡ instructionAt (imageIn (now s) y) (c .at)) ⌝ }
+    requires { ⌜ Passed (imageIn (now s) y) × (c ≡ cursorAt (imageIn (now s) y) (c .at)) × (c .at < y .code .instructions .count) × (given ≡ givenFor (imageIn (now s) y) (c .at)) × (i ≡ instructionAt (imageIn (now s) y) (c .at)) × ImageThere (now s) y ⌝ }
     ensures { λ _. ⌜ Marked (y .code .instructions .count) (leadMark (imageIn (now (s .entry)) y) (c .at)) (now (marks .entry)) (now (marks .exit)) ⌝ }
 {
     match given {
@@ -44,7 +45,7 @@ pub fn mark_lead(
 
 // The targets of n given edges, and the next instruction.
 fn mark_given(marks: &mut [bool; 512], s: &[u8], y: Layout, hints: &[u16], c: Cursor, n: usize)
-    requires { ⌜ Passed (imageIn (now s) y) × (c ≡ cursorAt (imageIn (now s) y) (c .at)) × (c .at < y .code .instructions .count) × (givenFor (imageIn (now s) y) (c .at) ≡ Given.Edges n) ⌝ }
+    requires { ⌜ Passed (imageIn (now s) y) × (c ≡ cursorAt (imageIn (now s) y) (c .at)) × (c .at < y .code .instructions .count) × (givenFor (imageIn (now s) y) (c .at) ≡ Given.Edges n) × ImageThere (now s) y ⌝ }
     ensures { λ _. ⌜ Marked (y .code .instructions .count) (leadMark (imageIn (now (s .entry)) y) (c .at)) (now (marks .entry)) (now (marks .exit)) ⌝ }
 {
     let at = c.at;
@@ -54,7 +55,7 @@ fn mark_given(marks: &mut [bool; 512], s: &[u8], y: Layout, hints: &[u16], c: Cu
 
 // The targets of a flow that ends its block, and the next instruction.
 fn mark_flow(marks: &mut [bool; 512], s: &[u8], y: Layout, hints: &[u16], c: Cursor, i: Instruction)
-    requires { ⌜ Passed (imageIn (now s) y) × (c ≡ cursorAt (imageIn (now s) y) (c .at)) × (c .at < y .code .instructions .count) × (givenFor (imageIn (now s) y) (c .at) ≡ Given.Flow) × (i ≡ instructionAt (imageIn (now s) y) (c .at)) ⌝ }
+    requires { ⌜ Passed (imageIn (now s) y) × (c ≡ cursorAt (imageIn (now s) y) (c .at)) × (c .at < y .code .instructions .count) × (givenFor (imageIn (now s) y) (c .at) ≡ Given.Flow) × (i ≡ instructionAt (imageIn (now s) y) (c .at)) × ImageThere (now s) y ⌝ }
     ensures { λ _. ⌜ Marked (y .code .instructions .count) (leadMark (imageIn (now (s .entry)) y) (c .at)) (now (marks .entry)) (now (marks .exit)) ⌝ }
 {
     let header = y.header;
@@ -74,7 +75,7 @@ fn mark_names(
     first: usize,
     i: Instruction,
 )
-    requires { ⌜ Passed (imageIn (now s) y) × (i .flow ≤ 12) × (first + i .cases ≤ 512) ⌝ }
+    requires { ⌜ Passed (imageIn (now s) y) × (i .flow ≤ 12) × (first + i .cases ≤ 512) × ImageThere (now s) y ⌝ }
     ensures { λ _. ⌜ Marked (y .code .instructions .count) (namesMark (imageIn (now (s .entry)) y) first i) (now (marks .entry)) (now (marks .exit)) ⌝ }
 {
     let header = y.header;
@@ -98,7 +99,7 @@ fn mark_slot(
     i: Instruction,
     slot: Slot,
 )
-    requires { ⌜ Passed (imageIn (now s) y) ⌝ }
+    requires { ⌜ Passed (imageIn (now s) y) × ImageThere (now s) y ⌝ }
     ensures { λ _. ⌜ Marked (y .code .instructions .count) (slotMark (imageIn (now (s .entry)) y) i (slotIn slot)) (now (marks .entry)) (now (marks .exit)) ⌝ }
 {
     let table = y.code.instructions;
@@ -112,7 +113,7 @@ fn mark_slot(
 }
 
 fn mark_cases(marks: &mut [bool; 512], s: &[u8], y: Layout, hints: &[u16], first: usize, n: usize)
-    requires { ⌜ Passed (imageIn (now s) y) × (first + n ≤ 512) ⌝ }
+    requires { ⌜ Passed (imageIn (now s) y) × (first + n ≤ 512) × ImageThere (now s) y ⌝ }
     ensures { λ _. ⌜ Marked (y .code .instructions .count) (caseMark (imageIn (now (s .entry)) y) first n) (now (marks .entry)) (now (marks .exit)) ⌝ }
 {
     for k in 0..n {
@@ -121,7 +122,7 @@ fn mark_cases(marks: &mut [bool; 512], s: &[u8], y: Layout, hints: &[u16], first
 }
 
 fn mark_case(marks: &mut [bool; 512], s: &[u8], y: Layout, hints: &[u16], k: usize)
-    requires { ⌜ Passed (imageIn (now s) y) ⌝ }
+    requires { ⌜ Passed (imageIn (now s) y) × ImageThere (now s) y ⌝ }
     ensures { λ _. ⌜ Marked (y .code .instructions .count) (caseTarget (imageIn (now (s .entry)) y) k) (now (marks .entry)) (now (marks .exit)) ⌝ }
 {
     let table = y.code.instructions;
@@ -131,7 +132,7 @@ fn mark_case(marks: &mut [bool; 512], s: &[u8], y: Layout, hints: &[u16], k: usi
 }
 
 fn mark_edges(marks: &mut [bool; 512], s: &[u8], y: Layout, hints: &[u16], first: usize, n: usize)
-    requires { ⌜ Passed (imageIn (now s) y) × (first + n ≤ 512) ⌝ }
+    requires { ⌜ Passed (imageIn (now s) y) × (first + n ≤ 512) × ImageThere (now s) y ⌝ }
     ensures { λ _. ⌜ Marked (y .code .instructions .count) (edgeMark (imageIn (now (s .entry)) y) first n) (now (marks .entry)) (now (marks .exit)) ⌝ }
 {
     for k in 0..n {
@@ -140,7 +141,7 @@ fn mark_edges(marks: &mut [bool; 512], s: &[u8], y: Layout, hints: &[u16], first
 }
 
 fn mark_edge(marks: &mut [bool; 512], s: &[u8], y: Layout, hints: &[u16], k: usize)
-    requires { ⌜ Passed (imageIn (now s) y) ⌝ }
+    requires { ⌜ Passed (imageIn (now s) y) × ImageThere (now s) y ⌝ }
     ensures { λ _. ⌜ Marked (y .code .instructions .count) (edgeTarget (imageIn (now (s .entry)) y) k) (now (marks .entry)) (now (marks .exit)) ⌝ }
 {
     let table = y.code.instructions;

@@ -8,6 +8,7 @@ use image::section::Layout;
 ghost use mathlib.Core.Path.{_≡_};
 ghost use Prim.Native.Nat.{_<_};
 ghost use Rattle.image.specs.Image.{imageIn};
+ghost use Rattle.image.specs.There.{ImageThere};
 ghost use Rattle.graph.specs.Table.{codeEnd};
 ghost use Rattle.graph.specs.Transfer.{tableOf};
 ghost use Rattle.graph.specs.Leaders.{routeMark};
@@ -24,7 +25,7 @@ pub fn mark_routes(
     hints: &[u16],
     code_end: u64,
 ) -> [bool; 512]
-    requires { ⌜ Passed (imageIn (now s) y) × («code_end» ≡ codeEnd (tableOf (imageIn (now s) y))) ⌝ }
+    requires { ⌜ Passed (imageIn (now s) y) × («code_end» ≡ codeEnd (tableOf (imageIn (now s) y))) × ImageThere (now s) y ⌝ }
     ensures { λ r. ⌜ Marked (y .code .instructions .count) (routeMark (imageIn (now (s .entry)) y)) marks r ⌝ }
 {
     let marks = mark_route_ranges(marks, s, y, hints, code_end);
@@ -39,7 +40,7 @@ fn mark_route_ranges(
     hints: &[u16],
     code_end: u64,
 ) -> [bool; 512]
-    requires { ⌜ Passed (imageIn (now s) y) × («code_end» ≡ codeEnd (tableOf (imageIn (now s) y))) ⌝ }
+    requires { ⌜ Passed (imageIn (now s) y) × («code_end» ≡ codeEnd (tableOf (imageIn (now s) y))) × ImageThere (now s) y ⌝ }
     ensures { λ r. ⌜ Marked (y .code .instructions .count) (routeRangeMark (imageIn (now (s .entry)) y)) marks r ⌝ }
 {
     let n = y.routes.routes.count as usize;
@@ -57,7 +58,7 @@ fn mark_route_range(
     code_end: u64,
     r: usize,
 )
-    requires { ⌜ Passed (imageIn (now s) y) × («code_end» ≡ codeEnd (tableOf (imageIn (now s) y))) × (r < y .routes .routes .count) ⌝ }
+    requires { ⌜ Passed (imageIn (now s) y) × («code_end» ≡ codeEnd (tableOf (imageIn (now s) y))) × (r < y .routes .routes .count) × ImageThere (now s) y ⌝ }
     ensures { λ _. ⌜ Marked (y .code .instructions .count) (routeRange (imageIn (now (s .entry)) y) r) (now (marks .entry)) (now (marks .exit)) ⌝ }
 {
     let route = route_at(s, y.routes.routes, r);
@@ -74,7 +75,7 @@ fn mark_route_range(
 
 // The funclets that the routes' paths enter.
 fn mark_funclets(mut marks: [bool; 512], s: &[u8], y: Layout, hints: &[u16]) -> [bool; 512]
-    requires { ⌜ Passed (imageIn (now s) y) ⌝ }
+    requires { ⌜ Passed (imageIn (now s) y) × ImageThere (now s) y ⌝ }
     ensures { λ r. ⌜ Marked (y .code .instructions .count) (funcletMark (imageIn (now (s .entry)) y)) marks r ⌝ }
 {
     let n = y.routes.steps.count as usize;
@@ -85,7 +86,7 @@ fn mark_funclets(mut marks: [bool; 512], s: &[u8], y: Layout, hints: &[u16]) -> 
 }
 
 fn mark_funclet(marks: &mut [bool; 512], s: &[u8], y: Layout, hints: &[u16], k: usize)
-    requires { ⌜ Passed (imageIn (now s) y) ⌝ }
+    requires { ⌜ Passed (imageIn (now s) y) × ImageThere (now s) y ⌝ }
     ensures { λ _. ⌜ Marked (y .code .instructions .count) (stepMark (imageIn (now (s .entry)) y) k) (now (marks .entry)) (now (marks .exit)) ⌝ }
 {
     let step = step_at(s, y.routes.steps, k);
@@ -101,7 +102,7 @@ fn mark_funclet(marks: &mut [bool; 512], s: &[u8], y: Layout, hints: &[u16], k: 
 
 // The handlers at which they end.
 fn mark_path_ends(mut marks: [bool; 512], s: &[u8], y: Layout, hints: &[u16]) -> [bool; 512]
-    requires { ⌜ Passed (imageIn (now s) y) ⌝ }
+    requires { ⌜ Passed (imageIn (now s) y) × ImageThere (now s) y ⌝ }
     ensures { λ r. ⌜ Marked (y .code .instructions .count) (pathEndMark (imageIn (now (s .entry)) y)) marks r ⌝ }
 {
     let n = y.routes.paths.count as usize;
@@ -112,7 +113,7 @@ fn mark_path_ends(mut marks: [bool; 512], s: &[u8], y: Layout, hints: &[u16]) ->
 }
 
 fn mark_path_end(marks: &mut [bool; 512], s: &[u8], y: Layout, hints: &[u16], k: usize)
-    requires { ⌜ Passed (imageIn (now s) y) ⌝ }
+    requires { ⌜ Passed (imageIn (now s) y) × ImageThere (now s) y ⌝ }
     ensures { λ _. ⌜ Marked (y .code .instructions .count) (pathMark (imageIn (now (s .entry)) y) k) (now (marks .entry)) (now (marks .exit)) ⌝ }
 {
     let path = path_at(s, y.routes.paths, k);

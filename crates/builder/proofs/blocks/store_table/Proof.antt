@@ -31,8 +31,8 @@ cast-n c = search needs
 loop-holds : tie.Need-loop-holds Inv-loop μ-loop
 loop-holds c = (search needs, table-none _)
 
-record-at-requires : tie.Need-record-at-requires Inv-loop μ-loop
-record-at-requires c κs = search needs
+instruction-in-requires : tie.Need-instruction-in-requires Inv-loop μ-loop
+instruction-in-requires c κs = search needs
 
 table-entry-requires : tie.Need-table-entry-requires Inv-loop μ-loop
 table-entry-requires c κs = search needs
@@ -51,7 +51,7 @@ loop-again c =
     let top = c .before .before .before .before .before .loop in
     let a = c .before .before .before .before .before .before .before .before .args in
     let is = recordsIn instructionFrom (a .s .now) (a .y) in
-    let entry = c .before .table-entry .ensures ∙ ap tableEntry (c .before .before .record-at .ensures) in
+    let entry = c .before .table-entry .ensures ∙ ap tableEntry (c .before .before .instruction-in .ensures) in
     (search needs, rw (table-next is (top .p) (rw (length-records instructionFrom (a .s .now) (a .y)) (c .before .before .before .before .loop-test .taken)), ← entry) (table-more _ _ (top .inv .1) (c .add-entry .ensures)))
 
 returns : tie.Need-returns Inv-loop μ-loop
@@ -68,7 +68,7 @@ store-table-spec =
     μ-loop
     cast-n
     loop-holds
-    record-at-requires
+    instruction-in-requires
     table-entry-requires
     add-entry-requires
     add-p

@@ -11,7 +11,7 @@ use Rattle.builder.proofs.build.build.Tie as tie
 build-read-requires : tie.Need-build-read-requires
 build-read-requires c κs =
     let start = c .before .before .before .before .before .before in
-    accepted (start .args .s .now) (imageIn (start .args .s .now) _) (sym (rw (c .before .before .y .given .1) at (c .before .before .before .before .read-image .ensures)))
+    (accepted (start .args .s .now) (imageIn (start .args .s .now) _) (sym (rw (c .before .before .y .given .1) at (c .before .before .before .before .read-image .ensures))), search needs)
 
 returns : tie.Need-returns
 returns c =

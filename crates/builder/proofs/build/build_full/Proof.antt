@@ -10,7 +10,7 @@ use Rattle.builder.proofs.build.build_full.Tie as tie
 build-in-requires : tie.Need-build-in-requires
 build-in-requires c κs =
     let start = c .before .before .before .before in
-    (start .pre, (omega (arith, start .pre .instructions-most, length-records instructionFrom (start .args .s .now) (start .args .y .code .instructions)), refl))
+    (start .pre .0, (omega (arith, start .pre .0 .instructions-most, length-records instructionFrom (start .args .s .now) (start .args .y .code .instructions)), refl), search needs)
 
 pub build-full-spec : {M : Type 1} → statement M
 build-full-spec = tie.close (tie.spec (λ c. search needs) (λ c. search needs) build-in-requires (λ c. search needs))

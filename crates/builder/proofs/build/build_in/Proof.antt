@@ -8,7 +8,7 @@ use Rattle.builder.proofs.build.build_in.Statement.{statement}
 use Rattle.builder.proofs.build.build_in.Tie as tie
 
 check-input-requires : tie.Need-check-input-requires
-check-input-requires c κs = (c .before .before .before .before .before .pre .0, c .before .code-end .ensures)
+check-input-requires c κs = (c .before .before .before .before .before .pre .0, c .before .code-end .ensures, search needs)
 
 same-length : tie.Need-same-length
 same-length c = c .before .before .before .before .before .check-input .kept .1 .1 .0
@@ -22,17 +22,17 @@ leaders-requires : tie.Need-leaders-requires
 leaders-requires c κs =
     let start = c .before .before .before .before .before .before .before .before .before .before .before in
     let m = imageIn (start .args .s .now) (start .args .y) in
-    (passed m (start .pre .0) (parts m (sym (rw (c .before .enum-told .given .1) at (c .before .before .before .before .before .check-input .ensures)))), c .before .before .before .before .before .before .before .code-end .ensures)
+    (passed m (start .pre .0) (parts m (sym (rw (c .before .enum-told .given .1) at (c .before .before .before .before .before .check-input .ensures)))), c .before .before .before .before .before .before .before .code-end .ensures, search needs)
 
 check-result-requires : tie.Need-check-result-requires
 check-result-requires c κs =
     let start = c .before .before .before .before .before .before .before .before .before .before .before .before .before .before in
-    record {
+    (record {
       accepted = start .pre .0;
       passed = sym (rw (c .before .before .before .before .enum-told .given .1) at (c .before .before .before .before .before .before .before .before .check-input .ensures));
       ended = c .before .before .before .before .before .before .before .before .before .before .code-end .ensures;
       leading = c .before .before .leaders .ensures;
-    }
+    }, search needs)
 
 same-length-2 : tie.Need-same-length-2
 same-length-2 c = c .before .before .before .before .before .before .before .before .before .before .before .before .check-input .kept .1 .1 .0
@@ -53,6 +53,7 @@ store-graph-requires c κs =
       },
       sym (rw (c .before .before .before .before .enum-told2 .given .1) at (c .before .before .before .before .before .before .check-result .ensures)),
       start .pre .1,
+      search needs,
     )
 
 same-length-3 : tie.Need-same-length-3

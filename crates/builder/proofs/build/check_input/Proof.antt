@@ -8,20 +8,20 @@ use Rattle.builder.proofs.build.check_input.Statement.{statement}
 use Rattle.builder.proofs.build.check_input.Tie as tie
 
 check-entry-requires : tie.Need-check-entry-requires
-check-entry-requires c κs = rising _ (sym (rw (c .before .enum-told .given .1) at (c .before .before .before .before .before .check-table .ensures)))
+check-entry-requires c κs = (rising _ (sym (rw (c .before .enum-told .given .1) at (c .before .before .before .before .before .check-table .ensures))), search needs)
 
 check-sources-requires : tie.Need-check-sources-requires
-check-sources-requires c κs = rising _ (sym (rw (c .before .before .before .before .before .enum-told .given .1) at (c .before .before .before .before .before .before .before .before .before .check-table .ensures)))
+check-sources-requires c κs = (rising _ (sym (rw (c .before .before .before .before .before .enum-told .given .1) at (c .before .before .before .before .before .before .before .before .before .check-table .ensures))), search needs)
 
 check-given-requires : tie.Need-check-given-requires
 check-given-requires c κs =
-    sourced _ (c .before .before .before .before .before .before .before .before .before .before .before .before .before .before .before .before .before .pre .0) (sym (rw (c .before .before .before .before .before .before .before .before .before .enum-told .given .1) at (c .before .before .before .before .before .before .before .before .before .before .before .before .before .check-table .ensures))) (sym (rw (c .before .enum-told3 .given .1) at (c .before .before .before .check-sources .ensures)))
+    (sourced _ (c .before .before .before .before .before .before .before .before .before .before .before .before .before .before .before .before .before .pre .0) (sym (rw (c .before .before .before .before .before .before .before .before .before .enum-told .given .1) at (c .before .before .before .before .before .before .before .before .before .before .before .before .before .check-table .ensures))) (sym (rw (c .before .enum-told3 .given .1) at (c .before .before .before .check-sources .ensures))), search needs)
 
 check-handlers-requires : tie.Need-check-handlers-requires
-check-handlers-requires c κs = (sym (rw (c .before .before .before .before .before .before .before .before .before .before .before .before .before .enum-told .given .1) at (c .before .before .before .before .before .before .before .before .before .before .before .before .before .before .before .before .before .check-table .ensures)), c .before .before .before .before .before .before .before .before .before .before .before .before .before .before .before .before .before .before .before .before .before .pre .1)
+check-handlers-requires c κs = ((sym (rw (c .before .before .before .before .before .before .before .before .before .before .before .before .before .enum-told .given .1) at (c .before .before .before .before .before .before .before .before .before .before .before .before .before .before .before .before .before .check-table .ensures)), c .before .before .before .before .before .before .before .before .before .before .before .before .before .before .before .before .before .before .before .before .before .pre .1), search needs)
 
 check-routes-requires : tie.Need-check-routes-requires
-check-routes-requires c κs = (c .before .before .before .before .before .before .before .before .before .before .before .before .before .before .before .before .before .before .before .before .before .before .before .before .before .pre .0, (sym (rw (c .before .before .before .before .before .before .before .before .before .before .before .before .before .before .before .before .before .enum-told .given .1) at (c .before .before .before .before .before .before .before .before .before .before .before .before .before .before .before .before .before .before .before .before .before .check-table .ensures)), c .before .before .before .before .before .before .before .before .before .before .before .before .before .before .before .before .before .before .before .before .before .before .before .before .before .pre .1))
+check-routes-requires c κs = (c .before .before .before .before .before .before .before .before .before .before .before .before .before .before .before .before .before .before .before .before .before .before .before .before .before .pre .0, (sym (rw (c .before .before .before .before .before .before .before .before .before .before .before .before .before .before .before .before .before .enum-told .given .1) at (c .before .before .before .before .before .before .before .before .before .before .before .before .before .before .before .before .before .before .before .before .before .check-table .ensures)), c .before .before .before .before .before .before .before .before .before .before .before .before .before .before .before .before .before .before .before .before .before .before .before .before .before .pre .1), search needs)
 
 same-length : tie.Need-same-length
 same-length c = c .before .before .before .before .before .check-table .kept .1 .1 .0

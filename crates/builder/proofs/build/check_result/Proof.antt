@@ -11,8 +11,8 @@ check-continuations-requires : tie.Need-check-continuations-requires
 check-continuations-requires c κs =
     let start = c .before .before in
     let m = imageIn (start .args .s .now) (start .args .y) in
-    let p = parts m (start .pre .passed) in
-    (passed m (start .pre .accepted) p .sourced, p .given, start .pre .leading)
+    let p = parts m (start .pre .0 .passed) in
+    (passed m (start .pre .0 .accepted) p .sourced, p .given, start .pre .0 .leading, search needs)
 
 returns : tie.Need-returns
 unfolding resultCheck
@@ -22,7 +22,7 @@ check-edge-count-requires : tie.Need-check-edge-count-requires
 check-edge-count-requires c κs =
     let start = c .before .before .before .before .before in
     let m = imageIn (start .args .s .now) (start .args .y) in
-    (passed m (start .pre .accepted) (parts m (start .pre .passed)), start .pre .leading, start .pre .ended)
+    (passed m (start .pre .0 .accepted) (parts m (start .pre .0 .passed)), start .pre .0 .leading, start .pre .0 .ended, search needs)
 
 returns-2 : tie.Need-returns-2
 unfolding resultCheck

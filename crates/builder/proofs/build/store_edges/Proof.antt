@@ -11,14 +11,14 @@ add-normal-edges-requires c κs =
     let start = c .before .before .before .before in
     let m = imageIn (start .args .s .now) (start .args .y) in
     let b = start .pre .0 in
-    (emitting m (b .accepted) (parts m (b .passed)) (start .args .blocks .now) (start .pre .1), b .leading)
+    ((emitting m (b .accepted) (parts m (b .passed)) (start .args .blocks .now) (start .pre .1), search needs), b .leading)
 
 add-exception-edges-requires : tie.Need-add-exception-edges-requires
 add-exception-edges-requires c κs =
     let start = c .before .before .before .before .before .before in
     let m = imageIn (start .args .s .now) (start .args .y) in
     let b = start .pre .0 in
-    (handled m (b .accepted) (parts m (b .passed)) (start .args .blocks .now) (start .pre .1), b .ended)
+    (handled m (b .accepted) (parts m (b .passed)) (start .args .blocks .now) (start .pre .1), b .ended, search needs)
 
 returns : tie.Need-returns
 returns c =

@@ -16,7 +16,7 @@ number-blocks-requires c κs =
     (omega (arith, start .pre .0 .accepted .instructions-most, n), omega (arith, start .pre .2 .0, n), start .pre .2 .1)
 
 store-code-requires : tie.Need-store-code-requires
-store-code-requires c κs = let start = c .before .before .before .before .before .before .before .before .before in (start .pre .0 .accepted .instructions-most, start .pre .0 .leading)
+store-code-requires c κs = let start = c .before .before .before .before .before .before .before .before .before in (start .pre .0 .accepted .instructions-most, start .pre .0 .leading, search needs)
 
 store-edges-requires : tie.Need-store-edges-requires
 store-edges-requires c κs =
@@ -25,7 +25,7 @@ store-edges-requires c κs =
     let m = imageIn (a .s .now) (a .y) in
     let b = start .pre .0 in
     let n = length-records instructionFrom (a .s .now) (a .y .code .instructions) in
-    (b, numbered m (b .accepted) (parts m (b .passed)) _ (omega (arith, c .before .before .before .before .before .before .number-blocks .kept .0, start .pre .2 .0)) (λ q h. c .before .before .before .before .before .before .number-blocks .ensures m n (b .leading) q (omega arith)))
+    (b, numbered m (b .accepted) (parts m (b .passed)) _ (omega (arith, c .before .before .before .before .before .before .number-blocks .kept .0, start .pre .2 .0)) (λ q h. c .before .before .before .before .before .before .number-blocks .ensures m n (b .leading) q (omega arith)), search needs)
 
 add-regions-requires : tie.Need-add-regions-requires
 add-regions-requires c κs =
@@ -35,7 +35,7 @@ add-regions-requires c κs =
     let b = start .pre .0 in
     let p = parts m (b .passed) in
     let n = length-records instructionFrom (a .s .now) (a .y .code .instructions) in (
-      (handled m (b .accepted) p _ (numbered m (b .accepted) p _ (omega (arith, c .before .before .before .before .before .before .before .before .before .number-blocks .kept .0, start .pre .2 .0)) (λ q h. c .before .before .before .before .before .before .before .before .before .number-blocks .ensures m n (b .leading) q (omega arith))), b .ended),
+      (handled m (b .accepted) p _ (numbered m (b .accepted) p _ (omega (arith, c .before .before .before .before .before .before .before .before .before .number-blocks .kept .0, start .pre .2 .0)) (λ q h. c .before .before .before .before .before .before .before .before .before .number-blocks .ensures m n (b .leading) q (omega arith))), b .ended, search needs),
       ready m (b .accepted) p (start .pre .1) (c .before .before .before .before .before .store-code .ensures) (c .before .before .store-edges .ensures),
     )
 
@@ -47,7 +47,7 @@ entry-block-requires c κs =
     let b = start .pre .0 in
     let p = parts m (b .passed) in
     let n = length-records instructionFrom (a .s .now) (a .y .code .instructions) in
-    (numbered m (b .accepted) p _ (omega (arith, c .before .before .before .before .before .before .before .before .before .before .before .before .number-blocks .kept .0, start .pre .2 .0)) (λ q h. c .before .before .before .before .before .before .before .before .before .before .before .before .number-blocks .ensures m n (b .leading) q (omega arith)), p .entry)
+    (numbered m (b .accepted) p _ (omega (arith, c .before .before .before .before .before .before .before .before .before .before .before .before .number-blocks .kept .0, start .pre .2 .0)) (λ q h. c .before .before .before .before .before .before .before .before .before .before .before .before .number-blocks .ensures m n (b .leading) q (omega arith)), p .entry, search needs)
 
 same-length : tie.Need-same-length
 same-length c = c .before .before .before .before .before .before .before .before .before .before .before .before .before .before .number-blocks .kept .0

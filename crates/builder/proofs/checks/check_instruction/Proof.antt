@@ -11,8 +11,8 @@ use borrow.Author.Needs.{needs}
 use Rattle.builder.proofs.checks.check_instruction.Statement.{statement}
 use Rattle.builder.proofs.checks.check_instruction.Tie as tie
 
-record-at-requires : tie.Need-record-at-requires
-record-at-requires c κs = search needs
+instruction-in-requires : tie.Need-instruction-in-requires
+instruction-in-requires c κs = search needs
 
 same-length : tie.Need-same-length
 same-length c = c .before .before .before .before .put-hint .kept .0
@@ -21,8 +21,8 @@ returns : tie.Need-returns
 unfolding instructionCheck tableEntry
 returns c =
     let a = c .before .before .before .before .before .before .before .before .before .args in
-    let here = entry-is (recordsIn instructionFrom (a .s .now) (a .y)) (a .p) ∙ ap tableEntry (sym (c .before .before .before .before .before .before .record-at .ensures)) in
-    rw (here, not-true (c .before .before .before .before .before .before .record-at .result .«has_end») (c .if1 .taken))
+    let here = entry-is (recordsIn instructionFrom (a .s .now) (a .y)) (a .p) ∙ ap tableEntry (sym (c .before .before .before .before .before .before .instruction-in .ensures)) in
+    rw (here, not-true (c .before .before .before .before .before .before .instruction-in .result .«has_end») (c .if1 .taken))
 
 same-length-2 : tie.Need-same-length-2
 same-length-2 c = c .before .before .before .before .before .before .put-hint .kept .0
@@ -31,16 +31,16 @@ returns-2 : tie.Need-returns-2
 unfolding instructionCheck tableEntry
 returns-2 c =
     let a = c .before .before .before .before .before .before .before .before .before .before .before .args in
-    let here = entry-is (recordsIn instructionFrom (a .s .now) (a .y)) (a .p) ∙ ap tableEntry (sym (c .before .before .before .before .before .before .before .before .record-at .ensures)) in
-    rw (here, not-false (c .before .before .before .before .before .before .before .before .record-at .result .«has_end») (c .before .before .if1 .left), le-ltb _ _ (c .if2 .taken))
+    let here = entry-is (recordsIn instructionFrom (a .s .now) (a .y)) (a .p) ∙ ap tableEntry (sym (c .before .before .before .before .before .before .before .before .instruction-in .ensures)) in
+    rw (here, not-false (c .before .before .before .before .before .before .before .before .instruction-in .result .«has_end») (c .before .before .if1 .left), le-ltb _ _ (c .if2 .taken))
 
 check-order-requires : tie.Need-check-order-requires
 unfolding tableEntry
 check-order-requires c κs =
     let start = c .before .before .before .before .before .before .before .before .before .before .before in
     let a = start .args in
-    let here = entry-is (recordsIn instructionFrom (a .s .now) (a .y)) (a .p) ∙ ap tableEntry (sym (c .before .before .before .before .before .before .before .before .record-at .ensures)) in
-    (start .pre, ap (λ (e : TableEntry). e .address) (sym here))
+    let here = entry-is (recordsIn instructionFrom (a .s .now) (a .y)) (a .p) ∙ ap tableEntry (sym (c .before .before .before .before .before .before .before .before .instruction-in .ensures)) in
+    (start .pre .0, ap (λ (e : TableEntry). e .address) (sym here), search needs)
 
 same-length-3 : tie.Need-same-length-3
 same-length-3 c = c .before .before .before .before .before .before .before .put-hint .kept .0
@@ -49,14 +49,14 @@ returns-3 : tie.Need-returns-3
 unfolding instructionCheck tableEntry
 returns-3 c =
     let a = c .before .before .before .before .before .before .before .before .before .before .before .before .args in
-    let here = entry-is (recordsIn instructionFrom (a .s .now) (a .y)) (a .p) ∙ ap tableEntry (sym (c .before .before .before .before .before .before .before .before .before .record-at .ensures)) in
-    rw (here, not-false (c .before .before .before .before .before .before .before .before .before .record-at .result .«has_end») (c .before .before .before .if1 .left), lt-ltb _ _ (c .before .if2 .left)) (c .check-order .ensures)
+    let here = entry-is (recordsIn instructionFrom (a .s .now) (a .y)) (a .p) ∙ ap tableEntry (sym (c .before .before .before .before .before .before .before .before .before .instruction-in .ensures)) in
+    rw (here, not-false (c .before .before .before .before .before .before .before .before .before .instruction-in .result .«has_end») (c .before .before .before .if1 .left), lt-ltb _ _ (c .before .if2 .left)) (c .check-order .ensures)
 
 pub check-instruction-spec : {M : Type 1} → statement M
 check-instruction-spec =
     tie.close
     (tie.spec
-    record-at-requires
+    instruction-in-requires
     (λ c κs. search needs)
     same-length
     returns

@@ -38,7 +38,7 @@ edge-at-requires : tie.Need-edge-at-requires Inv-loop μ-loop
 edge-at-requires c κs = search needs
 
 find-requires : tie.Need-find-requires Inv-loop μ-loop
-find-requires c κs = c .before .before .before .before .before .before .before .pre .0
+find-requires c κs = (c .before .before .before .before .before .before .before .pre .0, search needs)
 
 enum-told : tie.Need-enum-told Inv-loop μ-loop
 enum-told c = search needs

@@ -20,7 +20,7 @@ check-targets-requires c κs =
     let p = start .pre in
     let m = imageIn (a .s .now) (a .y) in
     let inside : a .c .at < size m = rw (length-records instructionFrom (a .s .now) (a .y .code .instructions)) (p .1 .1) in
-    (p .0 .0 .rising, visit-within m (p .0 .0) (a .c .at) inside (a .c) (a .visit) (p .1 .0) (p .1 .2) _ (c .before .given .given .1))
+    (p .0 .0 .rising, visit-within m (p .0 .0) (a .c .at) inside (a .c) (a .visit) (p .1 .0) (p .1 .2) _ (c .before .given .given .1), search needs, search needs)
 
 enum-told : tie.Need-enum-told
 enum-told c = search needs

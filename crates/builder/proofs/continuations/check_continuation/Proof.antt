@@ -36,7 +36,7 @@ add-near c =
     omega (arith, start .pre .1 .1, start .pre .0 .0 .accepted .instructions-most)
 
 find-near-requires : tie.Need-find-near-requires
-find-near-requires c κs = c .before .before .before .before .before .before .before .pre .0 .0 .rising
+find-near-requires c κs = (c .before .before .before .before .before .before .before .pre .0 .0 .rising, search needs)
 
 returns-3 : tie.Need-returns-3
 returns-3 c =

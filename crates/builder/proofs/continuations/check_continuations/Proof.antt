@@ -39,22 +39,22 @@ loop-holds c =
     let here = c .cursor-start .ensures (imageIn (a .s .now) (a .y)) in
     (omega (arith, ap (λ (x : Cursor). x .at) here), rw here, rw here)
 
-record-at-requires : tie.Need-record-at-requires Inv-loop μ-loop
-record-at-requires c κs = c .if2 .taken
+instruction-in-requires : tie.Need-instruction-in-requires Inv-loop μ-loop
+instruction-in-requires c κs = (search needs, c .if2 .taken)
 
 cursor-after-requires : tie.Need-cursor-after-requires Inv-loop μ-loop
 cursor-after-requires c κs =
     let start = c .before .before .before .before .before .before .before .before .before .before .before .before in
     let a = start .args in
     let top = c .before .before .before .before .loop in
-    scan-fits (a .s .now) (a .y) (start .pre .0) (top .c) (top .inv .1) (c .before .before .if2 .taken) (c .before .record-at .result) (c .before .record-at .ensures) (c .given-at .result) (c .given-at .ensures)
+    scan-fits (a .s .now) (a .y) (start .pre .0) (top .c) (top .inv .1) (c .before .before .if2 .taken) (c .before .instruction-in .result) (c .before .instruction-in .ensures) (c .given-at .result) (c .given-at .ensures)
 
 check-continuation-requires : tie.Need-check-continuation-requires Inv-loop μ-loop
 check-continuation-requires c κs =
     let start = c .before .before .before .before .before .before .before .before .before .before .before .before .before in
     let a = start .args in
     let top = c .before .before .before .before .before .loop in
-    let visited = scan-visit (a .s .now) (a .y) (start .pre .0) (top .c) (top .inv .1) (c .before .before .before .if2 .taken) (c .before .before .record-at .result) (c .before .before .record-at .ensures) (c .before .given-at .result) (c .before .given-at .ensures) _ (c .cursor-after .ensures) in
+    let visited = scan-visit (a .s .now) (a .y) (start .pre .0) (top .c) (top .inv .1) (c .before .before .before .if2 .taken) (c .before .before .instruction-in .result) (c .before .before .instruction-in .ensures) (c .before .given-at .result) (c .before .given-at .ensures) _ (c .cursor-after .ensures) in
     (start .pre, (c .before .before .before .before .before .before .before .before .before .before .if1 .left, rw (length-records instructionFrom (a .s .now) (a .y .code .instructions)) (c .before .before .before .if2 .taken), visited))
 
 returns-2 : tie.Need-returns-2 Inv-loop μ-loop
@@ -71,7 +71,7 @@ loop-less c =
     let start = c .before .before .before .before .before .before .before .before .before .before .before .before .before .before .before .before in
     let a = start .args in
     let top = c .before .before .before .before .before .before .before .before .loop in
-    let next = scan-next (a .s .now) (a .y) (start .pre .0) (top .c) (top .inv .1) (c .before .before .before .before .before .before .if2 .taken) (c .before .before .before .before .before .record-at .result) (c .before .before .before .before .before .record-at .ensures) (c .before .before .before .before .given-at .result) (c .before .before .before .before .given-at .ensures) _ (c .before .before .before .cursor-after .ensures) in
+    let next = scan-next (a .s .now) (a .y) (start .pre .0) (top .c) (top .inv .1) (c .before .before .before .before .before .before .if2 .taken) (c .before .before .before .before .before .instruction-in .result) (c .before .before .before .before .before .instruction-in .ensures) (c .before .before .before .before .given-at .result) (c .before .before .before .before .given-at .ensures) _ (c .before .before .before .cursor-after .ensures) in
     omega (arith, ap (λ (x : Cursor). x .at) next, c .before .before .before .before .before .before .if2 .taken)
 
 loop-again : tie.Need-loop-again Inv-loop μ-loop
@@ -80,7 +80,7 @@ loop-again c =
     let a = start .args in
     let m = imageIn (a .s .now) (a .y) in
     let top = c .before .before .before .before .before .before .before .before .loop in
-    let next = scan-next (a .s .now) (a .y) (start .pre .0) (top .c) (top .inv .1) (c .before .before .before .before .before .before .if2 .taken) (c .before .before .before .before .before .record-at .result) (c .before .before .before .before .before .record-at .ensures) (c .before .before .before .before .given-at .result) (c .before .before .before .before .given-at .ensures) _ (c .before .before .before .cursor-after .ensures) in
+    let next = scan-next (a .s .now) (a .y) (start .pre .0) (top .c) (top .inv .1) (c .before .before .before .before .before .before .if2 .taken) (c .before .before .before .before .before .instruction-in .result) (c .before .before .before .before .before .instruction-in .ensures) (c .before .before .before .before .given-at .result) (c .before .before .before .before .given-at .ensures) _ (c .before .before .before .cursor-after .ensures) in
     let passed = sym (c .before .before .check-continuation .ensures) ∙ ap checkOf (c .enum-told .given .1) in
     (omega (arith, ap (λ (x : Cursor). x .at) next, c .before .before .before .before .before .before .if2 .taken), rw next, rw next (checks-more (continuationCheck m) (top .c .at) (top .inv .2) ∙ passed))
 
@@ -102,7 +102,7 @@ check-continuations-spec =
     (λ c. search needs)
     (λ c κs. search needs)
     loop-holds
-    record-at-requires
+    instruction-in-requires
     (λ c κs. search needs)
     cursor-after-requires
     check-continuation-requires

@@ -17,7 +17,7 @@ returns-2 c =
     let read : _≡_ {A = GivenSource} (record { address = c .before .octet .result; edges = c .quad .result }) (sourceFrom (a .s .now) (c .before .before .before .place .result)) = rw (c .before .octet .ensures, c .quad .ensures .0) in
     read
     ∙ ap (sourceFrom (a .s .now)) (c .before .before .before .place .ensures .0)
-    ∙ sym (records-in sourceFrom (a .s .now) (a .sources) (a .i) (start .pre))
+    ∙ sym (records-in sourceFrom (a .s .now) (a .sources) (a .i) (start .pre .0))
 
 pub given-source-spec : {M : Type 1} → statement M
 given-source-spec =

@@ -10,8 +10,8 @@ use borrow.Author.Needs.{needs}
 use Rattle.builder.proofs.cursor.visit_at.Statement.{statement}
 use Rattle.builder.proofs.cursor.visit_at.Tie as tie
 
-record-at-requires : tie.Need-record-at-requires
-record-at-requires c κs = search needs
+instruction-in-requires : tie.Need-instruction-in-requires
+instruction-in-requires c κs = search needs
 
 given-at-requires : tie.Need-given-at-requires
 given-at-requires c κs = search needs
@@ -22,8 +22,8 @@ cursor-after-requires c κs =
     let start = c .before .before .before .before in
     let m = imageIn (start .args .s .now) (start .args .y) in
     let inside : start .args .c .at < size m = rw (length-records instructionFrom (start .args .s .now) (start .args .y .code .instructions)) (start .pre .2) in
-    let leads = c .given-at .ensures ∙ visit-given m (start .pre .0) (start .args .c .at) inside (start .args .c) (c .before .record-at .result) (start .pre .1) (c .before .record-at .ensures) in
-    visit-fits m (start .pre .0) (start .args .c .at) inside (start .args .c) (c .before .record-at .result) (start .pre .1) (c .before .record-at .ensures) (c .given-at .result) leads
+    let leads = c .given-at .ensures ∙ visit-given m (start .pre .0) (start .args .c .at) inside (start .args .c) (c .before .instruction-in .result) (start .pre .1) (c .before .instruction-in .ensures) in
+    visit-fits m (start .pre .0) (start .args .c .at) inside (start .args .c) (c .before .instruction-in .result) (start .pre .1) (c .before .instruction-in .ensures) (c .given-at .result) leads
 
 returns : tie.Need-returns
 unfolding instructionAt
@@ -31,10 +31,10 @@ returns c =
     let start = c .before .before .before .before .before in
     let m = imageIn (start .args .s .now) (start .args .y) in
     let inside : start .args .c .at < size m = rw (length-records instructionFrom (start .args .s .now) (start .args .y .code .instructions)) (start .pre .2) in
-    let leads = c .before .given-at .ensures ∙ visit-given m (start .pre .0) (start .args .c .at) inside (start .args .c) (c .before .before .record-at .result) (start .pre .1) (c .before .before .record-at .ensures) in
-    let next = c .cursor-after .ensures ∙ visit-next m (start .pre .0) (start .args .c .at) inside (start .args .c) (c .before .before .record-at .result) (start .pre .1) (c .before .before .record-at .ensures) (c .before .given-at .result) leads in
-    λ i. record { instruction = c .before .before .record-at .ensures i; given = leads i; next = next i }
+    let leads = c .before .given-at .ensures ∙ visit-given m (start .pre .0) (start .args .c .at) inside (start .args .c) (c .before .before .instruction-in .result) (start .pre .1) (c .before .before .instruction-in .ensures) in
+    let next = c .cursor-after .ensures ∙ visit-next m (start .pre .0) (start .args .c .at) inside (start .args .c) (c .before .before .instruction-in .result) (start .pre .1) (c .before .before .instruction-in .ensures) (c .before .given-at .result) leads in
+    λ i. record { instruction = c .before .before .instruction-in .ensures i; given = leads i; next = next i }
 
 pub visit-at-spec : {M : Type 1} → statement M
 visit-at-spec =
-    tie.close (tie.spec record-at-requires given-at-requires cursor-after-requires returns)
+    tie.close (tie.spec instruction-in-requires given-at-requires cursor-after-requires returns)

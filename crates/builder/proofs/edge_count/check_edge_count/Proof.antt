@@ -63,7 +63,7 @@ returns-3 c =
 normal-count-requires : tie.Need-normal-count-requires
 normal-count-requires c κs =
     let start = c .before .before .before .before .before .before .before .before .before .before in
-    (start .pre .0 .sourced, start .pre .1, c .before .before .before .before .before .before .if1 .left)
+    (start .pre .0 .sourced, start .pre .1, c .before .before .before .before .before .before .if1 .left, search needs)
 
 add-if4 : tie.Need-add-if4
 add-if4 c =

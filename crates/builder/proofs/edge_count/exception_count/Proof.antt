@@ -23,7 +23,7 @@ abbrev μ-loop : tie.MeasureT-loop
 μ-loop s y hints code-end kept n edges₀ h₀ edges h = n - h
 
 kept-before-requires : tie.Need-kept-before-requires Inv-loop μ-loop
-kept-before-requires c κs = c .before .before .pre .0 .sourced .accepted .instructions-most
+kept-before-requires c κs = (c .before .before .pre .0 .sourced .accepted .instructions-most, search needs)
 
 cast-n : tie.Need-cast-n Inv-loop μ-loop
 cast-n c =
@@ -41,7 +41,7 @@ kept-by-requires c κs =
     let start = c .before .before .before .before .before .before .before in
     let m = imageIn (start .args .s .now) (start .args .y) in
     let size = length-records handlerFrom (start .args .s .now) (start .args .y .code .handlers) in (
-      ((start .pre .0 .table, start .pre .2), checks-at (handlerCheck m) (length (m .handlers)) (c .before .before .loop .h) (start .pre .0 .handlers) (omega arith)),
+      ((start .pre .0 .table, start .pre .2), checks-at (handlerCheck m) (length (m .handlers)) (c .before .before .loop .h) (start .pre .0 .handlers) (omega arith), search needs),
       (start .pre .0 .sourced .accepted .instructions-most, c .before .before .before .before .kept-before .ensures),
     )
 

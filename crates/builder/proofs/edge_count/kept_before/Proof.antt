@@ -28,7 +28,7 @@ loop-holds : tie.Need-loop-holds Inv-loop μ-loop
 unfolding count
 loop-holds c =
     let start = c .before .before in
-    (search needs, omega (arith, start .pre, length-records instructionFrom (start .args .s .now) (start .args .y .code .instructions)), refl, λ q h. let e : q ≡ 0 = omega arith in rw e)
+    (search needs, omega (arith, start .pre .0, length-records instructionFrom (start .args .s .now) (start .args .y .code .instructions)), refl, λ q h. let e : q ≡ 0 = omega arith in rw e)
 
 behind-requires : tie.Need-behind-requires Inv-loop μ-loop
 behind-requires c κs =

@@ -37,7 +37,7 @@ visit-at-requires c κs =
     let m = imageIn (start .args .s .now) (start .args .y) in
     let top = c .before .loop in
     let at = ap (λ (x : Cursor). x .at) (top .inv .1) in
-    (start .pre .0, top .inv .1 ∙ ap (cursorAt m) (sym at), omega arith)
+    (start .pre .0, top .inv .1 ∙ ap (cursorAt m) (sym at), omega arith, search needs)
 
 is-terminator-requires : tie.Need-is-terminator-requires Inv-loop μ-loop
 is-terminator-requires c κs =
@@ -51,7 +51,7 @@ end-count-requires c κs =
     let top = c .before .before .before .loop in
     let at = ap (λ (x : Cursor). x .at) (top .inv .1) in
     let size-is = length-records instructionFrom (start .args .s .now) (start .args .y .code .instructions) in
-    ((start .pre .0, start .pre .2), (top .inv .1 ∙ ap (cursorAt m) (sym at), omega arith, ap (λ (x : Visit). x .instruction) (c .before .visit-at .ensures)))
+    ((start .pre .0, start .pre .2, search needs), (top .inv .1 ∙ ap (cursorAt m) (sym at), omega arith, ap (λ (x : Visit). x .instruction) (c .before .visit-at .ensures)))
 
 add-edges : tie.Need-add-edges Inv-loop μ-loop
 add-edges c =

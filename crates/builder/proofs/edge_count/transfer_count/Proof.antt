@@ -28,7 +28,7 @@ case-count-requires c κs =
     let start = c .before .before .before .before .before .before .before in
     let a = start .args in
     let m = imageIn (a .s .now) (a .y) in
-    (start .pre .0 .rising, omega (arith, case-fits m (start .pre .0) (a .c) (start .pre .1) (start .pre .2), ap (λ (x : Instruction). x .cases) (start .pre .3)))
+    (start .pre .0 .rising, omega (arith, case-fits m (start .pre .0) (a .c) (start .pre .1) (start .pre .2), ap (λ (x : Instruction). x .cases) (start .pre .3)), search needs)
 
 add-result : tie.Need-add-result
 add-result c =

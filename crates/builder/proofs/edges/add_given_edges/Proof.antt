@@ -43,6 +43,7 @@ add-given-requires c κs =
         start .pre .1 .0 .1,
         rw (given-next m (start .pre .0 .sourced) (a .c) (start .pre .1 .0 .0) (start .pre .1 .0 .1) (start .pre .1 .1 .0) k h)
             (given-starts m (start .pre .0 .given) (a .c .at) (start .pre .1 .0 .1) (start .pre .1 .1 .0) k h),
+        search needs,
       ),
     )
 

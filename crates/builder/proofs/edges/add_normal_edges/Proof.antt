@@ -33,8 +33,8 @@ loop-holds : tie.Need-loop-holds Inv-loop μ-loop
 unfolding flat
 loop-holds c = (search needs, c .cursor-start .ensures _, added-none _)
 
-record-at-requires : tie.Need-record-at-requires Inv-loop μ-loop
-record-at-requires c κs = omega (arith, ap (λ (x : Cursor). x .at) (c .before .loop .inv .1), c .loop-test .taken)
+instruction-in-requires : tie.Need-instruction-in-requires Inv-loop μ-loop
+instruction-in-requires c κs = (search needs, omega (arith, ap (λ (x : Cursor). x .at) (c .before .loop .inv .1), c .loop-test .taken))
 
 cursor-after-requires : tie.Need-cursor-after-requires Inv-loop μ-loop
 cursor-after-requires c κs =
@@ -43,12 +43,12 @@ cursor-after-requires c κs =
     let top = c .before .before .before .loop in
     let at = ap (λ (x : Cursor). x .at) (top .inv .1) in
     let within : top .c .at < a .y .code .instructions .count = omega (arith, at, c .before .before .loop-test .taken) in
-    scan-fits (a .s .now) (a .y) (start .pre .0 .sourced) (top .c) (top .inv .1 ∙ ap (cursorAt (imageIn (a .s .now) (a .y))) (sym at)) within (c .before .record-at .result) (c .before .record-at .ensures) (c .given-at .result) (c .given-at .ensures)
+    scan-fits (a .s .now) (a .y) (start .pre .0 .0 .sourced) (top .c) (top .inv .1 ∙ ap (cursorAt (imageIn (a .s .now) (a .y))) (sym at)) within (c .before .instruction-in .result) (c .before .instruction-in .ensures) (c .given-at .result) (c .given-at .ensures)
 
 is-terminator-requires : tie.Need-is-terminator-requires Inv-loop μ-loop
 is-terminator-requires c κs =
     let start = c .before .before .before .before .before .before .before .before .before .before .before .before .before in
-    omega (arith, length-records instructionFrom (start .args .s .now) (start .args .y .code .instructions), start .pre .0 .sourced .accepted .instructions-most)
+    omega (arith, length-records instructionFrom (start .args .s .now) (start .args .y .code .instructions), start .pre .0 .0 .sourced .accepted .instructions-most)
 
 emit-if-requires : tie.Need-emit-if-requires Inv-loop μ-loop
 emit-if-requires c κs =
@@ -60,18 +60,18 @@ emit-if-requires c κs =
     let here = top .inv .1 ∙ ap (cursorAt m) (sym at) in
     let size-is = length-records instructionFrom (a .s .now) (a .y .code .instructions) in
     let within : top .c .at < a .y .code .instructions .count = omega (arith, at, c .before .before .before .before .before .loop-test .taken) in (
-      start .pre .0,
+      (start .pre .0 .0, start .pre .0 .1),
       record {
         here = here;
         within = omega arith;
-        is = scan-visit (a .s .now) (a .y) (start .pre .0 .sourced) (top .c) here within (c .before .before .before .before .record-at .result) (c .before .before .before .before .record-at .ensures) (c .before .before .before .given-at .result) (c .before .before .before .given-at .ensures) _ (c .before .before .cursor-after .ensures);
+        is = scan-visit (a .s .now) (a .y) (start .pre .0 .0 .sourced) (top .c) here within (c .before .before .before .before .instruction-in .result) (c .before .before .before .before .instruction-in .ensures) (c .before .before .before .given-at .result) (c .before .before .before .given-at .ensures) _ (c .before .before .cursor-after .ensures);
       },
     )
 
 add-p : tie.Need-add-p Inv-loop μ-loop
 add-p c =
     let start = c .before .before .before .before .before .before .before .before .before .before .before .before .before .before .before in
-    omega (arith, length-records instructionFrom (start .args .s .now) (start .args .y .code .instructions), start .pre .0 .sourced .accepted .instructions-most)
+    omega (arith, length-records instructionFrom (start .args .s .now) (start .args .y .code .instructions), start .pre .0 .0 .sourced .accepted .instructions-most)
 
 loop-again : tie.Need-loop-again Inv-loop μ-loop
 loop-again c =
@@ -82,7 +82,7 @@ loop-again c =
     let at = ap (λ (x : Cursor). x .at) (top .inv .1) in
     let size-is = length-records instructionFrom (a .s .now) (a .y .code .instructions) in
     let within : top .c .at < a .y .code .instructions .count = omega (arith, at, c .before .before .before .before .before .before .loop-test .taken) in
-    let next = scan-next (a .s .now) (a .y) (start .pre .0 .sourced) (top .c) (top .inv .1 ∙ ap (cursorAt m) (sym at)) within (c .before .before .before .before .before .record-at .result) (c .before .before .before .before .before .record-at .ensures) (c .before .before .before .before .given-at .result) (c .before .before .before .before .given-at .ensures) _ (c .before .before .before .cursor-after .ensures) in
+    let next = scan-next (a .s .now) (a .y) (start .pre .0 .0 .sourced) (top .c) (top .inv .1 ∙ ap (cursorAt m) (sym at)) within (c .before .before .before .before .before .instruction-in .result) (c .before .before .before .before .before .instruction-in .ensures) (c .before .before .before .before .given-at .result) (c .before .before .before .before .given-at .ensures) _ (c .before .before .before .cursor-after .ensures) in
     let ends =
     c .before .is-terminator .ensures
     ∙ ap (λ (n : ℕ). eqb (top .p + 1) n || getD (a .marks .now) (top .p + 1) false) (sym size-is)
@@ -109,7 +109,7 @@ add-normal-edges-spec =
     (λ c. search needs)
     (λ c κs. search needs)
     loop-holds
-    record-at-requires
+    instruction-in-requires
     (λ c κs. search needs)
     cursor-after-requires
     is-terminator-requires

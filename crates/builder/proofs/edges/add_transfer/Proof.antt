@@ -10,7 +10,7 @@ use Rattle.builder.proofs.edges.add_transfer.Statement.{statement}
 use Rattle.builder.proofs.edges.add_transfer.Tie as tie
 
 resolve-requires : tie.Need-resolve-requires
-resolve-requires c κs = c .before .before .before .before .pre .0 .sourced .rising
+resolve-requires c κs = (c .before .before .before .before .pre .0 .sourced .rising, search needs)
 
 block-of-requires-2 : tie.Need-block-of-requires-2
 block-of-requires-2 c κs =

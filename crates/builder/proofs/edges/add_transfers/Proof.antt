@@ -46,10 +46,10 @@ transfer-of-requires c κs =
     let m = imageIn (a .s .now) (a .y) in
     let cases = cases-length m (start .pre .0 .sourced) (a .c .at) (start .pre .1 .1) ∙ sym (ap (λ (x : Instruction). x .cases) (start .pre .1 .2)) in
     let all = slot-count-is m (a .c .at) (a .i) (start .pre .1 .2) _ (c .before .before .before .before .flow-under .ensures) _ (c .before .before .slot-count .ensures) cases in
-    ((start .pre .0 .sourced, start .pre .1 .0, start .pre .1 .1, start .pre .1 .2), (c .before .before .before .before .flow-under .ensures, c .before .before .before .slots-of .ensures, omega (arith, all, c .loop-test .taken)))
+    ((start .pre .0 .sourced, start .pre .1 .0, start .pre .1 .1, start .pre .1 .2, search needs), (c .before .before .before .before .flow-under .ensures, c .before .before .before .slots-of .ensures, omega (arith, all, c .loop-test .taken)))
 
 add-transfer-requires : tie.Need-add-transfer-requires Inv-loop μ-loop
-add-transfer-requires c κs = let start = c .before .before .before .before .before .before .before .before .before .before in (start .pre .0, (start .pre .1 .1, ap (λ (x : Instruction). x .address) (start .pre .1 .2)))
+add-transfer-requires c κs = let start = c .before .before .before .before .before .before .before .before .before .before in (start .pre .0, (start .pre .1 .1, ap (λ (x : Instruction). x .address) (start .pre .1 .2), search needs))
 
 loop-again : tie.Need-loop-again Inv-loop μ-loop
 loop-again c =

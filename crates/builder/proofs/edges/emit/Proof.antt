@@ -14,12 +14,12 @@ add-given-edges-requires c κs =
     let a = start .args in
     let v = start .pre .1 in
     let leads = sym (ap (λ (x : Visit). x .given) (v .is)) ∙ c .before .before .given .given .1 in
-    (start .pre .0, ((v .here, v .within), leads-edges (imageIn (a .s .now) (a .y)) (a .c .at) _ leads))
+    (start .pre .0 .0, ((v .here, v .within, search needs), leads-edges (imageIn (a .s .now) (a .y)) (a .c .at) _ leads))
 
 add-transfers-requires : tie.Need-add-transfers-requires
 add-transfers-requires c κs =
     let v = c .before .before .before .before .before .before .pre .1 in
-    (c .before .before .before .before .before .before .pre .0, (v .here, v .within, ap (λ (x : Visit). x .instruction) (v .is)))
+    (c .before .before .before .before .before .before .pre .0 .0, (v .here, v .within, ap (λ (x : Visit). x .instruction) (v .is), search needs))
 
 returns : tie.Need-returns
 returns c =

@@ -35,7 +35,7 @@ block-at-requires : tie.Need-block-at-requires Inv-loop μ-loop
 block-at-requires c κs =
     let start = c .before .before .before .before .before .before .before .before in
     let a = start .args in
-    (start .pre .0 .0 .numbered, rw (c .before .before .before .before .handler .ensures) (entry-clear (imageIn (a .s .now) (a .y)) (a .h) (start .pre .1)))
+    (start .pre .0 .0 .numbered, rw (c .before .before .before .before .handler .ensures) (entry-clear (imageIn (a .s .now) (a .y)) (a .h) (start .pre .1)), search needs)
 
 loop-holds : tie.Need-loop-holds Inv-loop μ-loop
 unfolding flat
@@ -53,7 +53,7 @@ add-if-kept-requires c κs =
     let own = c .before .before .before .before .before .before .before .before .before .handler in
     let range = rw (c .before .before .before .before .before .before .range .given .1) at (c .before .before .before .before .before .before .before .before .range-check .ensures) in
     let size = length-entries (m .instructions) in (
-      (start .pre .0 .0 .numbered, omega arith),
+      (start .pre .0 .0 .numbered, omega arith, search needs),
       (entry-resolved m (a .h) (own .result) (own .ensures) _ (c .before .before .before .unwind-transfer .ensures) (start .pre .1), c .before .before .before .before .block-at .ensures ∙ ap (λ (x : Transfer). blockAt m (x .target)) (sym (c .before .before .before .unwind-transfer .ensures))),
     )
 

@@ -1,10 +1,11 @@
 -- One collector after the other, from no mark on; without a handler or a route those have nothing to mark. Assumes nothing.
 use Rattle.builder.proofs.MarkLaws.{leading, no-handlers, no-routes}
+use borrow.Author.Needs.{needs}
 use Rattle.builder.proofs.leaders.leaders.Statement.{statement}
 use Rattle.builder.proofs.leaders.leaders.Tie as tie
 
 mark-code-requires : tie.Need-mark-code-requires
-mark-code-requires c κs = c .before .before .before .before .pre .0
+mark-code-requires c κs = (c .before .before .before .before .pre .0, search needs)
 
 returns : tie.Need-returns
 returns c =
@@ -13,7 +14,7 @@ returns c =
     (no-handlers (start .args .s .now) (start .args .y) (c .if2 .taken)) (no-routes (start .args .s .now) (start .args .y) (c .before .before .if1 .taken))
 
 mark-handlers-requires : tie.Need-mark-handlers-requires
-mark-handlers-requires c κs = let start = c .before .before .before .before .before .before .before .before .before in (start .pre .0, start .pre .1)
+mark-handlers-requires c κs = let start = c .before .before .before .before .before .before .before .before .before in (start .pre .0, start .pre .1, search needs)
 
 returns-2 : tie.Need-returns-2
 returns-2 c =
@@ -22,10 +23,10 @@ returns-2 c =
     (no-routes (start .args .s .now) (start .args .y) (c .before .before .before .if1 .taken))
 
 mark-handlers-requires-2 : tie.Need-mark-handlers-requires-2
-mark-handlers-requires-2 c κs = let start = c .before .before .before .before .before .before .before in (start .pre .0, start .pre .1)
+mark-handlers-requires-2 c κs = let start = c .before .before .before .before .before .before .before in (start .pre .0, start .pre .1, search needs)
 
 mark-routes-requires : tie.Need-mark-routes-requires
-mark-routes-requires c κs = let start = c .before .before .before .before .before .before .before .before in (start .pre .0, start .pre .1)
+mark-routes-requires c κs = let start = c .before .before .before .before .before .before .before .before in (start .pre .0, start .pre .1, search needs)
 
 returns-3 : tie.Need-returns-3
 returns-3 c =

@@ -24,7 +24,7 @@ abbrev μ-loop : tie.MeasureT-loop
 μ-loop s y hints marks₀ n routed c₀ q₀ marks c q = n - q
 
 mark-entry-requires : tie.Need-mark-entry-requires Inv-loop μ-loop
-mark-entry-requires c κs = c .before .before .before .pre
+mark-entry-requires c κs = (c .before .before .before .pre .0, search needs)
 
 cast-n : tie.Need-cast-n Inv-loop μ-loop
 cast-n c = search needs
@@ -41,7 +41,7 @@ mark-visit-requires c κs =
     let a = start .args in
     let top = c .before .before .loop in
     let at = ap (λ (x : Cursor). x .at) (top .inv .1) in
-    (start .pre, top .inv .1 ∙ ap (λ (q : ℕ). cursorAt (imageIn (a .s .now) (a .y)) q) (sym at), omega (arith, at, c .before .loop-test .taken), rw (any-routes (a .s .now) (a .y)))
+    (start .pre .0, top .inv .1 ∙ ap (λ (q : ℕ). cursorAt (imageIn (a .s .now) (a .y)) q) (sym at), omega (arith, at, c .before .loop-test .taken), rw (any-routes (a .s .now) (a .y)), search needs)
 
 add-q : tie.Need-add-q Inv-loop μ-loop
 add-q c = omega (arith, c .before .before, c .before .before .before .before .before .before .struct-known)

@@ -10,7 +10,7 @@ use Rattle.builder.proofs.leaders.mark_funclet_end.Statement.{statement
 use Rattle.builder.proofs.leaders.mark_funclet_end.Tie as tie
 
 ends-funclet-requires : tie.Need-ends-funclet-requires
-ends-funclet-requires c κs = let start = c .before .before .before in (start .pre .0 .sourced .rising, start .pre .1)
+ends-funclet-requires c κs = let start = c .before .before .before in (start .pre .0 .sourced .rising, start .pre .1, search needs)
 
 mark-if-requires : tie.Need-mark-if-requires
 mark-if-requires c κs = search needs

@@ -10,7 +10,7 @@ use Rattle.builder.proofs.leaders.mark_gap.Statement.{statement}
 use Rattle.builder.proofs.leaders.mark_gap.Tie as tie
 
 goes-on-requires : tie.Need-goes-on-requires
-goes-on-requires c κs = let start = c .before .before in (start .pre .1, start .pre .2)
+goes-on-requires c κs = let start = c .before .before in (start .pre .1, start .pre .2, search needs)
 
 returns : tie.Need-returns
 returns c = let a = c .before .before .before .before .args in mark-none (gapMark (imageIn (a .s .now) (a .y)) (a .q)) (λ p h. rw (sym (c .before .goes-on .ensures) ∙ c .if1 .taken))
@@ -22,7 +22,7 @@ mark-at-requires : tie.Need-mark-at-requires
 mark-at-requires c κs = search needs
 
 mark-target-requires : tie.Need-mark-target-requires
-mark-target-requires c κs = let start = c .before .before .before .before .before .before .before .before in (start .pre .0 .sourced .rising, few _ _ (start .pre .0))
+mark-target-requires c κs = let start = c .before .before .before .before .before .before .before .before in ((start .pre .0 .sourced .rising, search needs), few _ _ (start .pre .0))
 
 returns-2 : tie.Need-returns-2
 returns-2 c =

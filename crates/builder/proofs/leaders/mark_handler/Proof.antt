@@ -24,10 +24,10 @@ mark-range-requires c κs =
     let a = start .args in
     let m = imageIn (a .s .now) (a .y) in
     let passed = handler-range m (start .pre .0) (a .h) (rw (length-records handlerFrom (a .s .now) (a .y .code .handlers)) (start .pre .2)) in
-    ((start .pre .0 .table, start .pre .1), (rw (← c .before .handler-at .ensures) at passed, few _ _ (start .pre .0)))
+    ((start .pre .0 .table, start .pre .1, search needs), (rw (← c .before .handler-at .ensures) at passed, few _ _ (start .pre .0)))
 
 mark-target-requires : tie.Need-mark-target-requires
-mark-target-requires c κs = let start = c .before .before .before .before .before .before .before in (start .pre .0 .sourced .rising, few _ _ (start .pre .0))
+mark-target-requires c κs = let start = c .before .before .before .before .before .before .before in ((start .pre .0 .sourced .rising, search needs), few _ _ (start .pre .0))
 
 returns : tie.Need-returns
 unfolding handlerAt rangeMark

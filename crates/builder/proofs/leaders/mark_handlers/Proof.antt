@@ -28,7 +28,7 @@ loop-holds : tie.Need-loop-holds Inv-loop μ-loop
 loop-holds c = (search needs, marks-none (protectMark (imageIn _ _)))
 
 mark-handler-requires : tie.Need-mark-handler-requires Inv-loop μ-loop
-mark-handler-requires c κs = let start = c .before .before .before .before .before .before in (start .pre .0, start .pre .1, search needs)
+mark-handler-requires c κs = let start = c .before .before .before .before .before .before in (start .pre .0, start .pre .1, search needs, search needs)
 
 add-h : tie.Need-add-h Inv-loop μ-loop
 add-h c = omega (arith, c .before .before, c .before .before .before .before .struct-known)

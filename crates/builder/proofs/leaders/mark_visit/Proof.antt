@@ -14,27 +14,27 @@ use borrow.Author.Needs.{needs}
 use Rattle.builder.proofs.leaders.mark_visit.Statement.{statement}
 use Rattle.builder.proofs.leaders.mark_visit.Tie as tie
 
-record-at-requires : tie.Need-record-at-requires
-record-at-requires c κs = c .before .before .before .before .pre .2
+instruction-in-requires : tie.Need-instruction-in-requires
+instruction-in-requires c κs = (search needs, c .before .before .before .before .pre .2)
 
 mark-gap-requires : tie.Need-mark-gap-requires
-mark-gap-requires c κs = let start = c .before .before .before .before .before .before .before in (start .pre .0, start .pre .2, scan-instruction (start .args .s .now) (start .args .y) _ _ (c .before .before .record-at .ensures))
+mark-gap-requires c κs = let start = c .before .before .before .before .before .before .before in (start .pre .0, start .pre .2, scan-instruction (start .args .s .now) (start .args .y) _ _ (c .before .before .instruction-in .ensures), search needs)
 
 mark-lead-requires : tie.Need-mark-lead-requires
 mark-lead-requires c κs =
     let start = c .before .before .before .before .before .before .before .before .before in
     let a = start .args in
-    let read = c .before .before .before .before .record-at .ensures in
-    (start .pre .0, start .pre .1, start .pre .2, scan-given (a .s .now) (a .y) (start .pre .0 .sourced) (a .c) (start .pre .1) (start .pre .2) _ read _ (c .before .before .before .given-at .ensures), scan-instruction (a .s .now) (a .y) _ _ read)
+    let read = c .before .before .before .before .instruction-in .ensures in
+    (start .pre .0, start .pre .1, start .pre .2, scan-given (a .s .now) (a .y) (start .pre .0 .sourced) (a .c) (start .pre .1) (start .pre .2) _ read _ (c .before .before .before .given-at .ensures), scan-instruction (a .s .now) (a .y) _ _ read, search needs)
 
 mark-funclet-end-requires : tie.Need-mark-funclet-end-requires
-mark-funclet-end-requires c κs = let start = c .before .before .before .before .before .before .before .before .before .before .before .before .before .before in (start .pre .0, scan-instruction (start .args .s .now) (start .args .y) _ _ (c .before .before .before .before .before .before .before .before .before .record-at .ensures), start .pre .3)
+mark-funclet-end-requires c κs = let start = c .before .before .before .before .before .before .before .before .before .before .before .before .before .before in (start .pre .0, scan-instruction (start .args .s .now) (start .args .y) _ _ (c .before .before .before .before .before .before .before .before .before .instruction-in .ensures), start .pre .3, search needs)
 
 cursor-after-requires : tie.Need-cursor-after-requires
 cursor-after-requires c κs =
     let start = c .before .before .before .before .before .before .before .before .before .before .before .before .before .before .before in
     let a = start .args in
-    scan-fits (a .s .now) (a .y) (start .pre .0 .sourced) (a .c) (start .pre .1) (start .pre .2) (c .before .before .before .before .before .before .before .before .before .before .record-at .result) (c .before .before .before .before .before .before .before .before .before .before .record-at .ensures) (c .before .before .before .before .before .before .before .before .before .given-at .result) (c .before .before .before .before .before .before .before .before .before .given-at .ensures)
+    scan-fits (a .s .now) (a .y) (start .pre .0 .sourced) (a .c) (start .pre .1) (start .pre .2) (c .before .before .before .before .before .before .before .before .before .before .instruction-in .result) (c .before .before .before .before .before .before .before .before .before .before .instruction-in .ensures) (c .before .before .before .before .before .before .before .before .before .given-at .result) (c .before .before .before .before .before .before .before .before .before .given-at .ensures)
 
 returns : tie.Need-returns
 unfolding exceptionalMark
@@ -43,8 +43,8 @@ returns c =
     let a = start .args in
     let m = imageIn (a .s .now) (a .y) in
     let q = a .c .at in
-    let instruction = scan-instruction (a .s .now) (a .y) q (c .before .before .before .before .before .before .before .before .before .before .before .record-at .result) (c .before .before .before .before .before .before .before .before .before .before .before .record-at .ensures) in
-    let next = scan-next (a .s .now) (a .y) (start .pre .0 .sourced) (a .c) (start .pre .1) (start .pre .2) (c .before .before .before .before .before .before .before .before .before .before .before .record-at .result) (c .before .before .before .before .before .before .before .before .before .before .before .record-at .ensures) (c .before .before .before .before .before .before .before .before .before .before .given-at .result) (c .before .before .before .before .before .before .before .before .before .before .given-at .ensures) _ (c .cursor-after .ensures) in
+    let instruction = scan-instruction (a .s .now) (a .y) q (c .before .before .before .before .before .before .before .before .before .before .before .instruction-in .result) (c .before .before .before .before .before .before .before .before .before .before .before .instruction-in .ensures) in
+    let next = scan-next (a .s .now) (a .y) (start .pre .0 .sourced) (a .c) (start .pre .1) (start .pre .2) (c .before .before .before .before .before .before .before .before .before .before .before .instruction-in .result) (c .before .before .before .before .before .before .before .before .before .before .before .instruction-in .ensures) (c .before .before .before .before .before .before .before .before .before .before .given-at .result) (c .before .before .before .before .before .before .before .before .before .before .given-at .ensures) _ (c .cursor-after .ensures) in
     let leads = lead-marks m (start .pre .0 .sourced) q (inside (a .s .now) (a .y) q (start .pre .2)) (sym (length-records instructionFrom (a .s .now) (a .y .code .instructions))) (c .before .before .before .before .before .before .before .before .mark-gap .ensures) (c .before .before .before .before .before .before .mark-lead .ensures) in
     let throws = mark-as (λ p. exceptionalMark m q && eqb p q) (λ p h. ap (λ (x : Instruction). eqb (x .flow) 9 && eqb p q) instruction) (mark-within _ (few _ _ (start .pre .0)) (c .before .before .before .mark-if .ensures)) in
     (next, mark-then (mark-then leads throws) (c .before .mark-funclet-end .ensures))
@@ -53,7 +53,7 @@ pub mark-visit-spec : {M : Type 1} → statement M
 mark-visit-spec =
     tie.close
     (tie.spec
-    record-at-requires
+    instruction-in-requires
     (λ c κs. search needs)
     mark-gap-requires
     mark-lead-requires

@@ -40,7 +40,7 @@ returns c =
     let is = recordsIn instructionFrom (start .args .s .now) (start .args .y) in
     let inside : mid < length (entriesOf is) = rw (size-is (start .args .s .now) (start .args .y)) (omega arith) in
     let here = sym (c .before .address-at .ensures) ∙ c .if1 .taken in
-    (start-at (entriesOf is) (start .args .a) mid inside here, rw here at (below-at (entriesOf is) (start .pre) mid inside), inside)
+    (start-at (entriesOf is) (start .args .a) mid inside here, rw here at (below-at (entriesOf is) (start .pre .0) mid inside), inside)
 
 add-lo : tie.Need-add-lo Inv-loop μ-loop
 add-lo c = search needs
@@ -56,7 +56,7 @@ loop-again c =
     let is = recordsIn instructionFrom (start .args .s .now) (start .args .y) in
     let inside : mid < length (entriesOf is) = rw (size-is (start .args .s .now) (start .args .y)) (omega arith) in
     let here = c .before .before .address-at .ensures in
-    (search needs, search needs, go-right (entriesOf is) (start .pre) (start .args .a) (top .lo) (top .hi) mid (top .inv .2) inside (rw (← here) (c .if2 .taken)))
+    (search needs, search needs, go-right (entriesOf is) (start .pre .0) (start .args .a) (top .lo) (top .hi) mid (top .inv .2) inside (rw (← here) (c .if2 .taken)))
 
 loop-less-2 : tie.Need-loop-less-2 Inv-loop μ-loop
 loop-less-2 c = search needs
@@ -69,7 +69,7 @@ loop-again-2 c =
     let is = recordsIn instructionFrom (start .args .s .now) (start .args .y) in
     let inside : mid < length (entriesOf is) = rw (size-is (start .args .s .now) (start .args .y)) (omega arith) in
     let here = c .before .before .address-at .ensures in
-    (search needs, search needs, go-left (entriesOf is) (start .pre) (start .args .a) (top .lo) (top .hi) mid (top .inv .2) inside (rw (← here) (omega arith)))
+    (search needs, search needs, go-left (entriesOf is) (start .pre .0) (start .args .a) (top .lo) (top .hi) mid (top .inv .2) inside (rw (← here) (omega arith)))
 
 returns-2 : tie.Need-returns-2 Inv-loop μ-loop
 returns-2 c =

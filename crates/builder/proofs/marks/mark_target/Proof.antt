@@ -25,7 +25,7 @@ returns-2 c =
     let start = c .before .before .before .before .before .before .before .before in
     let a = start .args in
     let found = rw (c .before .before .before .k .given .1) at (c .before .before .before .before .before .find .ensures) in
-    mark-as _ (λ p h. start-place _ (start .pre .0) (a .a) _ p (found .0) (found .1) (rw (size-is (a .s .now) (a .y)) h)) (mark-within _ (start .pre .1) (c .mark-at .ensures))
+    mark-as _ (λ p h. start-place _ (start .pre .0 .0) (a .a) _ p (found .0) (found .1) (rw (size-is (a .s .now) (a .y)) h)) (mark-within _ (start .pre .1) (c .mark-at .ensures))
 
 pub mark-target-spec : {M : Type 1} → statement M
 mark-target-spec =

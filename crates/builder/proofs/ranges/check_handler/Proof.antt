@@ -16,7 +16,7 @@ returns c =
     rw range
 
 find-requires : tie.Need-find-requires
-find-requires c κs = rising _ (c .before .before .before .before .before .before .before .before .pre .0)
+find-requires c κs = (rising _ (c .before .before .before .before .before .before .before .before .pre .0 .0), search needs)
 
 returns-2 : tie.Need-returns-2
 unfolding handlerCheck handlerAt

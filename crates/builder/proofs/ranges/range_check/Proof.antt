@@ -17,7 +17,7 @@ unfolding rangeCheck
 returns c = rw (le-ltb _ _ (c .if1 .taken))
 
 find-requires : tie.Need-find-requires
-find-requires c κs = rising _ (c .before .before .before .pre .0)
+find-requires c κs = (rising _ (c .before .before .before .pre .0 .0), search needs)
 
 returns-2 : tie.Need-returns-2
 unfolding rangeCheck
@@ -32,13 +32,13 @@ returns-3 c =
     let t = entriesIn (start .args .s .now) (start .args .y) in
     let rises = c .before .before .before .before .before .before .if1 .left in
     let first = rw (c .before .before .before .first .given .1) at (c .before .before .before .before .before .find .ensures) in
-    let last : start .args .end ≡ codeEnd t = c .before .if2 .taken ∙ start .pre .1 in
+    let last : start .args .end ≡ codeEnd t = c .before .if2 .taken ∙ start .pre .0 .1 in
     let all = size-is (start .args .s .now) (start .args .y) in
-    let past = ap (below t) last ∙ below-code-end t (start .pre .0) ∙ all in
+    let past = ap (below t) last ∙ below-code-end t (start .pre .0 .0) ∙ all in
     (rw (lt-ltb _ _ rises, first .0, eq-eqb _ _ last), sym (first .1), sym past, omega (arith, first .2, all), omega (arith, all))
 
 find-requires-2 : tie.Need-find-requires-2
-find-requires-2 c κs = rising _ (c .before .before .before .before .before .before .before .before .pre .0)
+find-requires-2 c κs = (rising _ (c .before .before .before .before .before .before .before .before .pre .0 .0), search needs)
 
 returns-4 : tie.Need-returns-4
 unfolding rangeCheck
@@ -47,7 +47,7 @@ returns-4 c =
     let rises = c .before .before .before .before .before .before .before .before .if1 .left in
     let first = rw (c .before .before .before .before .before .first .given .1) at (c .before .before .before .before .before .before .before .find .ensures) in
     let none = rw (c .enum-told2 .given .1) at (c .before .before .find2 .ensures) in
-    rw (lt-ltb _ _ rises, first .0, ne-eqb _ _ (λ e. c .before .before .before .if2 .left (e ∙ sym (start .pre .1))), none)
+    rw (lt-ltb _ _ rises, first .0, ne-eqb _ _ (λ e. c .before .before .before .if2 .left (e ∙ sym (start .pre .0 .1))), none)
 
 returns-5 : tie.Need-returns-5
 unfolding rangeCheck

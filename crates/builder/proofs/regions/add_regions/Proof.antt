@@ -7,6 +7,7 @@ use Rattle.image.proofs.Tables.{length-records}
 use Rattle.builder.proofs.DraftLaws.{counted-none, drafted-all}
 use Rattle.builder.proofs.RegionLaws.{regions-whole, regions-keep, both, none-stored}
 use native.Mathlib.Omega.{arith}
+use borrow.Author.Needs.{needs}
 use Rattle.builder.proofs.regions.add_regions.Statement.{statement}
 use Rattle.builder.proofs.regions.add_regions.Tie as tie
 
@@ -22,7 +23,7 @@ returns c =
     none-stored m _ none (start .pre .1 .0) (start .pre .1 .1) (start .pre .1 .2)
 
 read-ranges-requires : tie.Need-read-ranges-requires
-read-ranges-requires c κs = (refl, refl, c .before .before .before .before .before .before .before .pre .0 .0 .few)
+read-ranges-requires c κs = (refl, refl, c .before .before .before .before .before .before .before .pre .0 .0 .few, search needs)
 
 drafts-of-requires : tie.Need-drafts-of-requires
 drafts-of-requires c κs =
@@ -50,7 +51,7 @@ store-handlers-requires c κs =
     let extents = c .before .before .before .before .before .before .before .before .before .before .before .before .before .read-ranges .ensures in
     let found = c .before .before .before .before .before .before .before .before .before .drafts-of .ensures in
     let all = length-records handlerFrom (a .s .now) (a .y .code .handlers) in
-    (start .pre .0 .0, ((extents, drafted-all m _ (sym all) (found .0) (found .1 m extents)), (regions-whole _ stored, regions-keep _ stored (start .pre .1 .2))))
+    (start .pre .0 .0, ((extents, drafted-all m _ (sym all) (found .0) (found .1 m extents), search needs), (regions-whole _ stored, regions-keep _ stored (start .pre .1 .2))))
 
 returns-2 : tie.Need-returns-2
 returns-2 c = both _ (c .before .before .before .before .before .store-regions .ensures) _ (c .store-handlers .ensures)

@@ -19,7 +19,7 @@ same-ranges-requires c κs = let lt = c .before .before .before .before .before 
 block-at-requires : tie.Need-block-at-requires
 block-at-requires c κs =
     let start = c .before .before .before .before .before .before in
-    (start .pre .0 .0, rw (c .before .before .handler .ensures) (entry-clear (imageIn (start .args .s .now) (start .args .y)) (start .args .h) (start .pre .0 .1)))
+    (start .pre .0 .0, rw (c .before .before .handler .ensures) (entry-clear (imageIn (start .args .s .now) (start .args .y)) (start .args .h) (start .pre .0 .1)), search needs)
 
 returns : tie.Need-returns
 unfolding handlerRecord

@@ -32,7 +32,7 @@ add-check-path c = omega (arith, c .before .before .before .before .pre .2, c .b
 check-path-requires : tie.Need-check-path-requires Inv-loop μ-loop
 check-path-requires c κs =
     let p = c .before .before .before .before .pre in
-    (p .0, p .1, omega (arith, p .2), c .before .loop .inv .1)
+    (p .0, p .1, omega (arith, p .2), c .before .loop .inv .1, search needs, search needs)
 
 returns : tie.Need-returns Inv-loop μ-loop
 returns c =

@@ -49,7 +49,7 @@ add-step-at : tie.Need-add-step-at Inv-loop μ-loop
 add-step-at c = omega (arith, among (c .before .before))
 
 check-entry-requires : tie.Need-check-entry-requires Inv-loop μ-loop
-check-entry-requires c κs = c .before .before .before .before .before .before .before .before .pre .1
+check-entry-requires c κs = (c .before .before .before .before .before .before .before .before .pre .1, search needs)
 
 returns : tie.Need-returns Inv-loop μ-loop
 returns c =
@@ -80,7 +80,7 @@ loop-again c =
     (search needs, checks-more _ (top .j) (top .inv .1) ∙ (rw (step .ensures) at here))
 
 check-entry-requires-2 : tie.Need-check-entry-requires-2 Inv-loop μ-loop
-check-entry-requires-2 c κs = c .before .before .before .before .before .before .before .pre .1
+check-entry-requires-2 c κs = (c .before .before .before .before .before .before .before .pre .1, search needs)
 
 returns-2 : tie.Need-returns-2 Inv-loop μ-loop
 returns-2 c =

@@ -17,7 +17,7 @@ use Rattle.builder.proofs.route.check_route.Statement.{statement}
 use Rattle.builder.proofs.route.check_route.Tie as tie
 
 range-check-requires : tie.Need-range-check-requires
-range-check-requires c κs = c .before .before .before .pre .0
+range-check-requires c κs = (c .before .before .before .pre .0, search needs)
 
 returns : tie.Need-returns
 returns c =
@@ -44,7 +44,7 @@ check-entries-requires c κs =
     let start = c .before .before .before .before .before .before .before .before in
     let p = start .pre .1 in
     let within = paths-in (routesIn (start .args .s .now) (start .args .y)) (p .0) (start .args .r) (p .1) in
-    (p .0, rising _ (start .pre .0 .0), omega (arith, within, p .2, ap (λ (x : Route). x .paths) (c .before .before .before .before .before .route-at .ensures)), p .3)
+    (p .0, rising _ (start .pre .0 .0), omega (arith, within, p .2, ap (λ (x : Route). x .paths) (c .before .before .before .before .before .route-at .ensures)), p .3, search needs, search needs)
 
 returns-3 : tie.Need-returns-3
 returns-3 c =

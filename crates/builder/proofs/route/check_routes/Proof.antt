@@ -40,7 +40,7 @@ check-route-requires : tie.Need-check-route-requires Inv-loop μ-loop
 check-route-requires c κs =
     let p = c .before .before .before .before .before .before .before .before .pre in
     let top = c .before .loop in
-    (p .1, (p .0 .routed, among c, top .inv .1, top .inv .2))
+    (p .1, (p .0 .routed, among c, top .inv .1, top .inv .2), search needs, search needs)
 
 returns : tie.Need-returns Inv-loop μ-loop
 unfolding routes

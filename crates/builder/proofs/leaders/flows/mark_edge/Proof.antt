@@ -14,7 +14,7 @@ edge-at-requires : tie.Need-edge-at-requires
 edge-at-requires c κs = search needs
 
 mark-target-requires : tie.Need-mark-target-requires
-mark-target-requires c κs = let start = c .before .before .before .before .before .before in (start .pre .sourced .rising, few _ _ (start .pre))
+mark-target-requires c κs = let start = c .before .before .before .before .before .before in ((start .pre .0 .sourced .rising, search needs), few _ _ (start .pre .0))
 
 returns : tie.Need-returns
 returns c =

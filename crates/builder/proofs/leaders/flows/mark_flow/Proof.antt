@@ -21,6 +21,7 @@ mark-names-requires c κs =
       start .pre .0,
       omega (arith, ap (λ (i : Instruction). i .flow) (start .pre .4), start .pre .0 .sourced .accepted .flows at),
       flow-fits (imageIn _ _) (start .pre .0 .sourced) _ (start .pre .1) (inside (start .args .s .now) (start .args .y) _ (start .pre .2)) _ (start .pre .4),
+      search needs,
     )
 
 add-mark-at : tie.Need-add-mark-at

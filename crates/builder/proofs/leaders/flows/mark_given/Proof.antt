@@ -8,7 +8,7 @@ use Rattle.builder.proofs.leaders.flows.mark_given.Statement.{statement
 use Rattle.builder.proofs.leaders.flows.mark_given.Tie as tie
 
 mark-edges-requires : tie.Need-mark-edges-requires
-mark-edges-requires c κs = let start = c .before .before .before in (start .pre .0, given-fits (imageIn _ _) (start .pre .0 .sourced) _ (start .pre .1) (inside (start .args .s .now) (start .args .y) _ (start .pre .2)) _ (start .pre .3))
+mark-edges-requires c κs = let start = c .before .before .before in (start .pre .0, given-fits (imageIn _ _) (start .pre .0 .sourced) _ (start .pre .1) (inside (start .args .s .now) (start .args .y) _ (start .pre .2)) _ (start .pre .3), search needs)
 
 add-mark-at : tie.Need-add-mark-at
 add-mark-at c = let start = c .before .before .before .before .before in omega (arith, start .pre .2, few _ _ (start .pre .0))

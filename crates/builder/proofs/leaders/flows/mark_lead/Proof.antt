@@ -8,13 +8,13 @@ enum-known-given : tie.Need-enum-known-given
 enum-known-given c = search needs
 
 mark-given-requires : tie.Need-mark-given-requires
-mark-given-requires c κs = let start = c .before .before .before .before .before .before in (start .pre .0, start .pre .1, start .pre .2, sym (start .pre .3) ∙ c .before .before .given .given .1)
+mark-given-requires c κs = let start = c .before .before .before .before .before .before in (start .pre .0, start .pre .1, start .pre .2, sym (start .pre .3) ∙ c .before .before .given .given .1, search needs)
 
 enum-told : tie.Need-enum-told
 enum-told c = search needs
 
 mark-flow-requires : tie.Need-mark-flow-requires
-mark-flow-requires c κs = let start = c .before .before .before .before .before in (start .pre .0, start .pre .1, start .pre .2, sym (start .pre .3) ∙ c .before .enum-told .given .1, start .pre .4)
+mark-flow-requires c κs = let start = c .before .before .before .before .before in (start .pre .0, start .pre .1, start .pre .2, sym (start .pre .3) ∙ c .before .enum-told .given .1, start .pre .4, search needs)
 
 returns : tie.Need-returns
 returns c = c .mark-given .ensures

@@ -23,7 +23,7 @@ cases-of-requires c κs = search needs
 mark-cases-requires : tie.Need-mark-cases-requires
 mark-cases-requires c κs =
     let start = c .before .before .before .before .before .before .before .before .before in
-    (start .pre .0, omega (arith, start .pre .2, c .cases-of .ensures, switch-most (c .before .before .before .before .before .flow-under .result) (start .args .i)))
+    (start .pre .0, omega (arith, start .pre .2, c .cases-of .ensures, switch-most (c .before .before .before .before .before .flow-under .result) (start .args .i)), search needs)
 
 returns : tie.Need-returns
 returns c =

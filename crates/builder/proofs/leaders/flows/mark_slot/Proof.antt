@@ -11,7 +11,7 @@ enum-told : tie.Need-enum-told
 enum-told c = search needs
 
 mark-target-requires : tie.Need-mark-target-requires
-mark-target-requires c κs = let start = c .before .before .before .before .before .before in (start .pre .sourced .rising, few _ _ (start .pre))
+mark-target-requires c κs = let start = c .before .before .before .before .before .before in ((start .pre .0 .sourced .rising, search needs), few _ _ (start .pre .0))
 
 enum-told-2 : tie.Need-enum-told-2
 enum-told-2 c = search needs

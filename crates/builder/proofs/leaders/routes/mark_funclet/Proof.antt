@@ -16,7 +16,7 @@ step-at-requires : tie.Need-step-at-requires
 step-at-requires c κs = search needs
 
 mark-target-if-requires : tie.Need-mark-target-if-requires
-mark-target-if-requires c κs = let start = c .before .before .before .before .before in (start .pre .sourced .rising, few _ _ (start .pre))
+mark-target-if-requires c κs = let start = c .before .before .before .before .before in ((start .pre .0 .sourced .rising, search needs), few _ _ (start .pre .0))
 
 returns : tie.Need-returns
 returns c =

@@ -21,7 +21,7 @@ mark-range-requires c κs =
     let m = imageIn (a .s .now) (a .y) in
     let within : a .r < length (m .routes .routes) = rw (length-records routeFrom (a .s .now) (a .y .routes .routes)) (start .pre .2) in
     let passed = route-range m (start .pre .0) (a .r) (rw (any-routes (a .s .now) (a .y)) (start .pre .2)) in
-    ((start .pre .0 .table, start .pre .1), (rw (route-start m (a .r) within, route-end m (a .r) within, ← c .before .route-at .ensures) at passed, few _ _ (start .pre .0)))
+    ((start .pre .0 .table, start .pre .1, search needs), (rw (route-start m (a .r) within, route-end m (a .r) within, ← c .before .route-at .ensures) at passed, few _ _ (start .pre .0)))
 
 returns : tie.Need-returns
 unfolding rangeMark

@@ -26,7 +26,7 @@ loop-holds : tie.Need-loop-holds Inv-loop μ-loop
 loop-holds c = (search needs, marks-none (routeRange (imageIn _ _)))
 
 mark-route-range-requires : tie.Need-mark-route-range-requires Inv-loop μ-loop
-mark-route-range-requires c κs = let start = c .before .before .before .before .before .before in (start .pre .0, start .pre .1, search needs)
+mark-route-range-requires c κs = let start = c .before .before .before .before .before .before in (start .pre .0, start .pre .1, search needs, search needs)
 
 add-r : tie.Need-add-r Inv-loop μ-loop
 add-r c = omega (arith, c .before .before, c .before .before .before .before .struct-known)

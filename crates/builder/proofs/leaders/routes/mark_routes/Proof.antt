@@ -11,10 +11,10 @@ mark-route-ranges-requires : tie.Need-mark-route-ranges-requires
 mark-route-ranges-requires c κs = search needs
 
 mark-funclets-requires : tie.Need-mark-funclets-requires
-mark-funclets-requires c κs = c .before .before .before .pre .0
+mark-funclets-requires c κs = (c .before .before .before .pre .0, search needs)
 
 mark-path-ends-requires : tie.Need-mark-path-ends-requires
-mark-path-ends-requires c κs = c .before .before .before .before .pre .0
+mark-path-ends-requires c κs = (c .before .before .before .before .pre .0, search needs)
 
 returns : tie.Need-returns
 returns c =
