@@ -1,6 +1,8 @@
 -- What is clear is there.
 --     section-there     all records of a section
---     routes-there      all of the three sections of routes
+--     routes-there      all of the three sections of routes,
+--     code-there        of the five before them,
+--     image-there       and of the eight
 -- The last field of a record is there, so all of it is; a section of no record ends behind its count. Assumes nothing.
 use mathlib.Core.Bool.{Bool, true, _||_}
 use mathlib.Core.Path.{_≡_, refl}
@@ -14,12 +16,13 @@ use Rattle.image.specs.Little.{le1, le4, le8}
 use Rattle.image.specs.Record.{flag}
 use Rattle.image.specs.Refusal.{Check, clear, refusal, _then_, unless, checks}
 use Rattle.image.specs.Form.{bad, field, byte, used4, used8, namesTarget, formOf}
-use Rattle.image.specs.Read.{widthOf, limitOf, countForm, recordForm, recordsForm, sectionForm, pairForm, routesForm, sectionAt, routeLayoutAt, endOf, childrenOf}
-use Rattle.image.specs.There.{Holds, RoutesThere}
+use Rattle.image.specs.Read.{widthOf, limitOf, countForm, recordForm, recordsForm, sectionForm, pairForm, routesForm, codeForm, sectionAt, routeLayoutAt, codeLayoutOf, layoutOf, endOf, childrenOf}
+use Rattle.image.specs.There.{Holds, RoutesThere, ImageThere}
 use Rattle.image.specs.declared.form.Kind.{Kind}
 use Rattle.image.specs.declared.form.Kind.the-variants.{Instructions, Cases, Sources, Edges, Handlers, Routes, Paths, Steps}
 use Rattle.image.specs.declared.scan.Sum.{Sum}
 use Rattle.image.specs.declared.scan.Sum.the-variants.{Free, Exactly}
+use Rattle.image.specs.declared.section.CodeLayout.{CodeLayout}
 use Rattle.image.proofs.Checks.{then-left, then-right, field-there}
 
 -- the last field of a record, behind what is checked before it
@@ -70,4 +73,42 @@ routes-there l at used h =
       routes-there = section-there Routes l at used Free (then-left routes _ both);
       paths-there = section-there Paths l (endOf r) used (Exactly (childrenOf Routes l r)) (then-right routes _ both);
       steps-there = section-there Steps l (endOf p) used (Exactly (childrenOf Paths l p)) (then-right pair _ h);
+    }
+
+-- all of the five sections before the routes
+abbrev pub CodeThere : List ℕ → CodeLayout → Type 0
+CodeThere l y = Holds l (y .instructions) 31 × Holds l (y .cases) 12 × Holds l (y .sources) 12 × Holds l (y .edges) 13 × Holds l (y .handlers) 29
+
+pub code-there : (l : List ℕ) (given : Bool) → codeForm l given ≡ clear → CodeThere l (codeLayoutOf l)
+unfolding codeForm codeLayoutOf
+code-there l given h =
+    let i = sectionAt Instructions l 12 in
+    let c = sectionAt Cases l (endOf i) in
+    let s = sectionAt Sources l (endOf c) in
+    let e = sectionAt Edges l (endOf s) in
+    let first = pairForm Instructions Cases l 12 true in
+    let second = pairForm Sources Edges l (endOf c) given in
+    let pairs = then-left (first then second) _ h in
+    let one = then-left first _ pairs in
+    let two = then-right first second pairs in
+    let instructions = sectionForm Instructions l 12 true Free in
+    let sources = sectionForm Sources l (endOf c) given Free in (
+      section-there Instructions l 12 true Free (then-left instructions _ one),
+      section-there Cases l (endOf i) true (Exactly (childrenOf Instructions l i)) (then-right instructions _ one),
+      section-there Sources l (endOf c) given Free (then-left sources _ two),
+      section-there Edges l (endOf s) given (Exactly (childrenOf Sources l s)) (then-right sources _ two),
+      section-there Handlers l (endOf e) true Free (then-right (first then second) _ h),
+    )
+
+pub image-there : (l : List ℕ) (given used : Bool) → codeForm l given ≡ clear → routesForm l (endOf (codeLayoutOf l .handlers)) used ≡ clear → ImageThere l (layoutOf l)
+unfolding layoutOf
+image-there l given used code routes =
+    let there = code-there l given code in
+    record {
+      instructions-there = there .0;
+      cases-there = there .1;
+      sources-there = there .2;
+      edges-there = there .3;
+      handlers-there = there .4;
+      routes-there = routes-there l (endOf (codeLayoutOf l .handlers)) used routes;
     }

@@ -19,7 +19,7 @@ ghost use mathlib.Core.Path.{_≡_};
 ghost use Prim.Native.Nat.{_<_};
 ghost use Rattle.image.specs.Read.{readImage, readRoutes};
 ghost use Rattle.image.specs.Scanned.{PairRead, CodeRead, RoutesRead, imageAnswer, routesAnswer};
-ghost use Rattle.image.specs.There.{ReadThere};
+ghost use Rattle.image.specs.There.{ReadThere, ImageReadThere};
 
 // A section and that of its children, where this one ends, and how many children it has in turn.
 pub enum ReadPair {
@@ -48,7 +48,7 @@ pub enum ReadImage {
 }
 
 pub fn read_image(s: &[u8]) -> ReadImage
-    ensures { λ r. ⌜ imageAnswer (now (s .entry)) r ≡ readImage (now (s .entry)) ⌝ }
+    ensures { λ r. ⌜ (imageAnswer (now (s .entry)) r ≡ readImage (now (s .entry))) × ImageReadThere (now (s .entry)) r ⌝ }
 {
     if let Verdict::Refused(e) = header_form(s) {
         return ReadImage::Refused(e);

@@ -10,7 +10,7 @@ unfolding entryCheck
 returns c = rw (not-true (c .before .before .before .before .before .args .y .header .«has_entry») (c .if1 .taken))
 
 find-requires : tie.Need-find-requires
-find-requires c κs = (c .before .before .before .before .before .before .pre, search needs)
+find-requires c κs = (c .before .before .before .before .before .before .pre .0, search needs)
 
 enum-told : tie.Need-enum-told
 enum-told c = search needs

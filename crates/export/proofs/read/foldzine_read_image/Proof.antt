@@ -12,7 +12,7 @@ image-words-requires : tie.Need-image-words-requires
 image-words-requires c κs = search needs
 
 returns : tie.Need-returns
-returns c = c .image-words .ensures _ ∙ ap toldImage (c .before .read-image .ensures)
+returns c = c .image-words .ensures _ ∙ ap toldImage (c .before .read-image .ensures .0)
 
 pub foldzine-read-image-spec : {M : Type 1} → statement M
 foldzine-read-image-spec = tie.close (tie.spec read-image-requires image-words-requires returns)

@@ -5,6 +5,7 @@ use Rattle.image.specs.declared.section.CodeLayout.{CodeLayout}
 use Rattle.image.specs.Verdict.{checkOf}
 use Rattle.image.specs.Read.{readImage, imageForm, layoutOf, endOf}
 use Rattle.image.proofs.Sections.{code-ends}
+use Rattle.image.proofs.ThereLaws.{image-there}
 use native.Mathlib.Omega.{arith}
 use borrow.Author.Needs.{needs}
 use Rattle.image.proofs.read.read_image.Statement.{statement}
@@ -18,7 +19,7 @@ enum-known-e c = search needs
 
 returns : tie.Need-returns
 unfolding readImage imageForm layoutOf
-returns c = rw (sym (c .before .before .before .header-form .ensures) ∙ ap checkOf (c .before .e .given .1))
+returns c = (rw (sym (c .before .before .before .header-form .ensures) ∙ ap checkOf (c .before .e .given .1)), tt)
 
 enum-told : tie.Need-enum-told
 enum-told c = search needs
@@ -37,7 +38,7 @@ unfolding readImage imageForm layoutOf
 returns-2 c =
     let head = sym (c .before .before .before .before .before .before .before .header-form .ensures) ∙ ap checkOf (c .before .before .before .before .before .enum-told .given .1) in
     let code = rw (c .before .e2 .given .1, c .before .before .before .before .header-from .ensures) at (c .before .before .before .read-code .ensures) in
-    rw (head, code)
+    (rw (head, code), tt)
 
 enum-known-layout : tie.Need-enum-known-layout
 enum-known-layout c = search needs
@@ -60,7 +61,7 @@ returns-3 c =
     let head = sym (c .before .before .before .before .before .before .before .before .before .before .before .before .header-form .ensures) ∙ ap checkOf (c .before .before .before .before .before .before .before .before .before .before .enum-told .given .1) in
     let code = rw (c .before .before .before .before .before .before .layout .given .1, c .before .before .before .before .before .before .before .before .before .header-from .ensures) at (c .before .before .before .before .before .before .before .before .read-code .ensures) in
     let routes = rw (c .before .e3 .given .1, c .before .before .before .before .end-of .ensures, code .1, c .before .before .before .before .before .before .before .before .before .header-from .ensures) at (c .before .before .before .read-route-sections .ensures) in
-    rw (head, code .0, routes)
+    (rw (head, code .0, routes), tt)
 
 enum-known-layout-2 : tie.Need-enum-known-layout-2
 enum-known-layout-2 c = search needs
@@ -75,7 +76,7 @@ returns-4 c =
     let code = rw (c .before .before .before .before .before .before .before .before .layout .given .1, c .before .before .before .before .before .before .before .before .before .before .before .header-from .ensures) at (c .before .before .before .before .before .before .before .before .before .before .read-code .ensures) in
     let routes = rw (c .before .before .before .layout2 .given .1, c .before .before .before .before .before .before .end-of .ensures, code .1, c .before .before .before .before .before .before .before .before .before .before .before .header-from .ensures) at (c .before .before .before .before .before .read-route-sections .ensures) in
     let extra = rw (c .before .end-of2 .ensures, routes .1) at (c .if1 .taken) in
-    rw (c .before .end-of2 .ensures, routes .1, head, code .0, routes .0, lt-leb _ _ extra)
+    (rw (c .before .end-of2 .ensures, routes .1, head, code .0, routes .0, lt-leb _ _ extra), tt)
 
 returns-5 : tie.Need-returns-5
 unfolding readImage imageForm layoutOf
@@ -84,7 +85,8 @@ returns-5 c =
     let code = rw (c .before .before .before .before .before .before .before .before .layout .given .1, c .before .before .before .before .before .before .before .before .before .before .before .header-from .ensures) at (c .before .before .before .before .before .before .before .before .before .before .read-code .ensures) in
     let routes = rw (c .before .before .before .layout2 .given .1, c .before .before .before .before .before .before .end-of .ensures, code .1, c .before .before .before .before .before .before .before .before .before .before .before .header-from .ensures) at (c .before .before .before .before .before .read-route-sections .ensures) in
     let none = rw (c .before .end-of2 .ensures, routes .1) at (c .if1 .left) in
-    rw (c .before .before .before .before .before .before .before .before .before .before .before .header-from .ensures, code .1, routes .1, head, code .0, routes .0, le-leb _ _ none)
+    let there = image-there _ _ _ (code .0) (routes .0) in
+    (rw (c .before .before .before .before .before .before .before .before .before .before .before .header-from .ensures, code .1, routes .1, head, code .0, routes .0, le-leb _ _ none), rw (c .before .before .before .before .before .before .before .before .before .before .before .header-from .ensures, code .1, routes .1) there)
 
 pub read-image-spec : {M : Type 1} → statement M
 read-image-spec =
