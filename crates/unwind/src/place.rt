@@ -5,7 +5,7 @@ use crate::part::part_of;
 use crate::routes::step_of;
 use crate::slots::put_set;
 use crate::slots::set_at;
-use crate::tries::store::node_at;
+use crate::tries::store::node_in;
 use crate::tries::store::number_in;
 use graph::blockset::common_of;
 use graph::blockset::rank_in;
@@ -57,7 +57,7 @@ pub fn place_nodes(
     returns: &mut [u64],
     firsts: &mut [u16],
 ) -> Checked
-    requires { ⌜ Ready (heldIn (now g) .graph) (routesIn (now s) y) built (now head) (now next) (now barriers) (now returners) × ((i : ℕ) → i < n → funcletCheck (heldIn (now g) .graph) (funcletAt (routesIn (now s) y) (now nodes) i) ≡ clear) × Slots n (now bases) (now entries) (now parts) (now returns) × Firsts (heldIn (now g) .graph) (routesIn (now s) y) (now nodes) (now firsts) 0 × (n ≤ 544) × RoutesThere (now s) y ⌝ }
+    requires { ⌜ Ready (heldIn (now g) .graph) (routesIn (now s) y) built (now head) (now next) (now barriers) (now returners) × ((i : ℕ) → i < n → funcletCheck (heldIn (now g) .graph) (funcletAt (routesIn (now s) y) (now nodes) i) ≡ clear) × Slots n (now bases) (now entries) (now parts) (now returns) × Firsts (heldIn (now g) .graph) (routesIn (now s) y) (now nodes) (now firsts) 0 × (n ≤ 544) × RoutesThere (now s) y × (6 * n ≤ length (now nodes)) ⌝ }
     ensures { λ r. ⌜ PlacedAll (heldIn (now (g .entry)) .graph) (routesIn (now (s .entry)) y) (now (nodes .entry)) n (now (bases .exit)) (now (entries .exit)) (now (parts .exit)) (now (returns .exit)) (checkOf r) ⌝ }
 {
     let mut base = block_count(g);
@@ -108,10 +108,10 @@ fn place_node(
     returns: &mut [u64],
     firsts: &mut [u16],
 ) -> usize
-    requires { ⌜ Ready (heldIn (now g) .graph) (routesIn (now s) y) built (now head) (now next) (now barriers) (now returners) × ((j : ℕ) → j ≤ i → funcletCheck (heldIn (now g) .graph) (funcletAt (routesIn (now s) y) (now nodes) j) ≡ clear) × Slots (i + 1) (now bases) (now entries) (now parts) (now returns) × Firsts (heldIn (now g) .graph) (routesIn (now s) y) (now nodes) (now firsts) i × (i < 544) × (base ≤ 1024) × RoutesThere (now s) y ⌝ }
+    requires { ⌜ Ready (heldIn (now g) .graph) (routesIn (now s) y) built (now head) (now next) (now barriers) (now returners) × ((j : ℕ) → j ≤ i → funcletCheck (heldIn (now g) .graph) (funcletAt (routesIn (now s) y) (now nodes) j) ≡ clear) × Slots (i + 1) (now bases) (now entries) (now parts) (now returns) × Firsts (heldIn (now g) .graph) (routesIn (now s) y) (now nodes) (now firsts) i × (i < 544) × (base ≤ 1024) × RoutesThere (now s) y × (6 * i + 6 ≤ length (now nodes)) ⌝ }
     ensures { λ r. ⌜ Placing (heldIn (now (g .entry)) .graph) (routesIn (now (s .entry)) y) (now (nodes .entry)) i base r (now (bases .entry)) (now (entries .entry)) (now (parts .entry)) (now (returns .entry)) (now (bases .exit)) (now (entries .exit)) (now (parts .exit)) (now (returns .exit)) × Firsts (heldIn (now (g .entry)) .graph) (routesIn (now (s .entry)) y) (now (nodes .entry)) (now (firsts .exit)) (i + 1) ⌝ }
 {
-    let f = node_at(nodes, i).funclet;
+    let f = node_in(nodes, i).funclet;
     let entry = entry_of(g, built, hints, s, y, f);
     let slot = slot_of(f, entry);
     let first = number_in(firsts, slot);

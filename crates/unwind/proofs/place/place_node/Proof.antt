@@ -28,8 +28,8 @@ leads : (c : tie.Start) → funcletCheck (heldIn (c .args .g .now) .graph) (func
 leads c = c .pre .1 (c .args .i) (omega arith)
 
 -- the funclet of node i, by its record, its entry and its slot
-funclet : (c : tie.After-node-at) → c .node-at .result .funclet ≡ recordIn (c .before .before .before .before .before .before .before .before .before .before .before .args .nodes .now) (c .before .before .before .before .before .before .before .before .before .before .before .args .i) .funclet
-funclet c = ap (λ (x : NodeRecord). x .funclet) (c .node-at .ensures .is)
+funclet : (c : tie.After-node-in) → c .node-in .result .funclet ≡ recordIn (c .before .before .before .before .before .before .before .before .before .before .before .args .nodes .now) (c .before .before .before .before .before .before .before .before .before .before .before .args .i) .funclet
+funclet c = ap (λ (x : NodeRecord). x .funclet) (c .node-in .ensures .is)
 
 entry : (c : tie.After-entry-of) → c .entry-of .result ≡ entryBlock (heldIn (c .before .before .before .before .before .before .before .before .before .before .before .before .args .g .now) .graph) (funcletAt (routesIn (c .before .before .before .before .before .before .before .before .before .before .before .before .args .s .now) (c .before .before .before .before .before .before .before .before .before .before .before .before .args .y)) (c .before .before .before .before .before .before .before .before .before .before .before .before .args .nodes .now) (c .before .before .before .before .before .before .before .before .before .before .before .before .args .i))
 entry c =

@@ -31,7 +31,7 @@ place-node-requires c κs =
     let pre = c .before .before .before .before .before .before .before .before .before .before .before .before .before .before .before .before .before .before .pre in
     let top = c .before .before .before .before .before .before .loop in
     let lt = c .before .before .before .before .before .loop-test .taken in
-    (pre .0, λ j h. pre .1 j (omega arith), slots-less (c .before .before .before .before .before .before .before .before .before .before .before .before .before .before .before .before .before .before .args .n) (top .i + 1) (omega arith) (slots-same _ (top .inv .2) (pre .2)), top .inv .4, omega (arith, pre .4), top .inv .1, search needs)
+    (pre .0, λ j h. pre .1 j (omega arith), slots-less (c .before .before .before .before .before .before .before .before .before .before .before .before .before .before .before .before .before .before .args .n) (top .i + 1) (omega arith) (slots-same _ (top .inv .2) (pre .2)), top .inv .4, omega (arith, pre .4), top .inv .1, search needs, omega (arith, pre .6))
 
 add-base : tie.Need-add-base Inv-loop μ-loop
 add-base c = omega (arith, c .before .before .before .before .before .before .before .before .before .before .place-node .ensures .0 .few, c .before .before .before .before .before .before .before .before .before .before .before .before .before .before .before .before .before .loop .inv .1)

@@ -52,7 +52,7 @@ place-requires c κs =
     let k = start .pre .0 in
     let linked = c .before .before .before .before .before .before .before .before .before .before .before .before .before .link .ensures in
     let passed = sym (rw (c .before .before .before .before .before .before .before .before .before .before .before .before .before .before .before .before .before .enum-told .given .1) at (c .before .before .before .before .before .before .before .before .before .before .before .before .before .before .before .before .before .before .before .check-nodes .ensures (a .edges .now))) in
-    (k, linked .1, linked .0, λ i h. funclets-lead (heldIn (a .g .now) .graph) m (a .edges .now) (a .ends .now) (a .nodes .now) (a .stored .nodes) passed i h, start .pre .2 .slots, firsts-none (heldIn (a .g .now) .graph) m (a .nodes .now) (a .exits .now) (start .pre .2 .firsts-fit) (start .pre .2 .unplaced), start .pre .1 .nodes-most, search needs)
+    (k, linked .1, linked .0, λ i h. funclets-lead (heldIn (a .g .now) .graph) m (a .edges .now) (a .ends .now) (a .nodes .now) (a .stored .nodes) passed i h, start .pre .2 .slots, firsts-none (heldIn (a .g .now) .graph) m (a .nodes .now) (a .exits .now) (start .pre .2 .firsts-fit) (start .pre .2 .unplaced), start .pre .1 .nodes-most, search needs, start .pre .1 .stored .nodes-fit)
 
 same-length-2 : tie.Need-same-length-2
 same-length-2 c = c .before .before .before .before .before .before .before .before .before .before .before .before .before .before .before .before .before .before .before .before .before .before .before .before .before .before .before .before .before .before .before .before .before .before .before .before .before .before .hint-blocks .kept .1 .1 .0

@@ -36,6 +36,7 @@ place-nodes-requires c κs =
       start .pre .5,
       start .pre .6,
       search needs,
+      start .pre .8,
     )
 
 pub place-spec : {M : Type 1} → statement M
