@@ -1,14 +1,13 @@
--- The trie in scratch: numbers read and stored.
+-- The trie in scratch: numbers stored.
 --     three-put                    three stores, one behind the other
 --     branch-put, node-put         what they store of an edge or an end, and of a node
---     branch-zeros, node-zeros     past the end
 -- Assumes nothing.
-use mathlib.Core.Path.{_≡_, sym, ap, _∙_}
+use mathlib.Core.Path.{_≡_, ap, _∙_}
 use mathlib.Core.Logic.{_⊎_, inl, inr}
 use mathlib.Core.List.{List}
 use Prim.Native.Nat.{ℕ, _+_, _*_, _≤_, _<_}
 use native.Mathlib.Omega.{arith}
-use lib.ListN.{length, getD, set, length-set, List·getD-eq-default}
+use lib.ListN.{length, getD, set, length-set}
 use lib.Seq.{getD-set-same, getD-set-other}
 use native.Mathlib.Decide.{decLt}
 use Rattle.unwind.specs.declared.tries.store.NodeRecord.{NodeRecord}
@@ -91,23 +90,3 @@ module _ (l one l′ : List ℕ) (i : ℕ) (x : NodeRecord) (p : ThreePut l (6 *
         | yes lt ↦ q .others n (inl (omega arith)) ∙ p .others n (inl (omega arith))
         | no ge ↦ q .others n (inr (omega arith)) ∙ p .others n (inr (omega arith))
       ]
-
-module _ (l : List ℕ) (i : ℕ) where
-  zero-at : (n : ℕ) → length l ≤ n → 0 ≡ getD l n 0
-  zero-at n h = sym (List·getD-eq-default l 0 h)
-
-  pub branch-zeros : length l ≤ i → record { step = 0; calls = 0; what = 0 } ≡ branchIn l i
-  unfolding branchIn
-  branch-zeros h = λ d. record { step = zero-at (3 * i) (omega arith) d; calls = zero-at (3 * i + 1) (omega arith) d; what = zero-at (3 * i + 2) (omega arith) d }
-
-  pub node-zeros : length l ≤ 3 * i → record { funclet = 0; route = 0; «first_edge» = 0; edges = 0; «first_end» = 0; ends = 0 } ≡ recordIn l i
-  unfolding recordIn
-  node-zeros h = λ d.
-      record {
-        funclet = zero-at (6 * i) (omega arith) d;
-        route = zero-at (6 * i + 1) (omega arith) d;
-        «first_edge» = zero-at (6 * i + 2) (omega arith) d;
-        edges = zero-at (6 * i + 3) (omega arith) d;
-        «first_end» = zero-at (6 * i + 4) (omega arith) d;
-        ends = zero-at (6 * i + 5) (omega arith) d;
-      }

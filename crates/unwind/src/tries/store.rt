@@ -1,4 +1,5 @@
 // The nodes of the trie, and their edges and ends, as numbers in slices: six for a node, three for an edge or an end.
+// What a function `_in` reads is there, by its contract; one `_at` reads 0 past the end.
 ghost use mathlib.Core.Path.{_≡_};
 ghost use Prim.Native.Nat.{_+_, _*_, _≤_, _<_};
 ghost use lib.ListN.{length, getD};
@@ -29,86 +30,7 @@ pub struct Counts {
     pub ends: usize,
 }
 
-// Node i, and zeros past the end.
-pub fn node_at(nodes: &[u16], i: usize) -> NodeRecord
-    ensures { λ r. ⌜ NodeRead (now (nodes .entry)) i r ⌝ }
-{
-    let n = nodes.len();
-    if i < n {
-        if 3 * i < n {
-            let at = 6 * i;
-            return NodeRecord {
-                funclet: number_at(nodes, at),
-                route: number_at(nodes, at + 1),
-                first_edge: number_at(nodes, at + 2),
-                edges: number_at(nodes, at + 3),
-                first_end: number_at(nodes, at + 4),
-                ends: number_at(nodes, at + 5),
-            };
-        }
-    }
-    NodeRecord {
-        funclet: 0,
-        route: 0,
-        first_edge: 0,
-        edges: 0,
-        first_end: 0,
-        ends: 0,
-    }
-}
-
-// Edge or end k, and zeros past the end.
-pub fn branch_at(list: &[u16], k: usize) -> Branch
-    ensures { λ r. ⌜ BranchRead (now (list .entry)) k r ⌝ }
-{
-    if k < list.len() {
-        let at = 3 * k;
-        return Branch {
-            step: number_at(list, at),
-            calls: number_at(list, at + 1),
-            what: number_at(list, at + 2),
-        };
-    }
-    Branch {
-        step: 0,
-        calls: 0,
-        what: 0,
-    }
-}
-
-pub fn put_node(nodes: &mut [u16], i: usize, x: NodeRecord)
-    requires { ⌜ (6 * i + 6 ≤ length (now nodes)) × NodeSmall x ⌝ }
-    ensures { λ _. ⌜ NodePut (now (nodes .entry)) i x (now (nodes .exit)) ⌝ }
-{
-    let at = 6 * i;
-    put_three(nodes, at, x.funclet, x.route, x.first_edge);
-    put_three(nodes, at + 3, x.edges, x.first_end, x.ends);
-}
-
-pub fn put_branch(list: &mut [u16], k: usize, b: Branch)
-    requires { ⌜ (3 * k + 3 ≤ length (now list)) × BranchSmall b ⌝ }
-    ensures { λ _. ⌜ BranchPut (now (list .entry)) k b (now (list .exit)) ⌝ }
-{
-    put_three(list, 3 * k, b.step, b.calls, b.what);
-}
-
-fn put_three(list: &mut [u16], at: usize, a: usize, b: usize, c: usize)
-    requires { ⌜ (at + 3 ≤ length (now list)) × (a < 65536) × (b < 65536) × (c < 65536) ⌝ }
-    ensures { λ _. ⌜ ThreePut (now (list .entry)) at a b c (now (list .exit)) ⌝ }
-{
-    list[at] = a as u16;
-    list[at + 1] = b as u16;
-    list[at + 2] = c as u16;
-}
-
-// Number k of a slice, and 0 past the end.
-pub fn number_at(list: &[u16], k: usize) -> usize
-    ensures { λ r. ⌜ (r ≡ getD (now (list .entry)) k 0) × (r < 65536) ⌝ }
-{
-    if k < list.len() { list[k] as usize } else { 0 }
-}
-
-// Node i, one of those that there is room for. Nothing is tested.
+// Node i, one of those that there is room for.
 pub fn node_in(nodes: &[u16], i: usize) -> NodeRecord
     requires { ⌜ 6 * i + 6 ≤ length (now nodes) ⌝ }
     ensures { λ r. ⌜ NodeRead (now (nodes .entry)) i r ⌝ }
@@ -143,4 +65,36 @@ pub fn number_in(list: &[u16], k: usize) -> usize
     ensures { λ r. ⌜ (r ≡ getD (now (list .entry)) k 0) × (r < 65536) ⌝ }
 {
     list[k] as usize
+}
+
+// Number k of a slice, and 0 past the end.
+pub fn number_at(list: &[u16], k: usize) -> usize
+    ensures { λ r. ⌜ (r ≡ getD (now (list .entry)) k 0) × (r < 65536) ⌝ }
+{
+    if k < list.len() { list[k] as usize } else { 0 }
+}
+
+pub fn put_node(nodes: &mut [u16], i: usize, x: NodeRecord)
+    requires { ⌜ (6 * i + 6 ≤ length (now nodes)) × NodeSmall x ⌝ }
+    ensures { λ _. ⌜ NodePut (now (nodes .entry)) i x (now (nodes .exit)) ⌝ }
+{
+    let at = 6 * i;
+    put_three(nodes, at, x.funclet, x.route, x.first_edge);
+    put_three(nodes, at + 3, x.edges, x.first_end, x.ends);
+}
+
+pub fn put_branch(list: &mut [u16], k: usize, b: Branch)
+    requires { ⌜ (3 * k + 3 ≤ length (now list)) × BranchSmall b ⌝ }
+    ensures { λ _. ⌜ BranchPut (now (list .entry)) k b (now (list .exit)) ⌝ }
+{
+    put_three(list, 3 * k, b.step, b.calls, b.what);
+}
+
+fn put_three(list: &mut [u16], at: usize, a: usize, b: usize, c: usize)
+    requires { ⌜ (at + 3 ≤ length (now list)) × (a < 65536) × (b < 65536) × (c < 65536) ⌝ }
+    ensures { λ _. ⌜ ThreePut (now (list .entry)) at a b c (now (list .exit)) ⌝ }
+{
+    list[at] = a as u16;
+    list[at + 1] = b as u16;
+    list[at + 2] = c as u16;
 }
