@@ -5,7 +5,7 @@
 --     record-exits                 the exits of a node
 --     copy-records, block-records  those of a copy, and of a block that stood
 --     standing-hops                the hops of a block that stood
---     held-from, block-held, block-size, pooled-none, node-fits    what is gathered from nothing, and room for it
+--     held-from, block-held, block-size, pooled-none    what is gathered from nothing, and room for it
 --     node-there, roots-fit        what is read of a node, and the roots
 use mathlib.Core.Path.{_≡_, refl, sym, _∙_, ap}
 use mathlib.Core.Bool.{Bool, true, false, cond, not, _&&_}
@@ -37,7 +37,7 @@ use Rattle.addition.specs.Instance.{blocksOf, later, base, place, entryOf}
 use Rattle.addition.specs.Ways.{block, endAt as hopEnd, ways}
 use Rattle.unwind.specs.Sources.{Exit, exit, compareExits, exitsAt, exitsFrom, routeExits, nodeExits, copyExits, hopsOn}
 use Rattle.unwind.specs.Entries.{endIn, exitsIn}
-use Rattle.unwind.specs.Gather.{exitTo, edgeExits, endNumber, endExits, recordExits, Gathers, inSet, NodeFits, NodeThere, routeRecords, nodeRecords, Pooled, Adds}
+use Rattle.unwind.specs.Gather.{exitTo, edgeExits, endNumber, endExits, recordExits, Gathers, inSet, NodeThere, routeRecords, nodeRecords, Pooled, Adds}
 use Rattle.unwind.specs.Sides.{landing}
 use Rattle.unwind.specs.Lent.{Leads, Sides, blockRecords, Holds, BlockHeld, blockHops}
 use Rattle.unwind.specs.Sizes.{HopsSize, SizesOf}
@@ -88,14 +88,6 @@ block-held m b nodes edges ends heads landings roots guards bases returns c {l =
 pub block-size : (m : RouteImage) (b : ℕ) (nodes edges ends heads landings roots guards bases returns : List ℕ) (c : Counts) {l : List ℕ} {n : ℕ} {q : Sizes} → Holds m b (blockRecords m b nodes edges ends heads landings roots guards bases returns c) l n → SizesOf l n q → HopsSize (blockHops m nodes edges ends heads landings roots guards bases returns c b) q
 unfolding blockHops
 block-size m b nodes edges ends heads landings roots guards bases returns c h s = rw (h .is) at (s .of m b)
-
-pub node-fits : (m : RouteImage) (nodes edges ends roots : List ℕ) (c : Counts) → TriesIn m nodes edges ends roots c → (i : ℕ) → i < c .nodes → NodeFits edges ends (recordIn nodes i)
-node-fits m nodes edges ends roots c t i h =
-    let a = t .stored .edges-in i h in
-    let d = t .stored .ends-in i h in
-    let p = t .stored .edges-fit in
-    let q = t .stored .ends-fit in
-    record { edges-in = omega arith; ends-in = omega arith }
 
 module _ (m : RouteImage) (nodes edges ends roots : List ℕ) (c : Counts) (t : TriesIn m nodes edges ends roots c) where
   nodes-long : length (tries (routesOf m) .nodes) ≡ c .nodes

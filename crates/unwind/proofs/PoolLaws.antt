@@ -24,10 +24,10 @@ use Rattle.graph.specs.Fold.{flat}
 use Rattle.graph.proofs.FoldLaws.{length-table, flat-more}
 use Rattle.unwind.specs.declared.tries.store.NodeRecord.{NodeRecord}
 use Rattle.addition.specs.Order.{put}
-use Rattle.unwind.specs.Nodes.{branchIn, recordIn}
+use Rattle.unwind.specs.Nodes.{branchIn, recordIn, NodeFits}
 use Rattle.unwind.specs.Sources.{Exit, compareExits}
 use Rattle.unwind.specs.Entries.{exitIn, exitsIn}
-use Rattle.unwind.specs.Gather.{putAll, exitTo, edgeExits, endNumber, endExits, recordExits, Gathers, inSet, NodeFits, routeRecords, returnRecords, nodeRecords, pool, Pooled, Adds}
+use Rattle.unwind.specs.Gather.{putAll, exitTo, edgeExits, endNumber, endExits, recordExits, Gathers, inSet, routeRecords, returnRecords, nodeRecords, pool, Pooled, Adds}
 use Rattle.addition.specs.Walk.{_∈_}
 use Rattle.addition.proofs.Order.{put-mem}
 use Rattle.unwind.proofs.Rising.{rising-length, total-exits}

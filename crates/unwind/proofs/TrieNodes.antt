@@ -25,7 +25,7 @@ use Rattle.unwind.specs.declared.tries.store.NodeRecord.{NodeRecord}
 use Rattle.unwind.specs.declared.tries.store.Counts.{Counts}
 use Rattle.addition.specs.Order.{same}
 use Rattle.addition.specs.Trie.{Node, sameFunclet, sameNode, placeOf, created, create}
-use Rattle.unwind.specs.Nodes.{stepIn, funcletIn, valueOf, recordIn, branchIn, edgeOf, endAt, nodeIn, nodesIn, Stored, NodeFits, NodesFit, NodePut}
+use Rattle.unwind.specs.Nodes.{stepIn, funcletIn, valueOf, recordIn, branchIn, edgeOf, endAt, nodeIn, nodesIn, Stored, NodeFits, AllFit, NodePut}
 use Rattle.unwind.specs.Kept.{Behind, Kept}
 use Rattle.unwind.proofs.TrieRuns.{branches-same}
 
@@ -160,10 +160,10 @@ nodes-still m nodes edges ends edges′ ends′ c stored same-edges same-ends =
 
 module _ (nodes edges ends : List ℕ) (c : Counts) where
   pub behind-fits : (x : NodeRecord) → Behind nodes edges ends c x → NodeFits edges ends x
-  behind-fits x b = record { edges-fit = omega (arith, b .first-edge, b .edges-fit); ends-fit = omega (arith, b .first-end, b .ends-fit) }
+  behind-fits x b = record { edges-in = omega (arith, b .first-edge, b .edges-fit); ends-in = omega (arith, b .first-end, b .ends-fit) }
 
-  pub stored-fits : Stored nodes edges ends c → NodesFit nodes edges ends (c .nodes)
-  stored-fits s i h = record { edges-fit = omega (arith, s .edges-in i h, s .edges-fit); ends-fit = omega (arith, s .ends-in i h, s .ends-fit) }
+  pub stored-fits : Stored nodes edges ends c → AllFit nodes edges ends (λ i. i) (c .nodes)
+  stored-fits s = record { fits = λ i h. record { edges-in = omega (arith, s .edges-in i h, s .edges-fit); ends-in = omega (arith, s .ends-in i h, s .ends-fit) } }
 
 -- ---- a node stands already, or is stored
 

@@ -62,15 +62,6 @@ pub record EntryTo (e : Branch) (n : ℕ) (r : Branch) : Type 0 where
 abbrev pub inSet : List ℕ → ℕ → ℕ → Bool
 inSet l i b = member (take 16 (drop (16 * i) l)) b
 
--- the edges and ends of a node stand in the slices
-pub record NodeFits (edges ends : List ℕ) (x : NodeRecord) : Type 0 where
-  pub edges-in : 3 * (x .«first_edge» + x .edges) ≤ length edges
-  pub ends-in : 3 * (x .«first_end» + x .ends) ≤ length ends
-
--- those of f 0, f 1, .. below n
-pub record AllFit (nodes edges ends : List ℕ) (f : ℕ → ℕ) (n : ℕ) : Type 0 where
-  pub fits : (i : ℕ) → i < n → NodeFits edges ends (recordIn nodes (f i))
-
 -- node i stands in the slices, with its edges, the entries of the nodes after them, and where its ends land
 pub record NodeThere (nodes edges heads landings : List ℕ) (i : ℕ) : Type 0 where
   pub node-in : 6 * i + 6 ≤ length nodes

@@ -91,12 +91,12 @@ pub record Stored (nodes edges ends : List ℕ) (c : Counts) : Type 0 where
 
 -- the edges and ends of x stand in two lists
 pub record NodeFits (edges ends : List ℕ) (x : NodeRecord) : Type 0 where
-  pub edges-fit : 3 * (x .«first_edge» + x .edges) ≤ length edges
-  pub ends-fit : 3 * (x .«first_end» + x .ends) ≤ length ends
+  pub edges-in : 3 * (x .«first_edge» + x .edges) ≤ length edges
+  pub ends-in : 3 * (x .«first_end» + x .ends) ≤ length ends
 
--- and those of each of the first n nodes
-abbrev pub NodesFit : List ℕ → List ℕ → List ℕ → ℕ → Type 0
-NodesFit nodes edges ends n = (i : ℕ) → i < n → NodeFits edges ends (recordIn nodes i)
+-- so do those of the nodes f 0, f 1, .. below n
+pub record AllFit (nodes edges ends : List ℕ) (f : ℕ → ℕ) (n : ℕ) : Type 0 where
+  pub fits : (i : ℕ) → i < n → NodeFits edges ends (recordIn nodes (f i))
 
 -- node i and its ends stand in the slices
 pub record EndsThere (nodes ends : List ℕ) (i : ℕ) : Type 0 where

@@ -11,9 +11,9 @@ ghost use Prim.Native.Nat.{ℕ, _+_, _*_, _≤_, _<_};
 ghost use lib.ListN.{length};
 ghost use Rattle.image.specs.Image.{routesIn};
 ghost use Rattle.image.specs.There.{RoutesThere};
-ghost use Rattle.unwind.specs.Nodes.{recordIn, branchIn, BranchSmall};
+ghost use Rattle.unwind.specs.Nodes.{recordIn, branchIn, BranchSmall, NodeFits};
 ghost use Rattle.unwind.specs.Entries.{Ordered};
-ghost use Rattle.unwind.specs.Gather.{EntryTo, endNumber, endExits, recordExits, Gathers, GathersEdges, NodeFits, NodeThere};
+ghost use Rattle.unwind.specs.Gather.{EntryTo, endNumber, endExits, recordExits, Gathers, GathersEdges, NodeThere};
 
 // Those of node i, out of block b: `heads` has the entry of each node, `landings` where each end lands.
 pub fn gather_node(

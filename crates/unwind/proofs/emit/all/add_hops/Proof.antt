@@ -3,7 +3,8 @@ use native.Mathlib.Omega.{arith}
 use borrow.Author.Needs.{needs}
 use Rattle.image.specs.Image.{routesIn}
 use Rattle.graph.specs.Words.{heldIn}
-use Rattle.unwind.proofs.LentLaws.{node-fits, node-there}
+use Rattle.unwind.proofs.TrieNodes.{stored-fits}
+use Rattle.unwind.proofs.LentLaws.{node-there}
 use Rattle.unwind.proofs.HeldLaws.{held-below}
 use Rattle.unwind.proofs.MemberLaws.{nodes-sets, block-sets}
 use Rattle.unwind.proofs.AllNodesLaws.{fit-stood, fit-others, all-rise, all-laid}
@@ -36,7 +37,7 @@ add-nodes-requires c κs =
     let t = start .pre .1 in
     let room = start .pre .6 in
     let stood = c .before .before .before .before .add-blocks .ensures in (
-      record { fits = λ i h. node-fits m (a .nodes .now) (a .edges .now) (a .ends .now) (a .roots .now) (a .stored) t i h },
+      stored-fits (a .nodes .now) (a .edges .now) (a .ends .now) (a .stored) (t .stored),
       omega (arith, t .nodes-most),
       all-rise (heldIn (a .g .now) .graph) m (a .nodes .now) (a .edges .now) (a .ends .now) (a .roots .now) (a .heads .now) (a .landings .now) (a .guards .now) (a .bases .now) (a .parts .now) (a .returns .now) (a .stored) (start .pre .1) (start .pre .2) (start .pre .3) (start .pre .4) (start .pre .5) (c .before .before .before .before .before .before .before .before .before .block-count .result) (c .before .before .before .before .before .before .before .before .before .block-count .ensures),
       omega (arith, c .before .before .before .before .before .before .before .before .before .block-count .ensures, start .pre .5 .few),

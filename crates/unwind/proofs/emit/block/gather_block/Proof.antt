@@ -4,7 +4,8 @@ use lib.ListN.{getD}
 use Rattle.image.specs.Record.{routeFrom}
 use Rattle.image.specs.Image.{routesIn}
 use Rattle.image.proofs.Tables.{length-records}
-use Rattle.unwind.proofs.LentLaws.{pooled-none, node-fits, node-there, roots-fit, block-held}
+use Rattle.unwind.proofs.TrieNodes.{stored-fits}
+use Rattle.unwind.proofs.LentLaws.{pooled-none, node-there, roots-fit, block-held}
 use Rattle.unwind.proofs.PoolLaws.{adds-some}
 use Rattle.unwind.proofs.MemberLaws.{originals-records}
 use borrow.Author.Needs.{needs}
@@ -20,7 +21,7 @@ gather-routes-requires c κs =
       pooled-none (routesIn (a .s .now) (a .y)) (a .b) (a .edges .now) (a .ends .now) (a .heads .now) (a .landings .now) (a .exits .now) (start .pre .3),
       start .pre .2,
       omega (arith, count, start .pre .0 .routes-most),
-      record { fits = λ r h. node-fits (routesIn (a .s .now) (a .y)) (a .nodes .now) (a .edges .now) (a .ends .now) (a .roots .now) (a .stored) t (getD (a .roots .now) r 0) (t .roots-in r (omega (arith, count, h))) },
+      record { fits = λ r h. stored-fits (a .nodes .now) (a .edges .now) (a .ends .now) (a .stored) (t .stored) .fits (getD (a .roots .now) r 0) (t .roots-in r (omega (arith, count, h))) },
       search needs,
       record { there = λ r h. node-there (routesIn (a .s .now) (a .y)) (a .nodes .now) (a .edges .now) (a .ends .now) (a .roots .now) (a .stored) t (a .heads .now) (a .landings .now) (start .pre .6) (start .pre .7) (getD (a .roots .now) r 0) (t .roots-in r (omega (arith, count, h))) },
       omega (arith, count, roots-fit (routesIn (a .s .now) (a .y)) (a .nodes .now) (a .edges .now) (a .ends .now) (a .roots .now) (a .stored) t),
@@ -33,7 +34,7 @@ gather-nodes-requires c κs =
     let t = start .pre .1 in (
       c .before .before .before .gather-routes .ensures .pooled,
       start .pre .2,
-      record { fits = λ k h. node-fits (routesIn (a .s .now) (a .y)) (a .nodes .now) (a .edges .now) (a .ends .now) (a .roots .now) (a .stored) t (getD (a .originals .now) k 0) (start .pre .4 .within k h) },
+      record { fits = λ k h. stored-fits (a .nodes .now) (a .edges .now) (a .ends .now) (a .stored) (t .stored) .fits (getD (a .originals .now) k 0) (start .pre .4 .within k h) },
       search needs,
       record { there = λ k h. node-there (routesIn (a .s .now) (a .y)) (a .nodes .now) (a .edges .now) (a .ends .now) (a .roots .now) (a .stored) t (a .heads .now) (a .landings .now) (start .pre .6) (start .pre .7) (getD (a .originals .now) k 0) (start .pre .4 .within k h) },
       omega (arith, start .pre .4 .few, start .pre .8),

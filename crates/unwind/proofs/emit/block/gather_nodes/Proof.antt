@@ -6,8 +6,8 @@ use lib.ListN.{getD}
 use Rattle.image.specs.Image.{routesIn}
 use Rattle.graph.specs.Fold.{flat}
 use Rattle.unwind.specs.declared.tries.store.NodeRecord.{NodeRecord}
-use Rattle.unwind.specs.Nodes.{recordIn}
-use Rattle.unwind.specs.Gather.{NodeFits, NodeThere, returnRecords, Adds}
+use Rattle.unwind.specs.Nodes.{recordIn, NodeFits}
+use Rattle.unwind.specs.Gather.{NodeThere, returnRecords, Adds}
 use Rattle.unwind.proofs.PoolLaws.{adds-none, adds-some, adds-next}
 use borrow.Author.Needs.{needs}
 use Rattle.unwind.proofs.emit.block.gather_nodes.Statement.{statement}

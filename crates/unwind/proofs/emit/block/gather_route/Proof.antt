@@ -2,8 +2,8 @@
 use mathlib.Core.Path.{sym, ap, _∙_, subst}
 use Rattle.image.specs.Image.{routesIn}
 use Rattle.unwind.specs.declared.tries.store.NodeRecord.{NodeRecord}
-use Rattle.unwind.specs.Nodes.{recordIn}
-use Rattle.unwind.specs.Gather.{NodeFits, NodeThere, recordExits}
+use Rattle.unwind.specs.Nodes.{recordIn, NodeFits}
+use Rattle.unwind.specs.Gather.{NodeThere, recordExits}
 use Rattle.unwind.proofs.PoolLaws.{node-room, adds-none, adds-some, adds-record, route-in, route-out}
 use borrow.Author.Needs.{needs}
 use Rattle.unwind.proofs.emit.block.gather_route.Statement.{statement}

@@ -2,7 +2,8 @@
 use native.Mathlib.Omega.{arith}
 use Rattle.image.specs.Image.{routesIn}
 use Rattle.graph.specs.Words.{heldIn}
-use Rattle.unwind.proofs.LentLaws.{node-fits, node-there}
+use Rattle.unwind.proofs.TrieNodes.{stored-fits}
+use Rattle.unwind.proofs.LentLaws.{node-there}
 use Rattle.unwind.proofs.CopiesAre.{counted-all}
 use Rattle.unwind.proofs.MemberLaws.{nodes-sets, block-sets}
 use borrow.Author.Needs.{needs}
@@ -32,7 +33,7 @@ count-nodes-requires c κs =
     let t = start .pre .1 in
     let room = start .pre .7 in
     let blocks = c .before .before .before .before .before .block-count .ensures in (
-      record { fits = λ i h. node-fits (routesIn (a .s .now) (a .y)) (a .nodes .now) (a .edges .now) (a .ends .now) (a .roots .now) (a .stored) t i h },
+      stored-fits (a .nodes .now) (a .edges .now) (a .ends .now) (a .stored) (t .stored),
       omega (arith, t .nodes-most),
       start .pre .5,
       omega (arith, blocks, start .pre .6 .few),

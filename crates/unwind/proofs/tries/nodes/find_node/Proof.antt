@@ -27,7 +27,7 @@ abbrev μ-loop : tie.MeasureT-loop
 μ-loop s y nodes edges ends seen n x low value i₀ i = n - i
 
 behind-children-requires : tie.Need-behind-children-requires Inv-loop μ-loop
-behind-children-requires c κs = let pre = c .before .before .before .before .pre in (omega (arith, pre .1 .first-edge, pre .1 .edges), pre .6 .edges-fit)
+behind-children-requires c κs = let pre = c .before .before .before .before .pre in (omega (arith, pre .1 .first-edge, pre .1 .edges), pre .6 .edges-in)
 
 returns : tie.Need-returns Inv-loop μ-loop
 returns c =
@@ -56,7 +56,7 @@ loop-holds c =
 stands-at-requires : tie.Need-stands-at-requires Inv-loop μ-loop
 stands-at-requires c κs =
     let start = c .before .before .before .before .before .before .before .before .before .before .before .before in
-    (start .pre .0, start .pre .1, omega (arith, c .loop-test .taken, start .pre .2), c .before .before .before .before .before .funclet-value .ensures, search needs, start .pre .6, start .pre .7 _ (c .loop-test .taken))
+    (start .pre .0, start .pre .1, omega (arith, c .loop-test .taken, start .pre .2), c .before .before .before .before .before .funclet-value .ensures, search needs, start .pre .6, start .pre .7 .fits _ (c .loop-test .taken))
 
 returns-3 : tie.Need-returns-3 Inv-loop μ-loop
 returns-3 c =
