@@ -4,7 +4,6 @@ use crate::blocks::block_from;
 use crate::blocks::find_start;
 use crate::blocks::leading_block;
 use crate::blocks::position;
-use crate::routes::path_of;
 use graph::error::AddressBuildError;
 use graph::error::Checked;
 use graph::found::Found;
@@ -13,6 +12,7 @@ use graph::store::Words;
 use graph::store::blocks::block_in;
 use graph::store::table::table_count;
 use graph::store::table::table_in;
+use image::access::path_in;
 use image::access::route_in;
 use image::section::RouteLayout;
 ghost use mathlib.Core.Path.{_≡_};
@@ -105,7 +105,7 @@ fn steps_behind(s: &[u8], y: RouteLayout, path: usize, n: usize, step: usize) ->
 {
     let mut next = step;
     for k in 0..n {
-        next += path_of(s, y, path + k).steps;
+        next += path_in(s, y.paths, path + k).steps;
     }
     next
 }

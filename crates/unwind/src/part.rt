@@ -2,7 +2,6 @@
 use crate::blocks::Lead;
 use crate::blocks::last_of;
 use crate::blocks::leading_block;
-use crate::routes::step_of;
 use graph::blockset::Lowest;
 use graph::blockset::has_in;
 use graph::blockset::lowest_in;
@@ -14,6 +13,7 @@ use graph::store::Words;
 use graph::store::blocks::block_count;
 use graph::store::edges::edge_count;
 use graph::store::edges::edge_in;
+use image::access::step_in;
 use image::section::RouteLayout;
 ghost use mathlib.Core.Path.{_≡_};
 ghost use mathlib.Core.Bool.{true, not, _&&_};
@@ -63,7 +63,7 @@ pub fn funclet_entries(
     let n = y.steps.count as usize;
     let mut set = [0u64; 16];
     for j in 0..n {
-        let x = step_of(s, y, j);
+        let x = step_in(s, y.steps, j);
         if x.code == FUNCLET {
             put_entry(g, built, hints, x.value, &mut set);
         }

@@ -30,8 +30,8 @@ loop-again c =
     let g = heldIn (a .g .now) .graph in
     let m = routesIn (a .s .now) (a .y) in
     let top = c .before .before .before .before .loop in
-    let code = ap (λ (x : Step). x .code) (c .before .before .step-of .ensures) in
-    let value = ap (λ (x : Step). x .value) (c .before .before .step-of .ensures) in (
+    let code = ap (λ (x : Step). x .code) (c .before .before .step-in .ensures) in
+    let value = ap (λ (x : Step). x .value) (c .before .before .step-in .ensures) in (
       omega arith,
       ⊎-elim
           (λ w. rw (w .3 ∙ w .2 .ensures, value) (entered-put g m (block-most (a .g .now)) (top .j) (top .set) (top .inv .1) (sym code ∙ w .0 .taken)))
