@@ -1,4 +1,4 @@
-// Records of routes that are there. Past the last each is the record of zeros.
+// Records of routes that are there. One that a function `_in` reads is among them, by contract; `_of` reads zeros past the last.
 use image::access::path_in;
 use image::access::step_in;
 use image::record::Path;
