@@ -1,10 +1,10 @@
 // The table and its blocks, the runs between leaders: stored in order, and numbered by position. `populate_blocks`.
-use image::access::instruction_in;
 use graph::record::Block;
 use graph::record::TableEntry;
 use graph::store::Words;
 use graph::store::blocks::add_block;
 use graph::store::table::add_entry;
+use image::access::instruction_in;
 use image::record::Instruction;
 use image::section::Section;
 ghost use mathlib.Core.Bool.{cond, not};

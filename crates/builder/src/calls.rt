@@ -4,9 +4,10 @@ use crate::transfer::is_call;
 use graph::record::CallSite;
 use graph::store::Words;
 use graph::store::calls::add_call;
-use image::access::instruction_at;
+use image::access::instruction_in;
 use image::section::Layout;
 ghost use mathlib.Core.List.{[]};
+ghost use Prim.Native.Nat.{_<_};
 ghost use Rattle.image.specs.Image.{imageIn};
 ghost use Rattle.image.specs.There.{ImageThere};
 ghost use Rattle.graph.specs.Edges.{callAt, callsOf};
@@ -32,10 +33,10 @@ pub fn add_calls(g: &mut Words, s: &[u8], y: Layout)
 
 // The record of the instruction at p, if it calls.
 fn add_call_at(g: &mut Words, s: &[u8], y: Layout, p: usize)
-    requires { ⌜ ImageThere (now s) y ⌝ }
+    requires { ⌜ ImageThere (now s) y × (p < y .code .instructions .count) ⌝ }
     ensures { λ _. ⌜ Added (now (g .entry)) (now (g .exit)) [] [] (callAt (imageIn (now (s .entry)) y) p) ⌝ }
 {
-    let i = instruction_at(s, y.code.instructions, p);
+    let i = instruction_in(s, y.code.instructions, p);
     if is_call(i.flow) {
         let record = CallSite {
             source: i.address,

@@ -8,13 +8,13 @@ use crate::cursor::given_at;
 use crate::lookup::address_at;
 use crate::lookup::find;
 use crate::lookup::put_hint;
-use image::access::instruction_in;
 use crate::transfer::is_call;
 use graph::error::AddressBuildError;
 use graph::error::Checked;
 use graph::found::Found;
 use image::access::edge_at;
-use image::access::source_at;
+use image::access::instruction_in;
+use image::access::source_in;
 use image::record::Instruction;
 use image::section::CodeLayout;
 use image::section::Layout;
@@ -110,7 +110,7 @@ pub fn check_sources(s: &[u8], y: Layout, hints: &[u16]) -> Checked
     for i in 0..n {
         let table = y.code.instructions;
         let sources = y.code.sources;
-        let address = source_at(s, sources, i).address;
+        let address = source_in(s, sources, i).address;
         let Found::At(_) = find(s, table, hints, address) else {
             return Checked::Refused(AddressBuildError::MissingGivenSource { address });
         };

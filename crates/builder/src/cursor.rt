@@ -2,7 +2,7 @@
 //
 // The cursor is carried along, so that no position is counted anew.
 use image::access::instruction_in;
-use image::access::source_at;
+use image::access::source_in;
 use image::little::octet;
 use image::little::quad;
 use image::record::GivenSource;
@@ -91,7 +91,7 @@ fn given_source(s: &[u8], sources: Section, i: usize) -> GivenSource
 {
     let at = place(sources, i);
     if s.len() < at + 12 {
-        return source_at(s, sources, i);
+        return source_in(s, sources, i);
     }
     GivenSource {
         address: octet(s, at),

@@ -20,7 +20,7 @@ use graph::error::Checked;
 use graph::found::Found;
 use graph::store::edges::EDGE_MOST;
 use image::access::case_at;
-use image::access::instruction_at;
+use image::access::instruction_in;
 use image::record::Instruction;
 use image::section::Layout;
 ghost use mathlib.Core.Bool.{cond};
@@ -100,7 +100,7 @@ fn kept_before(s: &[u8], y: Layout) -> [usize; 513]
     let n = y.code.instructions.count as usize;
     let mut kept = [0; 513];
     for p in 0..n {
-        let i = instruction_at(s, y.code.instructions, p);
+        let i = instruction_in(s, y.code.instructions, p);
         kept[p + 1] = behind(kept[p], i.keeps);
     }
     kept

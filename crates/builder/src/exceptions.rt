@@ -2,7 +2,6 @@
 use crate::drafts::handler;
 use crate::edges::block_of;
 use crate::edges::edge_between;
-use image::access::instruction_in;
 use crate::ranges::Ranged;
 use crate::ranges::range_check;
 use crate::regions::block_at;
@@ -10,6 +9,7 @@ use crate::transfer::Origin;
 use crate::transfer::Transfer;
 use graph::store::Words;
 use graph::store::edges::add_edge;
+use image::access::instruction_in;
 use image::section::Layout;
 ghost use mathlib.Core.Bool.{cond, true};
 ghost use mathlib.Core.List.{[]};

@@ -12,14 +12,14 @@ use crate::leaders::flows::mark_lead;
 use crate::leaders::routes::mark_routes;
 use crate::lookup::address_at;
 use crate::lookup::find;
-use image::access::instruction_in;
 use crate::marks::mark_at;
 use crate::marks::mark_if;
 use crate::marks::mark_range;
 use crate::marks::mark_target;
 use crate::marks::mark_target_if;
 use graph::found::Found;
-use image::access::handler_at;
+use image::access::handler_in;
+use image::access::instruction_in;
 use image::record::Instruction;
 use image::section::Layout;
 ghost use mathlib.Core.Bool.{_&&_, _||_};
@@ -203,7 +203,7 @@ fn mark_handler(
     ensures { λ _. ⌜ Marked (y .code .instructions .count) (protectMark (imageIn (now (s .entry)) y) h) (now (marks .entry)) (now (marks .exit)) ⌝ }
 {
     let table = y.code.instructions;
-    let handler = handler_at(s, y.code.handlers, h);
+    let handler = handler_in(s, y.code.handlers, h);
     mark_range(marks, s, table, hints, code_end, handler.start, handler.end);
     mark_target(marks, s, table, hints, handler.entry);
 }

@@ -4,10 +4,11 @@ use crate::lookup::find;
 use graph::error::AddressBuildError;
 use graph::error::Checked;
 use graph::found::Found;
-use image::access::handler_at;
+use image::access::handler_in;
 use image::section::Layout;
 use image::section::Section;
 ghost use mathlib.Core.Path.{_≡_};
+ghost use Prim.Native.Nat.{_<_};
 ghost use Rattle.image.specs.Image.{imageIn};
 ghost use Rattle.image.specs.There.{Holds, ImageThere};
 ghost use Rattle.graph.specs.Error.{checkOf};
@@ -83,12 +84,12 @@ pub fn check_handlers(s: &[u8], y: Layout, hints: &[u16], code_end: u64) -> Chec
 }
 
 fn check_handler(s: &[u8], y: Layout, hints: &[u16], code_end: u64, h: usize) -> Checked
-    requires { ⌜ Ended (tableOf (imageIn (now s) y)) «code_end» × ImageThere (now s) y ⌝ }
+    requires { ⌜ Ended (tableOf (imageIn (now s) y)) «code_end» × ImageThere (now s) y × (h < y .code .handlers .count) ⌝ }
     ensures { λ r. ⌜ checkOf r ≡ handlerCheck (imageIn (now (s .entry)) y) h ⌝ }
 {
     let code = y.code;
     let instructions = code.instructions;
-    let handler = handler_at(s, code.handlers, h);
+    let handler = handler_in(s, code.handlers, h);
     let start = handler.start;
     let end = handler.end;
     if let Ranged::Refused(e) = range_check(s, instructions, hints, code_end, start, end) {

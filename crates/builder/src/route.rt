@@ -8,9 +8,9 @@ use graph::found::Found;
 use graph::resume::FUNCLET;
 use graph::resume::HANDLER;
 use graph::resume::resumes_late;
-use image::access::path_at;
-use image::access::route_at;
-use image::access::step_at;
+use image::access::path_in;
+use image::access::route_in;
+use image::access::step_in;
 use image::section::Layout;
 use image::section::RouteLayout;
 use image::section::Section;
@@ -50,7 +50,7 @@ pub fn check_routes(s: &[u8], y: Layout, hints: &[u16], code_end: u64) -> Checke
             Entered::Refused(e) => return Checked::Refused(e),
             Entered::Next(next) => next,
         };
-        path += route_at(s, all, r).paths;
+        path += route_in(s, all, r).paths;
     }
     Checked::Clear
 }
@@ -69,7 +69,7 @@ fn check_route(
     requires { ⌜ Ended (entriesIn (now s) t) «code_end» × Placed (routesIn (now s) y) r path step × Holds (now s) t 31 × RoutesThere (now s) y ⌝ }
     ensures { λ e. ⌜ Enters (routesIn (now (s .entry)) y) (routeCheck (entriesIn (now (s .entry)) t) (routesOf (routesIn (now (s .entry)) y)) r) (pathsBefore (routesIn (now (s .entry)) y) (r + 1)) e ⌝ }
 {
-    let route = route_at(s, y.routes, r);
+    let route = route_in(s, y.routes, r);
     let start = route.start;
     let end = route.end;
     if let Ranged::Refused(e) = range_check(s, t, hints, code_end, start, end) {
@@ -109,10 +109,10 @@ fn check_path(s: &[u8], t: Section, hints: &[u16], y: RouteLayout, p: usize, ste
     requires { ⌜ AcceptedRoutes (routesIn (now s) y) × Rising (entriesIn (now s) t) × (p < length (routesIn (now s) y .paths)) × (step ≡ stepsBefore (routesIn (now s) y) p) × Holds (now s) t 31 × RoutesThere (now s) y ⌝ }
     ensures { λ e. ⌜ Enters (routesIn (now (s .entry)) y) (pathCheck (entriesIn (now (s .entry)) t) (pathIn (routesIn (now (s .entry)) y) p)) (p + 1) e ⌝ }
 {
-    let path = path_at(s, y.paths, p);
+    let path = path_in(s, y.paths, p);
     let size = path.steps;
     for j in 0..size {
-        let x = step_at(s, y.steps, step + j);
+        let x = step_in(s, y.steps, step + j);
         if x.code == FUNCLET {
             if let Checked::Refused(e) = check_entry(s, t, hints, x.value) {
                 return Entered::Refused(e);

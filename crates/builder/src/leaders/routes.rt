@@ -1,9 +1,9 @@
 // Marks of the routes: what they protect, and the funclets and handlers that their paths name.
 use crate::marks::mark_range;
 use crate::marks::mark_target_if;
-use image::access::path_at;
-use image::access::route_at;
-use image::access::step_at;
+use image::access::path_in;
+use image::access::route_in;
+use image::access::step_in;
 use image::section::Layout;
 ghost use mathlib.Core.Path.{_≡_};
 ghost use Prim.Native.Nat.{_<_};
@@ -61,7 +61,7 @@ fn mark_route_range(
     requires { ⌜ Passed (imageIn (now s) y) × («code_end» ≡ codeEnd (tableOf (imageIn (now s) y))) × (r < y .routes .routes .count) × ImageThere (now s) y ⌝ }
     ensures { λ _. ⌜ Marked (y .code .instructions .count) (routeRange (imageIn (now (s .entry)) y) r) (now (marks .entry)) (now (marks .exit)) ⌝ }
 {
-    let route = route_at(s, y.routes.routes, r);
+    let route = route_in(s, y.routes.routes, r);
     mark_range(
         marks,
         s,
@@ -86,10 +86,10 @@ fn mark_funclets(mut marks: [bool; 512], s: &[u8], y: Layout, hints: &[u16]) -> 
 }
 
 fn mark_funclet(marks: &mut [bool; 512], s: &[u8], y: Layout, hints: &[u16], k: usize)
-    requires { ⌜ Passed (imageIn (now s) y) × ImageThere (now s) y ⌝ }
+    requires { ⌜ Passed (imageIn (now s) y) × ImageThere (now s) y × (k < y .routes .steps .count) ⌝ }
     ensures { λ _. ⌜ Marked (y .code .instructions .count) (stepMark (imageIn (now (s .entry)) y) k) (now (marks .entry)) (now (marks .exit)) ⌝ }
 {
-    let step = step_at(s, y.routes.steps, k);
+    let step = step_in(s, y.routes.steps, k);
     mark_target_if(
         marks,
         s,
@@ -113,10 +113,10 @@ fn mark_path_ends(mut marks: [bool; 512], s: &[u8], y: Layout, hints: &[u16]) ->
 }
 
 fn mark_path_end(marks: &mut [bool; 512], s: &[u8], y: Layout, hints: &[u16], k: usize)
-    requires { ⌜ Passed (imageIn (now s) y) × ImageThere (now s) y ⌝ }
+    requires { ⌜ Passed (imageIn (now s) y) × ImageThere (now s) y × (k < y .routes .paths .count) ⌝ }
     ensures { λ _. ⌜ Marked (y .code .instructions .count) (pathMark (imageIn (now (s .entry)) y) k) (now (marks .entry)) (now (marks .exit)) ⌝ }
 {
-    let path = path_at(s, y.routes.paths, k);
+    let path = path_in(s, y.routes.paths, k);
     mark_target_if(
         marks,
         s,

@@ -10,8 +10,7 @@ use Rattle.builder.proofs.build.build.Tie as tie
 
 build-read-requires : tie.Need-build-read-requires
 build-read-requires c κs =
-    let start = c .before .before .before .before .before .before in
-    (
+    let start = c .before .before .before .before .before .before in (
       accepted (start .args .s .now) (imageIn (start .args .s .now) _) (sym (rw (c .before .before .y .given .1) at (c .before .before .before .before .read-image .ensures .0))),
       rw (c .before .before .y .given .1) at (c .before .before .before .before .read-image .ensures .1),
     )

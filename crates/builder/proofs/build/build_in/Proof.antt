@@ -26,13 +26,15 @@ leaders-requires c κs =
 
 check-result-requires : tie.Need-check-result-requires
 check-result-requires c κs =
-    let start = c .before .before .before .before .before .before .before .before .before .before .before .before .before .before in
-    (record {
-      accepted = start .pre .0;
-      passed = sym (rw (c .before .before .before .before .enum-told .given .1) at (c .before .before .before .before .before .before .before .before .check-input .ensures));
-      ended = c .before .before .before .before .before .before .before .before .before .before .code-end .ensures;
-      leading = c .before .before .leaders .ensures;
-    }, search needs)
+    let start = c .before .before .before .before .before .before .before .before .before .before .before .before .before .before in (
+      record {
+        accepted = start .pre .0;
+        passed = sym (rw (c .before .before .before .before .enum-told .given .1) at (c .before .before .before .before .before .before .before .before .check-input .ensures));
+        ended = c .before .before .before .before .before .before .before .before .before .before .code-end .ensures;
+        leading = c .before .before .leaders .ensures;
+      },
+      search needs,
+    )
 
 same-length-2 : tie.Need-same-length-2
 same-length-2 c = c .before .before .before .before .before .before .before .before .before .before .before .before .check-input .kept .1 .1 .0

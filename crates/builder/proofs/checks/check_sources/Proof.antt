@@ -28,8 +28,8 @@ loop-holds : tie.Need-loop-holds Inv-loop μ-loop
 unfolding checks
 loop-holds c = (search needs, refl)
 
-source-at-requires : tie.Need-source-at-requires Inv-loop μ-loop
-source-at-requires c κs = search needs
+source-in-requires : tie.Need-source-in-requires Inv-loop μ-loop
+source-in-requires c κs = search needs
 
 find-requires : tie.Need-find-requires Inv-loop μ-loop
 find-requires c κs = (c .before .before .before .before .before .before .before .before .pre .0, search needs)
@@ -48,7 +48,7 @@ returns c =
     let m = imageIn (a .s .now) (a .y) in
     let within : top .i < length (m .sources) = rw (length-records sourceFrom (a .s .now) (a .y .code .sources)) (omega arith) in
     let none = rw (c .enum-told2 .given .1) at (c .before .before .find .ensures) in
-    let read = c .before .before .before .source-at .ensures in
+    let read = c .before .before .before .source-in .ensures in
     sym (checks-stop (sourceCheck m) (top .i) _ _ within (top .inv .1) (rw (← read, none)))
 
 add-i : tie.Need-add-i Inv-loop μ-loop
@@ -63,7 +63,7 @@ loop-again c =
     let top = c .before .before .before .before .before .before .before .loop in
     let a = c .before .before .before .before .before .before .before .before .before .before .before .args in
     let starts = rw (c .enum-told .given .1) at (c .before .before .find .ensures) in
-    let read = c .before .before .before .source-at .ensures in
+    let read = c .before .before .before .source-in .ensures in
     (search needs, checks-more (sourceCheck (imageIn (a .s .now) (a .y))) (top .i) (top .inv .1) ∙ rw (← read, starts .0))
 
 returns-2 : tie.Need-returns-2 Inv-loop μ-loop
@@ -81,7 +81,7 @@ check-sources-spec =
     μ-loop
     cast-n
     loop-holds
-    source-at-requires
+    source-in-requires
     find-requires
     enum-told
     enum-told-2

@@ -8,7 +8,7 @@ use Rattle.builder.proofs.cursor.given_source.Statement.{statement}
 use Rattle.builder.proofs.cursor.given_source.Tie as tie
 
 returns : tie.Need-returns
-returns c = c .source-at .ensures
+returns c = c .source-in .ensures
 
 returns-2 : tie.Need-returns-2
 returns-2 c =

@@ -42,7 +42,7 @@ loop-again c =
     let a = c .before .before .before .before .before .before .args in
     let m = imageIn (a .s .now) (a .y) in
     let top = c .before .before .before .loop in
-    let now = c .behind .ensures ∙ kept-next m (top .p) _ (c .before .instruction-at .result) (c .before .instruction-at .ensures) (top .inv .3 (top .p) (omega arith)) in (
+    let now = c .behind .ensures ∙ kept-next m (top .p) _ (c .before .instruction-in .result) (c .before .instruction-in .ensures) (top .inv .3 (top .p) (omega arith)) in (
       search needs,
       search needs,
       simp length-set (top .inv .2),

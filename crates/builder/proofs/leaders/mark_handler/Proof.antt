@@ -14,8 +14,8 @@ use borrow.Author.Needs.{needs}
 use Rattle.builder.proofs.leaders.mark_handler.Statement.{statement}
 use Rattle.builder.proofs.leaders.mark_handler.Tie as tie
 
-handler-at-requires : tie.Need-handler-at-requires
-handler-at-requires c κs = search needs
+handler-in-requires : tie.Need-handler-in-requires
+handler-in-requires c κs = search needs
 
 mark-range-requires : tie.Need-mark-range-requires
 unfolding handlerAt
@@ -24,7 +24,7 @@ mark-range-requires c κs =
     let a = start .args in
     let m = imageIn (a .s .now) (a .y) in
     let passed = handler-range m (start .pre .0) (a .h) (rw (length-records handlerFrom (a .s .now) (a .y .code .handlers)) (start .pre .2)) in
-    ((start .pre .0 .table, start .pre .1, search needs), (rw (← c .before .handler-at .ensures) at passed, few _ _ (start .pre .0)))
+    ((start .pre .0 .table, start .pre .1, search needs), (rw (← c .before .handler-in .ensures) at passed, few _ _ (start .pre .0)))
 
 mark-target-requires : tie.Need-mark-target-requires
 mark-target-requires c κs = let start = c .before .before .before .before .before .before .before in ((start .pre .0 .sourced .rising, search needs), few _ _ (start .pre .0))
@@ -35,9 +35,9 @@ returns c =
     let a = c .before .before .before .before .before .before .before .before .args in
     let m = imageIn (a .s .now) (a .y) in
     mark-as (protectMark m (a .h))
-    (λ p h. ap (λ (x : Handler). (leb (below (tableOf m) (x .start)) p && leb p (below (tableOf m) (x .end))) || eqb (addressAt m p) (x .entry)) (c .before .before .before .before .handler-at .ensures))
+    (λ p h. ap (λ (x : Handler). (leb (below (tableOf m) (x .start)) p && leb p (below (tableOf m) (x .end))) || eqb (addressAt m p) (x .entry)) (c .before .before .before .before .handler-in .ensures))
     (mark-then (c .before .before .mark-range .ensures) (mark-start m _ (c .mark-target .ensures)))
 
 pub mark-handler-spec : {M : Type 1} → statement M
 mark-handler-spec =
-    tie.close (tie.spec handler-at-requires mark-range-requires mark-target-requires returns)
+    tie.close (tie.spec handler-in-requires mark-range-requires mark-target-requires returns)

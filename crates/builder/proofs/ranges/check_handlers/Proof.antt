@@ -26,7 +26,7 @@ unfolding checks
 loop-holds c = (search needs, refl)
 
 check-handler-requires : tie.Need-check-handler-requires Inv-loop μ-loop
-check-handler-requires c κs = (c .before .before .before .before .before .pre .0, search needs)
+check-handler-requires c κs = (c .before .before .before .before .before .pre .0, search needs, search needs)
 
 returns : tie.Need-returns Inv-loop μ-loop
 returns c =

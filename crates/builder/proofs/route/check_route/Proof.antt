@@ -2,10 +2,12 @@
 use mathlib.Core.Path.{_≡_, sym, ap, _∙_, subst₂}
 use Prim.Native.Nat.{ℕ, _+_}
 use native.Mathlib.Omega.{arith}
+use Rattle.image.specs.Record.{routeFrom}
 use Rattle.image.specs.Refusal.{Check, checks}
 use Rattle.image.specs.Image.{routesIn}
 use Rattle.image.specs.Deal.{routesOf}
 use Rattle.image.specs.declared.record.Route.{Route}
+use Rattle.image.proofs.Tables.{length-records}
 use Rattle.graph.specs.Lookup.{entriesIn}
 use Rattle.graph.specs.Route.{routeCheck, pathsBefore, pathIn}
 use Rattle.graph.proofs.RangeLaws.{rising}
@@ -16,6 +18,11 @@ use borrow.Author.Needs.{needs}
 use Rattle.builder.proofs.route.check_route.Statement.{statement}
 use Rattle.builder.proofs.route.check_route.Tie as tie
 
+route-in-requires : tie.Need-route-in-requires
+route-in-requires c κs =
+    let start = c .before .before in
+    (start .pre .3 .routes-there, rw (length-records routeFrom (start .args .s .now) (start .args .y .routes)) at (start .pre .1 .1))
+
 range-check-requires : tie.Need-range-check-requires
 range-check-requires c κs = (c .before .before .before .pre .0, search needs)
 
@@ -24,18 +31,18 @@ returns c =
     let start = c .before .before .before .before .before .before .before in
     let m = routesIn (start .args .s .now) (start .args .y) in
     let t = entriesIn (start .args .s .now) (start .args .t) in
-    let range = rw (c .before .e .given .1, c .before .before .before .before .route-at .ensures) at (c .before .before .before .range-check .ensures) in
+    let range = rw (c .before .e .given .1, c .before .before .before .before .route-in .ensures) at (c .before .before .before .range-check .ensures) in
     rw (route-check m (start .pre .1 .0) (start .args .r) (start .pre .1 .1) t, range)
 
 resumes-late-requires : tie.Need-resumes-late-requires
-resumes-late-requires c κs = c .before .before .before .before .before .before .pre .1
+resumes-late-requires c κs = let start = c .before .before .before .before .before .before in (start .pre .1, start .pre .3)
 
 returns-2 : tie.Need-returns-2
 returns-2 c =
     let start = c .before .before .before .before .before .before .before .before in
     let m = routesIn (start .args .s .now) (start .args .y) in
     let t = entriesIn (start .args .s .now) (start .args .t) in
-    let range = rw (c .before .before .enum-told .given .1, c .before .before .before .before .before .route-at .ensures) at (c .before .before .before .before .range-check .ensures) in
+    let range = rw (c .before .before .enum-told .given .1, c .before .before .before .before .before .route-in .ensures) at (c .before .before .before .before .range-check .ensures) in
     let late = sym (c .before .resumes-late .ensures) ∙ c .if1 .taken in
     rw (route-check m (start .pre .1 .0) (start .args .r) (start .pre .1 .1) t, range .0, late)
 
@@ -44,7 +51,7 @@ check-entries-requires c κs =
     let start = c .before .before .before .before .before .before .before .before in
     let p = start .pre .1 in
     let within = paths-in (routesIn (start .args .s .now) (start .args .y)) (p .0) (start .args .r) (p .1) in
-    (p .0, rising _ (start .pre .0 .0), omega (arith, within, p .2, ap (λ (x : Route). x .paths) (c .before .before .before .before .before .route-at .ensures)), p .3, search needs, search needs)
+    (p .0, rising _ (start .pre .0 .0), omega (arith, within, p .2, ap (λ (x : Route). x .paths) (c .before .before .before .before .before .route-in .ensures)), p .3, search needs, search needs)
 
 returns-3 : tie.Need-returns-3
 returns-3 c =
@@ -53,7 +60,7 @@ returns-3 c =
     let p = start .pre .1 in
     let m = routesIn (a .s .now) (a .y) in
     let t = entriesIn (a .s .now) (a .t) in
-    let route = c .before .before .before .before .before .before .route-at in
+    let route = c .before .before .before .before .before .before .route-in in
     let range = rw (c .before .before .before .enum-told .given .1, route .ensures) at (c .before .before .before .before .before .range-check .ensures) in
     let late = sym (c .before .before .resumes-late .ensures) ∙ c .before .if1 .left in
     let rest : checks (λ (k : ℕ). pathCheck t (pathIn m (a .path + k))) (route .result .paths) ≡ routeCheck t (routesOf m) (a .r) = rw (p .2, route .ensures, route-check m (p .0) (a .r) (p .1) t, range .0, late) in
@@ -64,7 +71,7 @@ pub check-route-spec : {M : Type 1} → statement M
 check-route-spec =
     tie.close
     (tie.spec
-    (λ c κs. search needs)
+    route-in-requires
     range-check-requires
     (λ c. search needs)
     returns

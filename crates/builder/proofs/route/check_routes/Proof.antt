@@ -56,7 +56,7 @@ add-path c =
     let m = routesIn (start .args .s .now) (start .args .y .routes) in
     let top = c .before .before .before .before .before .before .before .loop in
     let ok = start .pre .0 .routed in
-    omega (arith, paths-in m ok (top .r) (among (c .before .before .before .before .before .before)), ok .paths-most, top .inv .1, ap (λ (x : Route). x .paths) (c .before .route-at .ensures))
+    omega (arith, paths-in m ok (top .r) (among (c .before .before .before .before .before .before)), ok .paths-most, top .inv .1, ap (λ (x : Route). x .paths) (c .before .route-in .ensures))
 
 add-r : tie.Need-add-r Inv-loop μ-loop
 add-r c = omega (arith, c .before .before .before .before .before .before .before .before .struct-known .given)
@@ -67,7 +67,7 @@ loop-again c =
     let m = routesIn (start .args .s .now) (start .args .y .routes) in
     let top = c .before .before .before .before .before .before .before .loop in
     let here = rw (c .before .before .before .next .given .1) at (c .before .before .before .before .before .check-route .ensures) in
-    let next : top .path + c .before .route-at .result .paths ≡ pathsBefore m (top .r + 1) = omega (arith, paths-next m (top .r), top .inv .1, ap (λ (x : Route). x .paths) (c .before .route-at .ensures)) in
+    let next : top .path + c .before .route-in .result .paths ≡ pathsBefore m (top .r + 1) = omega (arith, paths-next m (top .r), top .inv .1, ap (λ (x : Route). x .paths) (c .before .route-in .ensures)) in
     (search needs, next, here .1 ∙ ap (stepsBefore m) (sym next), checks-more _ (top .r) (top .inv .3) ∙ here .0)
 
 returns-2 : tie.Need-returns-2 Inv-loop μ-loop

@@ -23,7 +23,7 @@ returns c =
     told ∙ sym (route-checks (heldIn (a .g .now) .graph) (routesIn (a .s .now) (a .y)) (a .r) (c .before .before .before .before .before .pre .3 .1) ∙ rw range)
 
 resumes-late-requires : tie.Need-resumes-late-requires
-resumes-late-requires c κs = c .before .before .before .before .before .pre .3
+resumes-late-requires c κs = let start = c .before .before .before .before .before in (start .pre .3, start .pre .4)
 
 returns-2 : tie.Need-returns-2
 returns-2 c =

@@ -12,8 +12,8 @@ use borrow.Author.Needs.{needs}
 use Rattle.builder.proofs.leaders.routes.mark_path_end.Statement.{statement}
 use Rattle.builder.proofs.leaders.routes.mark_path_end.Tie as tie
 
-path-at-requires : tie.Need-path-at-requires
-path-at-requires c κs = search needs
+path-in-requires : tie.Need-path-in-requires
+path-in-requires c κs = search needs
 
 mark-target-if-requires : tie.Need-mark-target-if-requires
 mark-target-if-requires c κs = let start = c .before .before .before .before .before in ((start .pre .0 .sourced .rising, search needs), few _ _ (start .pre .0))
@@ -22,7 +22,7 @@ returns : tie.Need-returns
 returns c =
     let a = c .before .before .before .before .before .before .args in
     let m = imageIn (a .s .now) (a .y) in
-    mark-as (pathMark m (a .k)) (λ p h. ap₂ (λ (x : Path) (b : ℕ). eqb (x .end) 0 && eqb b (x .handler)) (c .before .before .before .path-at .ensures) (entry-address m p)) (c .mark-target-if .ensures)
+    mark-as (pathMark m (a .k)) (λ p h. ap₂ (λ (x : Path) (b : ℕ). eqb (x .end) 0 && eqb b (x .handler)) (c .before .before .before .path-in .ensures) (entry-address m p)) (c .mark-target-if .ensures)
 
 pub mark-path-end-spec : {M : Type 1} → statement M
-mark-path-end-spec = tie.close (tie.spec path-at-requires mark-target-if-requires returns)
+mark-path-end-spec = tie.close (tie.spec path-in-requires mark-target-if-requires returns)
