@@ -1,5 +1,6 @@
-// Record i of a section, straight from the bytes. Past the section's end it is the record of zeros.
-use crate::little::byte_at;
+// Record i of a section, straight from the bytes. What `_in` reads is there: nothing is tested. What `_at` reads need not be:
+// past the section's end it is the record of zeros.
+use crate::little::byte_in;
 use crate::little::octet;
 use crate::little::padded;
 use crate::little::quad;
@@ -21,25 +22,6 @@ ghost use Rattle.image.specs.Record.{instructionFrom, caseFrom, sourceFr
 ghost use Rattle.image.specs.Image.{recordsIn};
 ghost use Rattle.image.specs.There.{Holds};
 
-pub fn instruction_at(s: &[u8], y: Section, i: usize) -> Instruction
-    ensures { λ r. ⌜ r ≡ getD (recordsIn instructionFrom (now (s .entry)) y) i (instructionFrom [] 0) ⌝ }
-{
-    let count = y.count as usize;
-    if i < count {
-        instruction_from(s, place(y, i))
-    } else {
-        Instruction {
-            address: 0,
-            end: 0,
-            has_end: false,
-            keeps: false,
-            flow: 0,
-            target: 0,
-            cases: 0,
-        }
-    }
-}
-
 pub fn case_at(s: &[u8], y: Section, i: usize) -> Case
     ensures { λ r. ⌜ r ≡ getD (recordsIn caseFrom (now (s .entry)) y) i (caseFrom [] 0) ⌝ }
 {
@@ -48,20 +30,6 @@ pub fn case_at(s: &[u8], y: Section, i: usize) -> Case
         case_from(s, place(y, i))
     } else {
         Case { key: 0, target: 0 }
-    }
-}
-
-pub fn source_at(s: &[u8], y: Section, i: usize) -> GivenSource
-    ensures { λ r. ⌜ r ≡ getD (recordsIn sourceFrom (now (s .entry)) y) i (sourceFrom [] 0) ⌝ }
-{
-    let count = y.count as usize;
-    if i < count {
-        source_from(s, place(y, i))
-    } else {
-        GivenSource {
-            address: 0,
-            edges: 0,
-        }
     }
 }
 
@@ -97,36 +65,6 @@ pub fn handler_at(s: &[u8], y: Section, i: usize) -> Handler
     }
 }
 
-pub fn route_at(s: &[u8], y: Section, i: usize) -> Route
-    ensures { λ r. ⌜ r ≡ getD (recordsIn routeFrom (now (s .entry)) y) i (routeFrom [] 0) ⌝ }
-{
-    let count = y.count as usize;
-    if i < count {
-        route_from(s, place(y, i))
-    } else {
-        Route {
-            start: 0,
-            end: 0,
-            paths: 0,
-        }
-    }
-}
-
-pub fn path_at(s: &[u8], y: Section, i: usize) -> Path
-    ensures { λ r. ⌜ r ≡ getD (recordsIn pathFrom (now (s .entry)) y) i (pathFrom [] 0) ⌝ }
-{
-    let count = y.count as usize;
-    if i < count {
-        path_from(s, place(y, i))
-    } else {
-        Path {
-            end: 0,
-            handler: 0,
-            steps: 0,
-        }
-    }
-}
-
 pub fn step_at(s: &[u8], y: Section, i: usize) -> Step
     ensures { λ r. ⌜ r ≡ getD (recordsIn stepFrom (now (s .entry)) y) i (stepFrom [] 0) ⌝ }
 {
@@ -138,7 +76,6 @@ pub fn step_at(s: &[u8], y: Section, i: usize) -> Step
     }
 }
 
-// One of the records that are there. Nothing is tested.
 pub fn instruction_in(s: &[u8], y: Section, i: usize) -> Instruction
     requires { ⌜ Holds (now s) y 31 × (i < y .count) ⌝ }
     ensures { λ r. ⌜ r ≡ getD (recordsIn instructionFrom (now (s .entry)) y) i (instructionFrom [] 0) ⌝ }
@@ -146,25 +83,11 @@ pub fn instruction_in(s: &[u8], y: Section, i: usize) -> Instruction
     instruction_there(s, place(y, i))
 }
 
-pub fn case_in(s: &[u8], y: Section, i: usize) -> Case
-    requires { ⌜ Holds (now s) y 12 × (i < y .count) ⌝ }
-    ensures { λ r. ⌜ r ≡ getD (recordsIn caseFrom (now (s .entry)) y) i (caseFrom [] 0) ⌝ }
-{
-    case_there(s, place(y, i))
-}
-
 pub fn source_in(s: &[u8], y: Section, i: usize) -> GivenSource
     requires { ⌜ Holds (now s) y 12 × (i < y .count) ⌝ }
     ensures { λ r. ⌜ r ≡ getD (recordsIn sourceFrom (now (s .entry)) y) i (sourceFrom [] 0) ⌝ }
 {
     source_there(s, place(y, i))
-}
-
-pub fn edge_in(s: &[u8], y: Section, i: usize) -> GivenEdge
-    requires { ⌜ Holds (now s) y 13 × (i < y .count) ⌝ }
-    ensures { λ r. ⌜ r ≡ getD (recordsIn edgeFrom (now (s .entry)) y) i (edgeFrom [] 0) ⌝ }
-{
-    edge_there(s, place(y, i))
 }
 
 pub fn handler_in(s: &[u8], y: Section, i: usize) -> Handler
@@ -195,31 +118,19 @@ pub fn step_in(s: &[u8], y: Section, i: usize) -> Step
     step_there(s, place(y, i))
 }
 
-// The instruction that stands at a place.
-pub fn instruction_from(s: &[u8], at: usize) -> Instruction
-    requires { ⌜ at ≤ 18446744069414584320 ⌝ }
-    ensures { λ r. ⌜ r ≡ instructionFrom (now (s .entry)) at ⌝ }
-{
-    if s.len() < at + 31 {
-        instruction_there(&padded(s, at), 0)
-    } else {
-        instruction_there(s, at)
-    }
-}
-
 // A record that is there: each field is one load.
 fn instruction_there(s: &[u8], at: usize) -> Instruction
     requires { ⌜ at + 31 ≤ length (now s) ⌝ }
     ensures { λ r. ⌜ r ≡ instructionFrom (now (s .entry)) at ⌝ }
 {
-    let has_end = byte_at(s, at + 16) == 1;
-    let keeps = byte_at(s, at + 17) == 1;
+    let has_end = byte_in(s, at + 16) == 1;
+    let keeps = byte_in(s, at + 17) == 1;
     Instruction {
         address: octet(s, at),
         end: octet(s, at + 8),
         has_end,
         keeps,
-        flow: byte_at(s, at + 18),
+        flow: byte_in(s, at + 18),
         target: octet(s, at + 19),
         cases: quad(s, at + 27) as usize,
     }
@@ -243,17 +154,6 @@ fn case_there(s: &[u8], at: usize) -> Case
     Case {
         key: quad(s, at),
         target: octet(s, at + 4),
-    }
-}
-
-fn source_from(s: &[u8], at: usize) -> GivenSource
-    requires { ⌜ at ≤ 18446744069414584320 ⌝ }
-    ensures { λ r. ⌜ r ≡ sourceFrom (now (s .entry)) at ⌝ }
-{
-    if s.len() < at + 12 {
-        source_there(&padded(s, at), 0)
-    } else {
-        source_there(s, at)
     }
 }
 
@@ -284,7 +184,7 @@ fn edge_there(s: &[u8], at: usize) -> GivenEdge
 {
     GivenEdge {
         target: octet(s, at),
-        kind: byte_at(s, at + 8),
+        kind: byte_in(s, at + 8),
         payload: quad(s, at + 9),
     }
 }
@@ -308,19 +208,8 @@ fn handler_there(s: &[u8], at: usize) -> Handler
         start: octet(s, at),
         end: octet(s, at + 8),
         entry: octet(s, at + 16),
-        kind: byte_at(s, at + 24),
+        kind: byte_in(s, at + 24),
         filter: quad(s, at + 25),
-    }
-}
-
-fn route_from(s: &[u8], at: usize) -> Route
-    requires { ⌜ at ≤ 18446744069414584320 ⌝ }
-    ensures { λ r. ⌜ r ≡ routeFrom (now (s .entry)) at ⌝ }
-{
-    if s.len() < at + 20 {
-        route_there(&padded(s, at), 0)
-    } else {
-        route_there(s, at)
     }
 }
 
@@ -335,23 +224,12 @@ fn route_there(s: &[u8], at: usize) -> Route
     }
 }
 
-fn path_from(s: &[u8], at: usize) -> Path
-    requires { ⌜ at ≤ 18446744069414584320 ⌝ }
-    ensures { λ r. ⌜ r ≡ pathFrom (now (s .entry)) at ⌝ }
-{
-    if s.len() < at + 13 {
-        path_there(&padded(s, at), 0)
-    } else {
-        path_there(s, at)
-    }
-}
-
 fn path_there(s: &[u8], at: usize) -> Path
     requires { ⌜ at + 13 ≤ length (now s) ⌝ }
     ensures { λ r. ⌜ r ≡ pathFrom (now (s .entry)) at ⌝ }
 {
     Path {
-        end: byte_at(s, at),
+        end: byte_in(s, at),
         handler: octet(s, at + 1),
         steps: quad(s, at + 9) as usize,
     }
@@ -373,7 +251,7 @@ fn step_there(s: &[u8], at: usize) -> Step
     ensures { λ r. ⌜ r ≡ stepFrom (now (s .entry)) at ⌝ }
 {
     Step {
-        code: byte_at(s, at),
+        code: byte_in(s, at),
         value: octet(s, at + 1),
     }
 }

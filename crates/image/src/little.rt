@@ -16,6 +16,14 @@ pub fn byte_at(s: &[u8], at: usize) -> u64
     if at < s.len() { wide(s[at]) } else { 0 }
 }
 
+// A byte that is there.
+pub fn byte_in(s: &[u8], at: usize) -> u64
+    requires { ⌜ at < length (now s) ⌝ }
+    ensures { λ r. ⌜ (r ≡ le1 (now (s .entry)) at) × (r < 256) ⌝ }
+{
+    wide(s[at])
+}
+
 pub fn u32_at(s: &[u8], at: usize) -> u64
     ensures { λ r. ⌜ (r ≡ le4 (now (s .entry)) at) × (r < 4294967296) ⌝ }
 {

@@ -4,7 +4,7 @@ use Rattle.image.proofs.access.path_there.Statement.{statement}
 use Rattle.image.proofs.access.path_there.Tie as tie
 
 returns : tie.Need-returns
-returns c = rw (c .before .before .byte-at .ensures .0, c .before .octet .ensures, c .quad .ensures .0)
+returns c = rw (c .before .before .byte-in .ensures .0, c .before .octet .ensures, c .quad .ensures .0)
 
 pub path-there-spec : {M : Type 1} → statement M
 path-there-spec =

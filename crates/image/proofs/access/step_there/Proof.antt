@@ -4,7 +4,7 @@ use Rattle.image.proofs.access.step_there.Statement.{statement}
 use Rattle.image.proofs.access.step_there.Tie as tie
 
 returns : tie.Need-returns
-returns c = rw (c .before .byte-at .ensures .0, c .octet .ensures)
+returns c = rw (c .before .byte-in .ensures .0, c .octet .ensures)
 
 pub step-there-spec : {M : Type 1} → statement M
 step-there-spec =
