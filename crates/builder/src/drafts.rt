@@ -1,5 +1,5 @@
 // Drafts of regions: one for each protected range, the wider ones first. The ranges of the handlers are lent as two arrays.
-use image::access::handler_at;
+use image::access::handler_in;
 use image::record::Handler;
 use image::section::Layout;
 ghost use mathlib.Core.Path.{_≡_};
@@ -123,9 +123,9 @@ pub fn span(starts: &[u64; 32], ends: &[u64; 32], h: usize) -> u64
 }
 
 pub fn handler(s: &[u8], y: Layout, h: usize) -> Handler
-    requires { ⌜ ImageThere (now s) y ⌝ }
+    requires { ⌜ ImageThere (now s) y × (h < y .code .handlers .count) ⌝ }
     ensures { λ r. ⌜ r ≡ handlerAt (imageIn (now (s .entry)) y) h ⌝ }
 {
     let code = y.code;
-    handler_at(s, code.handlers, h)
+    handler_in(s, code.handlers, h)
 }

@@ -123,7 +123,7 @@ fn kept_by(
     kept: &[usize; 513],
     h: usize,
 ) -> usize
-    requires { ⌜ Ended (tableOf (imageIn (now s) y)) «code_end» × (handlerCheck (imageIn (now s) y) h ≡ clear) × ImageThere (now s) y ⌝ }
+    requires { ⌜ Ended (tableOf (imageIn (now s) y)) «code_end» × (handlerCheck (imageIn (now s) y) h ≡ clear) × ImageThere (now s) y × (h < y .code .handlers .count) ⌝ }
     requires { ⌜ (size (imageIn (now s) y) ≤ 512) × Kept (imageIn (now s) y) (now kept) ⌝ }
     ensures { λ r. ⌜ r ≡ length (handlerEdges (imageIn (now (s .entry)) y) h) ⌝ }
 {

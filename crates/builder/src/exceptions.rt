@@ -62,7 +62,7 @@ fn add_handler_edges(
     blocks: &[u16],
     h: usize,
 )
-    requires { ⌜ Handled (imageIn (now s) y) (now blocks) × («code_end» ≡ codeEnd (tableOf (imageIn (now s) y))) × ImageThere (now s) y ⌝ }
+    requires { ⌜ Handled (imageIn (now s) y) (now blocks) × («code_end» ≡ codeEnd (tableOf (imageIn (now s) y))) × ImageThere (now s) y × (h < y .code .handlers .count) ⌝ }
     requires { ⌜ handlerCheck (imageIn (now s) y) h ≡ clear ⌝ }
     ensures { λ _. ⌜ Added (now (g .entry)) (now (g .exit)) (handlerEdges (imageIn (now (s .entry)) y) h) [] [] ⌝ }
 {

@@ -241,7 +241,7 @@ fn protected_by(
     blocks: &[u16],
     h: usize,
 ) -> [u64; 16]
-    requires { ⌜ Handled (imageIn (now s) y) (now blocks) × («code_end» ≡ codeEnd (tableOf (imageIn (now s) y))) × ImageThere (now s) y ⌝ }
+    requires { ⌜ Handled (imageIn (now s) y) (now blocks) × («code_end» ≡ codeEnd (tableOf (imageIn (now s) y))) × ImageThere (now s) y × (h < y .code .handlers .count) ⌝ }
     requires { ⌜ handlerCheck (imageIn (now s) y) h ≡ clear ⌝ }
     ensures { λ r. ⌜ r ≡ setBelow (λ i. blockOf (imageIn (now (s .entry)) y) (rangeFirst (imageIn (now (s .entry)) y) h + i)) (rangeSize (imageIn (now (s .entry)) y) h) ⌝ }
 {
@@ -278,7 +278,7 @@ fn handler_record(
     count: usize,
     h: usize,
 ) -> HandlerRecord
-    requires { ⌜ Numbered (imageIn (now s) y) (now blocks) × (handlerCheck (imageIn (now s) y) h ≡ clear) × (h < 32) × ImageThere (now s) y ⌝ }
+    requires { ⌜ Numbered (imageIn (now s) y) (now blocks) × (handlerCheck (imageIn (now s) y) h ≡ clear) × (h < 32) × ImageThere (now s) y × (h < y .code .handlers .count) ⌝ }
     requires { ⌜ Extents (imageIn (now s) y) (now starts) (now ends) × Drafted (now list) count (drafts (imageIn (now s) y)) ⌝ }
     ensures { λ r. ⌜ r ≡ handlerRecord (imageIn (now (s .entry)) y) h ⌝ }
 {

@@ -1,4 +1,4 @@
--- `handler` meets its contract: the definition is what `handler_at` answers. Assumes nothing.
+-- `handler` meets its contract: the definition is what `handler_in` answers. Assumes nothing.
 use Rattle.graph.specs.Leaders.{handlerAt}
 use borrow.Author.Needs.{needs}
 use Rattle.builder.proofs.drafts.handler.Statement.{statement}

@@ -41,7 +41,7 @@ kept-by-requires c κs =
     let start = c .before .before .before .before .before .before .before in
     let m = imageIn (start .args .s .now) (start .args .y) in
     let size = length-records handlerFrom (start .args .s .now) (start .args .y .code .handlers) in (
-      ((start .pre .0 .table, start .pre .2), checks-at (handlerCheck m) (length (m .handlers)) (c .before .before .loop .h) (start .pre .0 .handlers) (omega arith), search needs),
+      ((start .pre .0 .table, start .pre .2), checks-at (handlerCheck m) (length (m .handlers)) (c .before .before .loop .h) (start .pre .0 .handlers) (omega arith), search needs, search needs),
       (start .pre .0 .sourced .accepted .instructions-most, c .before .before .before .before .kept-before .ensures),
     )
 

@@ -46,7 +46,7 @@ add-handler-edges-requires c κs =
     let start = c .before .before .before .before .before .before .before .before .before in
     let m = imageIn (start .args .s .now) (start .args .y) in
     let size = length-records handlerFrom (start .args .s .now) (start .args .y .code .handlers) in
-    (start .pre, checks-at (handlerCheck m) (length (m .handlers)) (c .before .before .loop .h) (start .pre .0 .passed) (omega arith))
+    ((start .pre .0, start .pre .1, search needs, search needs), checks-at (handlerCheck m) (length (m .handlers)) (c .before .before .loop .h) (start .pre .0 .passed) (omega arith))
 
 loop-again : tie.Need-loop-again Inv-loop μ-loop
 loop-again c =

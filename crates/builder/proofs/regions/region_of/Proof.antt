@@ -59,7 +59,11 @@ protected-by-requires c κs =
     let m = imageIn (start .args .s .now) (start .args .y) in
     let drafted = start .pre .1 .0 .1 in
     let r = start .args .r in
-    (start .pre .0, rw (drafted-at drafted r (start .pre .1 .1)) (checks-at (handlerCheck m) (length (m .handlers)) (draft m r) (start .pre .0 .0 .passed) (draft-below m r (omega (arith, drafted-size drafted)))))
+    let below = draft-below m r (omega (arith, drafted-size drafted)) in
+    let own = drafted-at drafted r (start .pre .1 .1) in (
+      (start .pre .0 .0, start .pre .0 .1, start .pre .0 .2, omega (arith, own, below, length-records handlerFrom (start .args .s .now) (start .args .y .code .handlers))),
+      rw own (checks-at (handlerCheck m) (length (m .handlers)) (draft m r) (start .pre .0 .0 .passed) below),
+    )
 
 returns : tie.Need-returns
 unfolding regionAt

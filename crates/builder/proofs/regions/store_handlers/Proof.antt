@@ -40,7 +40,7 @@ handler-record-requires c κs =
     let m = imageIn (start .args .s .now) (start .args .y) in
     let size = length-records handlerFrom (start .args .s .now) (start .args .y .code .handlers) in
     let few = start .pre .0 .few in
-    ((start .pre .0 .numbered, checks-at (handlerCheck m) (length (m .handlers)) (c .before .before .loop .h) (start .pre .0 .passed) (omega arith), omega arith, search needs), (start .pre .1 .0 .0, start .pre .1 .0 .1))
+    ((start .pre .0 .numbered, checks-at (handlerCheck m) (length (m .handlers)) (c .before .before .loop .h) (start .pre .0 .passed) (omega arith), omega arith, search needs, search needs), (start .pre .1 .0 .0, start .pre .1 .0 .1))
 
 loop-again : tie.Need-loop-again Inv-loop μ-loop
 loop-again c =
