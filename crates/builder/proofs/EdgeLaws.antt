@@ -3,7 +3,8 @@
 --     edge-found, edge-none                its edge where it is resolved, and where it is not
 --     unresolved-of, unresolved-none       its record where it is not, and where it is
 --     given-found                          a given edge, to the block that was found
---     given-next, given-fits, case-next, case-fits     its given edges and its cases stand where the cursor says
+--     given-next, given-inside, given-fits     its given edges stand where the cursor says
+--     case-next, case-inside, case-fits        and so do its cases
 --     flow-is, flow-most, first-is, second-is          its flow under the policy, and its two slots
 --     flow-edges, given-edges              what the instruction at p gives by its flow, and where edges are given
 --     switch-count, two-count, slot-count-is     how many transfers it has, as the code counts them
@@ -87,14 +88,20 @@ module _ (m : Image) (h : Sourced m) (c : Cursor) (at : c ≡ cursorAt m (c .at)
     given-next k hk =
         ap (λ (x : Cursor). getD (m .edges) (x .edge + k) (edgeFrom [] 0)) at ∙ sym (edge-is m h (c .at) here e k hk)
 
+    pub given-inside : c .edge + length (givenAt m (c .at)) ≤ length (m .edges)
+    given-inside = omega (arith, ap (λ (x : Cursor). x .edge) at, edges-within m h (c .at) here e)
+
     pub given-fits : c .edge + length (givenAt m (c .at)) ≤ 512
-    given-fits = omega (arith, ap (λ (x : Cursor). x .edge) at, edges-within m h (c .at) here e, h .accepted .edges-most)
+    given-fits = omega (arith, given-inside, h .accepted .edges-most)
 
   pub case-next : (k : ℕ) → k < instructionAt m (c .at) .cases → getD (m .cases) (c .case + k) (caseFrom [] 0) ≡ getD (casesAt m (c .at)) k (caseFrom [] 0)
   case-next k hk = ap (λ (x : Cursor). getD (m .cases) (x .case + k) (caseFrom [] 0)) at ∙ sym (case-is m h (c .at) here k hk)
 
+  pub case-inside : c .case + instructionAt m (c .at) .cases ≤ length (m .cases)
+  case-inside = omega (arith, ap (λ (x : Cursor). x .case) at, cases-within m h (c .at) here)
+
   pub case-fits : c .case + instructionAt m (c .at) .cases ≤ 512
-  case-fits = omega (arith, ap (λ (x : Cursor). x .case) at, cases-within m h (c .at) here, h .accepted .cases-most)
+  case-fits = omega (arith, case-inside, h .accepted .cases-most)
 
 module _ (m : Image) (p : ℕ) where
   module _ (e : isGiven m p ≡ true) where

@@ -3,7 +3,7 @@
 --     flow-none                    it does not
 --     lead-marks                   the start at an end is the next one, or a gap's
 --     visits-all                   all instructions
---     given-fits, flow-fits        its given edges and its cases stand within the limits
+--     given-inside, flow-inside    its given edges and its cases stand among all
 --     under-most, switch-most      a flow under the policy, and the cases of a Switch
 --     names-are                    the first slot and the cases, by their numbers
 -- Assumes nothing.
@@ -171,13 +171,13 @@ pub visits-all : {n : ℕ} {l r : List Bool} (m : Image) (k : ℕ) → k ≡ siz
 visits-all m k all n a = mark-as (instructionMark m) (λ p hp. rw all (visits-are m p (rw (← n) hp))) a
 
 module _ (m : Image) (h : Sourced m) (c : Cursor) (here : c ≡ cursorAt m (c .at)) (within : c .at < size m) where
-  pub given-fits : (k : ℕ) → givenFor m (c .at) ≡ Edges k → c .edge + k ≤ 512
-  given-fits k leads =
+  pub given-inside : (k : ℕ) → givenFor m (c .at) ≡ Edges k → c .edge + k ≤ length (m .edges)
+  given-inside k leads =
       let g = leads-edges m (c .at) k leads in
-      omega (arith, ap (λ (x : Cursor). x .edge) here, g .1, edges-within m h (c .at) within (g .0), h .accepted .edges-most)
+      omega (arith, ap (λ (x : Cursor). x .edge) here, g .1, edges-within m h (c .at) within (g .0))
 
-  pub flow-fits : (i : Instruction) → i ≡ instructionAt m (c .at) → c .case + i .cases ≤ 512
-  flow-fits i is = rw is (omega (arith, ap (λ (x : Cursor). x .case) here, cases-within m h (c .at) within, h .accepted .cases-most))
+  pub flow-inside : (i : Instruction) → i ≡ instructionAt m (c .at) → c .case + i .cases ≤ length (m .cases)
+  flow-inside i is = rw is (omega (arith, ap (λ (x : Cursor). x .case) here, cases-within m h (c .at) within))
 
   pub given-marks : {n : ℕ} {l r t : List Bool} (k : ℕ) → givenFor m (c .at) ≡ Edges k → Marked n (edgeMark m (c .edge) k) l r → Marked n (λ p. eqb p (c .at + 1)) r t → Marked n (leadMark m (c .at)) l t
   unfolding endsAt leadMark

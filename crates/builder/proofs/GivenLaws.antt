@@ -45,8 +45,8 @@ module _ (m : Image) (h : Sourced m) (p : ℕ) (hp : p < size m) (c : Cursor) (v
     given-edges : (isGiven m p ≡ true) × (length (givenAt m p) ≡ n)
     given-edges = leads-edges m p n (sym leads ∙ e)
 
-    pub visit-within : c .edge + n ≤ 512
-    visit-within = rw here (omega (arith, edges-within m h p hp (given-edges .0), given-edges .1, h .accepted .edges-most))
+    pub visit-within : c .edge + n ≤ length (m .edges)
+    visit-within = rw here (omega (arith, edges-within m h p hp (given-edges .0), given-edges .1))
 
     pub visit-edges : checks (λ k. targetCheck (tableOf m) (v .instruction .address) (getD (m .edges) (c .edge + k) (edgeFrom [] 0))) n ≡ givenCheck m p
     unfolding givenCheck

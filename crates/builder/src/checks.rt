@@ -12,7 +12,7 @@ use crate::transfer::is_call;
 use graph::error::AddressBuildError;
 use graph::error::Checked;
 use graph::found::Found;
-use image::access::edge_at;
+use image::access::edge_in;
 use image::access::instruction_in;
 use image::access::source_in;
 use image::record::Instruction;
@@ -170,13 +170,13 @@ fn check_targets(
     edge: usize,
     n: usize,
 ) -> Checked
-    requires { ⌜ Rising (entriesOf (recordsIn instructionFrom (now s) (code .instructions))) × (edge + n ≤ 512) × Holds (now s) (code .instructions) 31 × Holds (now s) (code .edges) 13 ⌝ }
+    requires { ⌜ Rising (entriesOf (recordsIn instructionFrom (now s) (code .instructions))) × (edge + n ≤ 512) × Holds (now s) (code .instructions) 31 × Holds (now s) (code .edges) 13 × (edge + n ≤ code .edges .count) ⌝ }
     ensures { λ r. ⌜ checkOf r ≡ checks (λ k. targetCheck (entriesOf (recordsIn instructionFrom (now (s .entry)) (code .instructions))) source (getD (recordsIn edgeFrom (now (s .entry)) (code .edges)) (edge + k) (edgeFrom [] 0))) n ⌝ }
 {
     for k in 0..n {
         let table = code.instructions;
         let edges = code.edges;
-        let target = edge_at(s, edges, edge + k).target;
+        let target = edge_in(s, edges, edge + k).target;
         let Found::At(_) = find(s, table, hints, target) else {
             return Checked::Refused(AddressBuildError::MissingGivenTarget { source, target });
         };

@@ -19,7 +19,7 @@ use graph::error::AddressBuildError;
 use graph::error::Checked;
 use graph::found::Found;
 use graph::store::edges::EDGE_MOST;
-use image::access::case_at;
+use image::access::case_in;
 use image::access::instruction_in;
 use image::record::Instruction;
 use image::section::Layout;
@@ -188,12 +188,12 @@ fn transfer_count(s: &[u8], y: Layout, hints: &[u16], c: Cursor, i: Instruction)
 
 // How many of the n cases from `first` on are resolved.
 fn case_count(s: &[u8], y: Layout, hints: &[u16], first: usize, n: usize) -> usize
-    requires { ⌜ Rising (tableOf (imageIn (now s) y)) × (first + n ≤ 512) × ImageThere (now s) y ⌝ }
+    requires { ⌜ Rising (tableOf (imageIn (now s) y)) × (first + n ≤ 512) × ImageThere (now s) y × (first + n ≤ y .code .cases .count) ⌝ }
     ensures { λ r. ⌜ r ≡ count (λ k. resolved (imageIn (now (s .entry)) y) (caseTransfer (getD (imageIn (now (s .entry)) y .cases) (first + k) (caseFrom [] 0)) k)) n ⌝ }
 {
     let mut edges: usize = 0;
     for k in 0..n {
-        let case = case_at(s, y.code.cases, first + k);
+        let case = case_in(s, y.code.cases, first + k);
         edges += resolves(s, y, hints, case_transfer(case, k));
     }
     edges

@@ -23,8 +23,8 @@ use graph::record::UnresolvedTransfer;
 use graph::store::Words;
 use graph::store::edges::add_edge;
 use graph::store::unresolved::add_unresolved;
-use image::access::case_at;
-use image::access::edge_at;
+use image::access::case_in;
+use image::access::edge_in;
 use image::access::instruction_in;
 use image::record::Instruction;
 use image::section::Layout;
@@ -152,12 +152,12 @@ fn add_given_edges(
 // Given edge e, of the instruction at p. Its target starts an instruction (8).
 fn add_given(g: &mut Words, s: &[u8], y: Layout, hints: &[u16], blocks: &[u16], p: usize, e: usize)
     requires { ⌜ Emitting (imageIn (now s) y) (now blocks) ⌝ }
-    requires { ⌜ (p < size (imageIn (now s) y)) × (isStart (tableOf (imageIn (now s) y)) (getD (imageIn (now s) y .edges) e (edgeFrom [] 0) .target) ≡ true) × ImageThere (now s) y ⌝ }
+    requires { ⌜ (p < size (imageIn (now s) y)) × (isStart (tableOf (imageIn (now s) y)) (getD (imageIn (now s) y .edges) e (edgeFrom [] 0) .target) ≡ true) × ImageThere (now s) y × (e < y .code .edges .count) ⌝ }
     ensures { λ _. ⌜ Added (now (g .entry)) (now (g .exit)) (givenEdge (imageIn (now (s .entry)) y) p (getD (imageIn (now (s .entry)) y .edges) e (edgeFrom [] 0)) ∷ []) [] [] ⌝ }
 {
     let table = y.code.instructions;
     let edges = y.code.edges;
-    let edge = edge_at(s, edges, e);
+    let edge = edge_in(s, edges, e);
     let target = edge.target;
     let Found::At(to) = find(s, table, hints, target) else {
         return;
@@ -228,7 +228,7 @@ fn transfer_of(
     if flow == SWITCH {
         let cases = y.code.cases;
         let behind = k - 1;
-        let case = case_at(s, cases, c.case + behind);
+        let case = case_in(s, cases, c.case + behind);
         return case_transfer(case, behind);
     }
     slot_transfer(i, slots.1)

@@ -1,7 +1,7 @@
 -- Bytes that are copied, with zeros past the end, say the same numbers.
 --     Same, same-none, same-more, same-all      the first k bytes are copied
 --     moved1, moved4, moved8                    the numbers that it says
---     moved-case, ..                            the records that it says
+--     moved-step                                the step that it says
 -- Assumes nothing.
 use mathlib.Core.Path.{_≡_, refl, sym, ap, _∙_}
 use mathlib.Core.List.{List}
@@ -13,7 +13,7 @@ use lib.ListN.{length, set, replicate, length-set, getD-replicate}
 use lib.Seq.{getD-set-same, getD-set-other}
 use Rattle.image.proofs.Past.{past1}
 use Rattle.image.specs.Little.{le1, le4, le8}
-use Rattle.image.specs.Record.{caseFrom, edgeFrom, handlerFrom, stepFrom}
+use Rattle.image.specs.Record.{stepFrom}
 
 -- the first k bytes of b are those of l from `at` on, and all others are 0
 pub record Same (b l : List ℕ) (at k : ℕ) : Type 0 where
@@ -60,15 +60,6 @@ module _ (b l : List ℕ) (at : ℕ) (same : (k : ℕ) → k < 31 → le1 b k �
 
   pub moved8 : (k j : ℕ) → k + 8 ≤ 31 → at + k ≡ j → le8 b k ≡ le8 l j
   moved8 k j h e = omega (arith, moved4 k j (omega arith) e, moved4 (k + 4) (j + 4) (omega arith) (omega (arith, e)))
-
-  pub moved-case : caseFrom b 0 ≡ caseFrom l at
-  moved-case = rw (moved4 0 at (omega arith) (omega arith), moved8 4 (at + 4) (omega arith) (omega arith))
-
-  pub moved-edge : edgeFrom b 0 ≡ edgeFrom l at
-  moved-edge = rw (moved8 0 at (omega arith) (omega arith), moved1 8 (at + 8) (omega arith) (omega arith), moved4 9 (at + 9) (omega arith) (omega arith))
-
-  pub moved-handler : handlerFrom b 0 ≡ handlerFrom l at
-  moved-handler = rw (moved8 0 at (omega arith) (omega arith), moved8 8 (at + 8) (omega arith) (omega arith), moved8 16 (at + 16) (omega arith) (omega arith), moved1 24 (at + 24) (omega arith) (omega arith), moved4 25 (at + 25) (omega arith) (omega arith))
 
   pub moved-step : stepFrom b 0 ≡ stepFrom l at
   moved-step = rw (moved1 0 at (omega arith) (omega arith), moved8 1 (at + 1) (omega arith) (omega arith))

@@ -22,49 +22,6 @@ ghost use Rattle.image.specs.Record.{instructionFrom, caseFrom, sourceFr
 ghost use Rattle.image.specs.Image.{recordsIn};
 ghost use Rattle.image.specs.There.{Holds};
 
-pub fn case_at(s: &[u8], y: Section, i: usize) -> Case
-    ensures { λ r. ⌜ r ≡ getD (recordsIn caseFrom (now (s .entry)) y) i (caseFrom [] 0) ⌝ }
-{
-    let count = y.count as usize;
-    if i < count {
-        case_from(s, place(y, i))
-    } else {
-        Case { key: 0, target: 0 }
-    }
-}
-
-pub fn edge_at(s: &[u8], y: Section, i: usize) -> GivenEdge
-    ensures { λ r. ⌜ r ≡ getD (recordsIn edgeFrom (now (s .entry)) y) i (edgeFrom [] 0) ⌝ }
-{
-    let count = y.count as usize;
-    if i < count {
-        edge_from(s, place(y, i))
-    } else {
-        GivenEdge {
-            target: 0,
-            kind: 0,
-            payload: 0,
-        }
-    }
-}
-
-pub fn handler_at(s: &[u8], y: Section, i: usize) -> Handler
-    ensures { λ r. ⌜ r ≡ getD (recordsIn handlerFrom (now (s .entry)) y) i (handlerFrom [] 0) ⌝ }
-{
-    let count = y.count as usize;
-    if i < count {
-        handler_from(s, place(y, i))
-    } else {
-        Handler {
-            start: 0,
-            end: 0,
-            entry: 0,
-            kind: 0,
-            filter: 0,
-        }
-    }
-}
-
 pub fn step_at(s: &[u8], y: Section, i: usize) -> Step
     ensures { λ r. ⌜ r ≡ getD (recordsIn stepFrom (now (s .entry)) y) i (stepFrom [] 0) ⌝ }
 {
@@ -88,6 +45,20 @@ pub fn source_in(s: &[u8], y: Section, i: usize) -> GivenSource
     ensures { λ r. ⌜ r ≡ getD (recordsIn sourceFrom (now (s .entry)) y) i (sourceFrom [] 0) ⌝ }
 {
     source_there(s, place(y, i))
+}
+
+pub fn case_in(s: &[u8], y: Section, i: usize) -> Case
+    requires { ⌜ Holds (now s) y 12 × (i < y .count) ⌝ }
+    ensures { λ r. ⌜ r ≡ getD (recordsIn caseFrom (now (s .entry)) y) i (caseFrom [] 0) ⌝ }
+{
+    case_there(s, place(y, i))
+}
+
+pub fn edge_in(s: &[u8], y: Section, i: usize) -> GivenEdge
+    requires { ⌜ Holds (now s) y 13 × (i < y .count) ⌝ }
+    ensures { λ r. ⌜ r ≡ getD (recordsIn edgeFrom (now (s .entry)) y) i (edgeFrom [] 0) ⌝ }
+{
+    edge_there(s, place(y, i))
 }
 
 pub fn handler_in(s: &[u8], y: Section, i: usize) -> Handler
@@ -136,17 +107,6 @@ fn instruction_there(s: &[u8], at: usize) -> Instruction
     }
 }
 
-fn case_from(s: &[u8], at: usize) -> Case
-    requires { ⌜ at ≤ 18446744069414584320 ⌝ }
-    ensures { λ r. ⌜ r ≡ caseFrom (now (s .entry)) at ⌝ }
-{
-    if s.len() < at + 12 {
-        case_there(&padded(s, at), 0)
-    } else {
-        case_there(s, at)
-    }
-}
-
 fn case_there(s: &[u8], at: usize) -> Case
     requires { ⌜ at + 12 ≤ length (now s) ⌝ }
     ensures { λ r. ⌜ r ≡ caseFrom (now (s .entry)) at ⌝ }
@@ -167,17 +127,6 @@ fn source_there(s: &[u8], at: usize) -> GivenSource
     }
 }
 
-fn edge_from(s: &[u8], at: usize) -> GivenEdge
-    requires { ⌜ at ≤ 18446744069414584320 ⌝ }
-    ensures { λ r. ⌜ r ≡ edgeFrom (now (s .entry)) at ⌝ }
-{
-    if s.len() < at + 13 {
-        edge_there(&padded(s, at), 0)
-    } else {
-        edge_there(s, at)
-    }
-}
-
 fn edge_there(s: &[u8], at: usize) -> GivenEdge
     requires { ⌜ at + 13 ≤ length (now s) ⌝ }
     ensures { λ r. ⌜ r ≡ edgeFrom (now (s .entry)) at ⌝ }
@@ -186,17 +135,6 @@ fn edge_there(s: &[u8], at: usize) -> GivenEdge
         target: octet(s, at),
         kind: byte_in(s, at + 8),
         payload: quad(s, at + 9),
-    }
-}
-
-fn handler_from(s: &[u8], at: usize) -> Handler
-    requires { ⌜ at ≤ 18446744069414584320 ⌝ }
-    ensures { λ r. ⌜ r ≡ handlerFrom (now (s .entry)) at ⌝ }
-{
-    if s.len() < at + 29 {
-        handler_there(&padded(s, at), 0)
-    } else {
-        handler_there(s, at)
     }
 }
 

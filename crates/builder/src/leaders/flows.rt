@@ -8,8 +8,8 @@ use crate::transfer::Slot;
 use crate::transfer::ends_block;
 use crate::transfer::flow_under;
 use crate::transfer::slots_of;
-use image::access::case_at;
-use image::access::edge_at;
+use image::access::case_in;
+use image::access::edge_in;
 use image::record::Instruction;
 use image::section::Layout;
 ghost use mathlib.Core.Path.{_≡_};
@@ -75,7 +75,7 @@ fn mark_names(
     first: usize,
     i: Instruction,
 )
-    requires { ⌜ Passed (imageIn (now s) y) × (i .flow ≤ 12) × (first + i .cases ≤ 512) × ImageThere (now s) y ⌝ }
+    requires { ⌜ Passed (imageIn (now s) y) × (i .flow ≤ 12) × (first + i .cases ≤ 512) × ImageThere (now s) y × (first + i .cases ≤ y .code .cases .count) ⌝ }
     ensures { λ _. ⌜ Marked (y .code .instructions .count) (namesMark (imageIn (now (s .entry)) y) first i) (now (marks .entry)) (now (marks .exit)) ⌝ }
 {
     let header = y.header;
@@ -113,7 +113,7 @@ fn mark_slot(
 }
 
 fn mark_cases(marks: &mut [bool; 512], s: &[u8], y: Layout, hints: &[u16], first: usize, n: usize)
-    requires { ⌜ Passed (imageIn (now s) y) × (first + n ≤ 512) × ImageThere (now s) y ⌝ }
+    requires { ⌜ Passed (imageIn (now s) y) × (first + n ≤ 512) × ImageThere (now s) y × (first + n ≤ y .code .cases .count) ⌝ }
     ensures { λ _. ⌜ Marked (y .code .instructions .count) (caseMark (imageIn (now (s .entry)) y) first n) (now (marks .entry)) (now (marks .exit)) ⌝ }
 {
     for k in 0..n {
@@ -122,17 +122,17 @@ fn mark_cases(marks: &mut [bool; 512], s: &[u8], y: Layout, hints: &[u16], first
 }
 
 fn mark_case(marks: &mut [bool; 512], s: &[u8], y: Layout, hints: &[u16], k: usize)
-    requires { ⌜ Passed (imageIn (now s) y) × ImageThere (now s) y ⌝ }
+    requires { ⌜ Passed (imageIn (now s) y) × ImageThere (now s) y × (k < y .code .cases .count) ⌝ }
     ensures { λ _. ⌜ Marked (y .code .instructions .count) (caseTarget (imageIn (now (s .entry)) y) k) (now (marks .entry)) (now (marks .exit)) ⌝ }
 {
     let table = y.code.instructions;
     let cases = y.code.cases;
-    let case = case_at(s, cases, k);
+    let case = case_in(s, cases, k);
     mark_target(marks, s, table, hints, case.target);
 }
 
 fn mark_edges(marks: &mut [bool; 512], s: &[u8], y: Layout, hints: &[u16], first: usize, n: usize)
-    requires { ⌜ Passed (imageIn (now s) y) × (first + n ≤ 512) × ImageThere (now s) y ⌝ }
+    requires { ⌜ Passed (imageIn (now s) y) × (first + n ≤ 512) × ImageThere (now s) y × (first + n ≤ y .code .edges .count) ⌝ }
     ensures { λ _. ⌜ Marked (y .code .instructions .count) (edgeMark (imageIn (now (s .entry)) y) first n) (now (marks .entry)) (now (marks .exit)) ⌝ }
 {
     for k in 0..n {
@@ -141,11 +141,11 @@ fn mark_edges(marks: &mut [bool; 512], s: &[u8], y: Layout, hints: &[u16], first
 }
 
 fn mark_edge(marks: &mut [bool; 512], s: &[u8], y: Layout, hints: &[u16], k: usize)
-    requires { ⌜ Passed (imageIn (now s) y) × ImageThere (now s) y ⌝ }
+    requires { ⌜ Passed (imageIn (now s) y) × ImageThere (now s) y × (k < y .code .edges .count) ⌝ }
     ensures { λ _. ⌜ Marked (y .code .instructions .count) (edgeTarget (imageIn (now (s .entry)) y) k) (now (marks .entry)) (now (marks .exit)) ⌝ }
 {
     let table = y.code.instructions;
     let edges = y.code.edges;
-    let edge = edge_at(s, edges, k);
+    let edge = edge_in(s, edges, k);
     mark_target(marks, s, table, hints, edge.target);
 }

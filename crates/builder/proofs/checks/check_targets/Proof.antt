@@ -31,11 +31,11 @@ loop-holds : tie.Need-loop-holds Inv-loop μ-loop
 unfolding checks
 loop-holds c = (search needs, refl)
 
-add-edge-at : tie.Need-add-edge-at Inv-loop μ-loop
-add-edge-at c = search needs
+add-edge-in : tie.Need-add-edge-in Inv-loop μ-loop
+add-edge-in c = search needs
 
-edge-at-requires : tie.Need-edge-at-requires Inv-loop μ-loop
-edge-at-requires c κs = search needs
+edge-in-requires : tie.Need-edge-in-requires Inv-loop μ-loop
+edge-in-requires c κs = search needs
 
 find-requires : tie.Need-find-requires Inv-loop μ-loop
 find-requires c κs = (c .before .before .before .before .before .before .before .pre .0, search needs)
@@ -51,7 +51,7 @@ returns c =
     let top = c .before .before .before .before .before .before .before .loop in
     let a = c .before .before .before .before .before .before .before .before .before .before .args in
     let none = rw (c .enum-told2 .given .1) at (c .before .before .find .ensures) in
-    let read = c .before .before .before .edge-at .ensures in
+    let read = c .before .before .before .edge-in .ensures in
     sym (checks-stop (target (a .s .now) (a .code) (a .source) (a .edge)) (top .k) (a .n) _ (search needs) (top .inv .1) (rw (← read, none)))
 
 add-k : tie.Need-add-k Inv-loop μ-loop
@@ -65,7 +65,7 @@ loop-again c =
     let top = c .before .before .before .before .before .before .before .loop in
     let a = c .before .before .before .before .before .before .before .before .before .before .args in
     let starts = rw (c .enum-told .given .1) at (c .before .before .find .ensures) in
-    let read = c .before .before .before .edge-at .ensures in
+    let read = c .before .before .before .edge-in .ensures in
     (search needs, checks-more (target (a .s .now) (a .code) (a .source) (a .edge)) (top .k) (top .inv .1) ∙ rw (← read, starts .0))
 
 returns-2 : tie.Need-returns-2 Inv-loop μ-loop
@@ -81,8 +81,8 @@ check-targets-spec =
     Inv-loop
     μ-loop
     loop-holds
-    add-edge-at
-    edge-at-requires
+    add-edge-in
+    edge-in-requires
     find-requires
     enum-told
     enum-told-2

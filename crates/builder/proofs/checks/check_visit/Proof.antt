@@ -1,11 +1,12 @@
 -- What is given decides which of the two checks is made. Assumes nothing.
 use mathlib.Core.Path.{_∙_}
 use Prim.Native.Nat.{_<_}
-use Rattle.image.specs.Record.{instructionFrom}
+use Rattle.image.specs.Record.{instructionFrom, edgeFrom}
 use Rattle.image.specs.Image.{imageIn}
 use Rattle.image.proofs.Tables.{length-records}
 use Rattle.graph.specs.Transfer.{size}
 use Rattle.builder.proofs.GivenLaws.{visit-within, visit-edges, visit-flow}
+use native.Mathlib.Omega.{arith}
 use borrow.Author.Needs.{needs}
 use Rattle.builder.proofs.checks.check_visit.Statement.{statement}
 use Rattle.builder.proofs.checks.check_visit.Tie as tie
@@ -20,7 +21,9 @@ check-targets-requires c κs =
     let p = start .pre in
     let m = imageIn (a .s .now) (a .y) in
     let inside : a .c .at < size m = rw (length-records instructionFrom (a .s .now) (a .y .code .instructions)) (p .1 .1) in
-    (p .0 .0 .rising, visit-within m (p .0 .0) (a .c .at) inside (a .c) (a .visit) (p .1 .0) (p .1 .2) _ (c .before .given .given .1), search needs, search needs)
+    let within = visit-within m (p .0 .0) (a .c .at) inside (a .c) (a .visit) (p .1 .0) (p .1 .2) _ (c .before .given .given .1) in
+    let all = length-records edgeFrom (a .s .now) (a .y .code .edges) in
+    (p .0 .0 .rising, omega (arith, within, p .0 .0 .accepted .edges-most), search needs, search needs, omega (arith, within, all))
 
 enum-told : tie.Need-enum-told
 enum-told c = search needs

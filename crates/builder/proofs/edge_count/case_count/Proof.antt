@@ -42,7 +42,7 @@ loop-again c =
     let a = c .before .before .before .before .before .before .before .args in
     let m = imageIn (a .s .now) (a .y) in
     let top = c .before .before .before .before .loop in
-    let is = c .before .case-transfer .ensures ∙ ap (λ (x : Case). caseTransfer x (top .k)) (c .before .before .case-at .ensures) in
+    let is = c .before .case-transfer .ensures ∙ ap (λ (x : Case). caseTransfer x (top .k)) (c .before .before .case-in .ensures) in
     let now = c .resolves .ensures ∙ ap (λ (x : Transfer). word (resolved m x)) is in
     (search needs, omega (arith, now, top .inv .1, count-next (λ i. resolved m (caseTransfer (getD (m .cases) (a .first + i) (caseFrom [] 0)) i)) (top .k)))
 

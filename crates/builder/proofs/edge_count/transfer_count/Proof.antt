@@ -6,11 +6,12 @@ use lib.ListN.{getD}
 use Rattle.image.specs.Record.{caseFrom}
 use Rattle.image.specs.Image.{imageIn}
 use Rattle.image.specs.declared.record.Instruction.{Instruction}
+use Rattle.image.proofs.Tables.{length-records}
 use Rattle.graph.specs.Transfer.{word, Transfer, caseTransfer}
 use Rattle.graph.specs.Edges.{resolved}
 use Rattle.graph.proofs.FoldLaws.{count-le}
 use Rattle.builder.specs.Slots.{transferIn}
-use Rattle.builder.proofs.EdgeLaws.{case-fits, flow-is, flow-most, first-is, second-is}
+use Rattle.builder.proofs.EdgeLaws.{case-inside, case-fits, flow-is, flow-most, first-is, second-is}
 use Rattle.builder.proofs.CountLaws.{word-most, switch-count, two-count}
 use native.Mathlib.Omega.{arith}
 use borrow.Author.Needs.{needs}
@@ -28,7 +29,9 @@ case-count-requires c κs =
     let start = c .before .before .before .before .before .before .before in
     let a = start .args in
     let m = imageIn (a .s .now) (a .y) in
-    (start .pre .0 .rising, omega (arith, case-fits m (start .pre .0) (a .c) (start .pre .1) (start .pre .2), ap (λ (x : Instruction). x .cases) (start .pre .3)), search needs)
+    let inside = case-inside m (start .pre .0) (a .c) (start .pre .1) (start .pre .2) in
+    let cases = ap (λ (x : Instruction). x .cases) (start .pre .3) in
+    (start .pre .0 .rising, omega (arith, inside, cases, start .pre .0 .accepted .cases-most), search needs, omega (arith, inside, cases, length-records caseFrom (a .s .now) (a .y .code .cases)))
 
 add-result : tie.Need-add-result
 add-result c =

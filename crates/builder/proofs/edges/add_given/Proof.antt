@@ -17,7 +17,7 @@ returns : tie.Need-returns
 returns c =
     let a = c .before .before .before .before .before .before .before .before .before .args in
     let t = tableOf (imageIn (a .s .now) (a .y)) in
-    absurd (false≢true (sym (rw (c .enum-told .given .1) at (c .before .before .find .ensures)) ∙ ap (λ (x : GivenEdge). isStart t (x .target)) (c .before .before .before .edge-at .ensures) ∙ c .before .before .before .before .before .before .before .before .before .pre .1 .1))
+    absurd (false≢true (sym (rw (c .enum-told .given .1) at (c .before .before .find .ensures)) ∙ ap (λ (x : GivenEdge). isStart t (x .target)) (c .before .before .before .edge-in .ensures) ∙ c .before .before .before .before .before .before .before .before .before .pre .1 .1))
 
 block-of-requires-2 : tie.Need-block-of-requires-2
 block-of-requires-2 c κs =
@@ -30,7 +30,7 @@ returns-2 c =
     let a = start .args in
     let m = imageIn (a .s .now) (a .y) in
     let r = rw (c .before .before .before .before .before .to .given .1) at (c .before .before .before .before .before .before .before .find .ensures) in
-    rw (← c .before .before .before .before .before .before .before .before .edge-at .ensures, given-found m (a .blocks .now) (start .pre .0) (a .p) (start .pre .1 .0) (c .before .before .before .before .before .before .before .before .edge-at .result) _ _ _ r (c .before .before .before .block-of .ensures) (c .before .before .block-of2 .ensures))
+    rw (← c .before .before .before .before .before .before .before .before .edge-in .ensures, given-found m (a .blocks .now) (start .pre .0) (a .p) (start .pre .1 .0) (c .before .before .before .before .before .before .before .before .edge-in .result) _ _ _ r (c .before .before .before .block-of .ensures) (c .before .before .block-of2 .ensures))
     (edge-added _ (c .add-edge .ensures))
 
 pub add-given-spec : {M : Type 1} → statement M

@@ -3,14 +3,16 @@ use mathlib.Core.Path.{_≡_}
 use mathlib.Core.List.{[], _∷_}
 use Prim.Native.Nat.{_-_, _<_, _≤_}
 use lib.ListN.{length}
+use Rattle.image.specs.Record.{edgeFrom}
 use Rattle.image.specs.Image.{imageIn}
+use Rattle.image.proofs.Tables.{length-records}
 use Rattle.graph.specs.Fold.{flat}
 use Rattle.graph.specs.Transfer.{givenAt, given}
 use Rattle.graph.specs.Edges.{givenEdge}
 use Rattle.graph.specs.Adding.{Added}
 use Rattle.graph.proofs.AddingLaws.{added-none, edges-more}
 use Rattle.graph.proofs.BuiltChecks.{given-starts}
-use Rattle.builder.proofs.EdgeLaws.{given-next, given-fits, given-edges}
+use Rattle.builder.proofs.EdgeLaws.{given-next, given-inside, given-fits, given-edges}
 use native.Mathlib.Omega.{arith}
 use borrow.Author.Needs.{needs}
 use Rattle.builder.proofs.edges.add_given_edges.Statement.{statement}
@@ -44,6 +46,7 @@ add-given-requires c κs =
         rw (given-next m (start .pre .0 .sourced) (a .c) (start .pre .1 .0 .0) (start .pre .1 .0 .1) (start .pre .1 .1 .0) k h)
             (given-starts m (start .pre .0 .given) (a .c .at) (start .pre .1 .0 .1) (start .pre .1 .1 .0) k h),
         search needs,
+        omega (arith, h, given-inside m (start .pre .0 .sourced) (a .c) (start .pre .1 .0 .0) (start .pre .1 .0 .1) (start .pre .1 .1 .0), length-records edgeFrom (a .s .now) (a .y .code .edges)),
       ),
     )
 

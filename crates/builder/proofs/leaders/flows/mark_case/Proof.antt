@@ -10,8 +10,8 @@ use borrow.Author.Needs.{needs}
 use Rattle.builder.proofs.leaders.flows.mark_case.Statement.{statement}
 use Rattle.builder.proofs.leaders.flows.mark_case.Tie as tie
 
-case-at-requires : tie.Need-case-at-requires
-case-at-requires c κs = search needs
+case-in-requires : tie.Need-case-in-requires
+case-in-requires c κs = search needs
 
 mark-target-requires : tie.Need-mark-target-requires
 mark-target-requires c κs = let start = c .before .before .before .before .before .before in ((start .pre .0 .sourced .rising, search needs), few _ _ (start .pre .0))
@@ -20,7 +20,7 @@ returns : tie.Need-returns
 returns c =
     let a = c .before .before .before .before .before .before .before .args in
     let m = imageIn (a .s .now) (a .y) in
-    mark-as (caseTarget m (a .k)) (λ p h. ap (λ (x : Case). eqb (x .target) (addressAt m p)) (c .before .before .case-at .ensures)) (mark-lead m _ (c .mark-target .ensures))
+    mark-as (caseTarget m (a .k)) (λ p h. ap (λ (x : Case). eqb (x .target) (addressAt m p)) (c .before .before .case-in .ensures)) (mark-lead m _ (c .mark-target .ensures))
 
 pub mark-case-spec : {M : Type 1} → statement M
-mark-case-spec = tie.close (tie.spec case-at-requires mark-target-requires returns)
+mark-case-spec = tie.close (tie.spec case-in-requires mark-target-requires returns)

@@ -10,8 +10,8 @@ use borrow.Author.Needs.{needs}
 use Rattle.builder.proofs.leaders.flows.mark_edge.Statement.{statement}
 use Rattle.builder.proofs.leaders.flows.mark_edge.Tie as tie
 
-edge-at-requires : tie.Need-edge-at-requires
-edge-at-requires c κs = search needs
+edge-in-requires : tie.Need-edge-in-requires
+edge-in-requires c κs = search needs
 
 mark-target-requires : tie.Need-mark-target-requires
 mark-target-requires c κs = let start = c .before .before .before .before .before .before in ((start .pre .0 .sourced .rising, search needs), few _ _ (start .pre .0))
@@ -20,7 +20,7 @@ returns : tie.Need-returns
 returns c =
     let a = c .before .before .before .before .before .before .before .args in
     let m = imageIn (a .s .now) (a .y) in
-    mark-as (edgeTarget m (a .k)) (λ p h. ap (λ (x : GivenEdge). eqb (x .target) (addressAt m p)) (c .before .before .edge-at .ensures)) (mark-lead m _ (c .mark-target .ensures))
+    mark-as (edgeTarget m (a .k)) (λ p h. ap (λ (x : GivenEdge). eqb (x .target) (addressAt m p)) (c .before .before .edge-in .ensures)) (mark-lead m _ (c .mark-target .ensures))
 
 pub mark-edge-spec : {M : Type 1} → statement M
-mark-edge-spec = tie.close (tie.spec edge-at-requires mark-target-requires returns)
+mark-edge-spec = tie.close (tie.spec edge-in-requires mark-target-requires returns)

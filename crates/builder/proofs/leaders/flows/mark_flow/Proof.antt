@@ -1,10 +1,12 @@
 -- Where the flow ends its block, its targets and then the next instruction. Assumes nothing.
 use mathlib.Core.Path.{sym, ap, _∙_}
+use Rattle.image.specs.Record.{caseFrom}
 use Rattle.image.specs.declared.record.Instruction.{Instruction}
 use Rattle.image.specs.Image.{imageIn}
+use Rattle.image.proofs.Tables.{length-records}
 use Rattle.graph.specs.Transfer.{instructionAt}
 use Rattle.builder.proofs.MarkLaws.{few, inside, mark-within}
-use Rattle.builder.proofs.FlowLaws.{flow-fits, flow-marks, flow-none}
+use Rattle.builder.proofs.FlowLaws.{flow-inside, flow-marks, flow-none}
 use native.Mathlib.Omega.{arith}
 use borrow.Author.Needs.{needs}
 use Rattle.builder.proofs.leaders.flows.mark_flow.Statement.{statement}
@@ -17,11 +19,14 @@ mark-names-requires : tie.Need-mark-names-requires
 unfolding instructionAt
 mark-names-requires c κs =
     let start = c .before .before .before .before .before .before in
-    let at = start .args .c .at in (
+    let a = start .args in
+    let at = a .c .at in
+    let among = flow-inside (imageIn (a .s .now) (a .y)) (start .pre .0 .sourced) (a .c) (start .pre .1) (inside (a .s .now) (a .y) _ (start .pre .2)) (a .i) (start .pre .4) in (
       start .pre .0,
       omega (arith, ap (λ (i : Instruction). i .flow) (start .pre .4), start .pre .0 .sourced .accepted .flows at),
-      flow-fits (imageIn _ _) (start .pre .0 .sourced) _ (start .pre .1) (inside (start .args .s .now) (start .args .y) _ (start .pre .2)) _ (start .pre .4),
+      omega (arith, among, start .pre .0 .sourced .accepted .cases-most),
       search needs,
+      omega (arith, among, length-records caseFrom (a .s .now) (a .y .code .cases)),
     )
 
 add-mark-at : tie.Need-add-mark-at

@@ -1,14 +1,20 @@
 -- Its given edges, then the next instruction. Assumes nothing.
+use Rattle.image.specs.Record.{edgeFrom}
 use Rattle.image.specs.Image.{imageIn}
+use Rattle.image.proofs.Tables.{length-records}
 use Rattle.builder.proofs.MarkLaws.{few, inside, mark-within}
-use Rattle.builder.proofs.FlowLaws.{given-fits, given-marks}
+use Rattle.builder.proofs.FlowLaws.{given-inside, given-marks}
 use native.Mathlib.Omega.{arith}
 use borrow.Author.Needs.{needs}
 use Rattle.builder.proofs.leaders.flows.mark_given.Statement.{statement}
 use Rattle.builder.proofs.leaders.flows.mark_given.Tie as tie
 
 mark-edges-requires : tie.Need-mark-edges-requires
-mark-edges-requires c κs = let start = c .before .before .before in (start .pre .0, given-fits (imageIn _ _) (start .pre .0 .sourced) _ (start .pre .1) (inside (start .args .s .now) (start .args .y) _ (start .pre .2)) _ (start .pre .3), search needs)
+mark-edges-requires c κs =
+    let start = c .before .before .before in
+    let a = start .args in
+    let among = given-inside (imageIn (a .s .now) (a .y)) (start .pre .0 .sourced) (a .c) (start .pre .1) (inside (a .s .now) (a .y) _ (start .pre .2)) (a .n) (start .pre .3) in
+    (start .pre .0, omega (arith, among, start .pre .0 .sourced .accepted .edges-most), search needs, omega (arith, among, length-records edgeFrom (a .s .now) (a .y .code .edges)))
 
 add-mark-at : tie.Need-add-mark-at
 add-mark-at c = let start = c .before .before .before .before .before in omega (arith, start .pre .2, few _ _ (start .pre .0))
