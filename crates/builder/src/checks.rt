@@ -170,7 +170,7 @@ fn check_targets(
     edge: usize,
     n: usize,
 ) -> Checked
-    requires { ⌜ Rising (entriesOf (recordsIn instructionFrom (now s) (code .instructions))) × (edge + n ≤ 512) × Holds (now s) (code .instructions) 31 × Holds (now s) (code .edges) 13 × (edge + n ≤ code .edges .count) ⌝ }
+    requires { ⌜ Rising (entriesOf (recordsIn instructionFrom (now s) (code .instructions))) × (edge + n ≤ code .edges .count) × Holds (now s) (code .instructions) 31 × Holds (now s) (code .edges) 13 ⌝ }
     ensures { λ r. ⌜ checkOf r ≡ checks (λ k. targetCheck (entriesOf (recordsIn instructionFrom (now (s .entry)) (code .instructions))) source (getD (recordsIn edgeFrom (now (s .entry)) (code .edges)) (edge + k) (edgeFrom [] 0))) n ⌝ }
 {
     for k in 0..n {

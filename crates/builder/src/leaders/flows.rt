@@ -75,7 +75,7 @@ fn mark_names(
     first: usize,
     i: Instruction,
 )
-    requires { ⌜ Passed (imageIn (now s) y) × (i .flow ≤ 12) × (first + i .cases ≤ 512) × ImageThere (now s) y × (first + i .cases ≤ y .code .cases .count) ⌝ }
+    requires { ⌜ Passed (imageIn (now s) y) × (i .flow ≤ 12) × (first + i .cases ≤ y .code .cases .count) × ImageThere (now s) y ⌝ }
     ensures { λ _. ⌜ Marked (y .code .instructions .count) (namesMark (imageIn (now (s .entry)) y) first i) (now (marks .entry)) (now (marks .exit)) ⌝ }
 {
     let header = y.header;
@@ -113,7 +113,7 @@ fn mark_slot(
 }
 
 fn mark_cases(marks: &mut [bool; 512], s: &[u8], y: Layout, hints: &[u16], first: usize, n: usize)
-    requires { ⌜ Passed (imageIn (now s) y) × (first + n ≤ 512) × ImageThere (now s) y × (first + n ≤ y .code .cases .count) ⌝ }
+    requires { ⌜ Passed (imageIn (now s) y) × (first + n ≤ y .code .cases .count) × ImageThere (now s) y ⌝ }
     ensures { λ _. ⌜ Marked (y .code .instructions .count) (caseMark (imageIn (now (s .entry)) y) first n) (now (marks .entry)) (now (marks .exit)) ⌝ }
 {
     for k in 0..n {
@@ -132,7 +132,7 @@ fn mark_case(marks: &mut [bool; 512], s: &[u8], y: Layout, hints: &[u16], k: usi
 }
 
 fn mark_edges(marks: &mut [bool; 512], s: &[u8], y: Layout, hints: &[u16], first: usize, n: usize)
-    requires { ⌜ Passed (imageIn (now s) y) × (first + n ≤ 512) × ImageThere (now s) y × (first + n ≤ y .code .edges .count) ⌝ }
+    requires { ⌜ Passed (imageIn (now s) y) × (first + n ≤ y .code .edges .count) × ImageThere (now s) y ⌝ }
     ensures { λ _. ⌜ Marked (y .code .instructions .count) (edgeMark (imageIn (now (s .entry)) y) first n) (now (marks .entry)) (now (marks .exit)) ⌝ }
 {
     for k in 0..n {

@@ -22,8 +22,7 @@ check-targets-requires c κs =
     let m = imageIn (a .s .now) (a .y) in
     let inside : a .c .at < size m = rw (length-records instructionFrom (a .s .now) (a .y .code .instructions)) (p .1 .1) in
     let within = visit-within m (p .0 .0) (a .c .at) inside (a .c) (a .visit) (p .1 .0) (p .1 .2) _ (c .before .given .given .1) in
-    let all = length-records edgeFrom (a .s .now) (a .y .code .edges) in
-    (p .0 .0 .rising, omega (arith, within, p .0 .0 .accepted .edges-most), search needs, search needs, omega (arith, within, all))
+    (p .0 .0 .rising, omega (arith, within, length-records edgeFrom (a .s .now) (a .y .code .edges)), search needs, search needs)
 
 enum-told : tie.Need-enum-told
 enum-told c = search needs

@@ -1,7 +1,9 @@
 -- The invariant: the marks of those before k. Assumes nothing.
 use mathlib.Core.Path.{_≡_}
 use Prim.Native.Nat.{_+_, _-_, _≤_}
+use Rattle.image.specs.Record.{caseFrom}
 use Rattle.image.specs.Image.{imageIn}
+use Rattle.image.proofs.Tables.{length-records}
 use Rattle.graph.specs.Fold.{some}
 use Rattle.builder.specs.Marks.{Marked, caseTarget, caseMark}
 use Rattle.builder.proofs.MarkLaws.{marks-none, marks-more}
@@ -21,7 +23,9 @@ loop-holds : tie.Need-loop-holds Inv-loop μ-loop
 loop-holds c = (search needs, marks-none (λ j p. caseTarget (imageIn _ _) (_ + j) p))
 
 add-mark-case : tie.Need-add-mark-case Inv-loop μ-loop
-add-mark-case c = omega (arith, c .before .before .before .before .before .pre .1)
+add-mark-case c =
+    let start = c .before .before .before .before .before in
+    omega (arith, start .pre .1, start .pre .0 .sourced .accepted .cases-most, length-records caseFrom (start .args .s .now) (start .args .y .code .cases))
 
 mark-case-requires : tie.Need-mark-case-requires Inv-loop μ-loop
 mark-case-requires c κs = search needs

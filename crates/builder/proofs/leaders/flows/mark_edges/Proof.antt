@@ -1,7 +1,9 @@
 -- The invariant: the marks of those before k. Assumes nothing.
 use mathlib.Core.Path.{_≡_}
 use Prim.Native.Nat.{_+_, _-_, _≤_}
+use Rattle.image.specs.Record.{edgeFrom}
 use Rattle.image.specs.Image.{imageIn}
+use Rattle.image.proofs.Tables.{length-records}
 use Rattle.graph.specs.Fold.{some}
 use Rattle.builder.specs.Marks.{Marked, edgeTarget, edgeMark}
 use Rattle.builder.proofs.MarkLaws.{marks-none, marks-more}
@@ -21,7 +23,9 @@ loop-holds : tie.Need-loop-holds Inv-loop μ-loop
 loop-holds c = (search needs, marks-none (λ j p. edgeTarget (imageIn _ _) (_ + j) p))
 
 add-mark-edge : tie.Need-add-mark-edge Inv-loop μ-loop
-add-mark-edge c = omega (arith, c .before .before .before .before .before .pre .1)
+add-mark-edge c =
+    let start = c .before .before .before .before .before in
+    omega (arith, start .pre .1, start .pre .0 .sourced .accepted .edges-most, length-records edgeFrom (start .args .s .now) (start .args .y .code .edges))
 
 mark-edge-requires : tie.Need-mark-edge-requires Inv-loop μ-loop
 mark-edge-requires c κs = search needs

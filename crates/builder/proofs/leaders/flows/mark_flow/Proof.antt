@@ -24,9 +24,8 @@ mark-names-requires c κs =
     let among = flow-inside (imageIn (a .s .now) (a .y)) (start .pre .0 .sourced) (a .c) (start .pre .1) (inside (a .s .now) (a .y) _ (start .pre .2)) (a .i) (start .pre .4) in (
       start .pre .0,
       omega (arith, ap (λ (i : Instruction). i .flow) (start .pre .4), start .pre .0 .sourced .accepted .flows at),
-      omega (arith, among, start .pre .0 .sourced .accepted .cases-most),
-      search needs,
       omega (arith, among, length-records caseFrom (a .s .now) (a .y .code .cases)),
+      search needs,
     )
 
 add-mark-at : tie.Need-add-mark-at

@@ -14,7 +14,7 @@ mark-edges-requires c κs =
     let start = c .before .before .before in
     let a = start .args in
     let among = given-inside (imageIn (a .s .now) (a .y)) (start .pre .0 .sourced) (a .c) (start .pre .1) (inside (a .s .now) (a .y) _ (start .pre .2)) (a .n) (start .pre .3) in
-    (start .pre .0, omega (arith, among, start .pre .0 .sourced .accepted .edges-most), search needs, omega (arith, among, length-records edgeFrom (a .s .now) (a .y .code .edges)))
+    (start .pre .0, omega (arith, among, length-records edgeFrom (a .s .now) (a .y .code .edges)), search needs)
 
 add-mark-at : tie.Need-add-mark-at
 add-mark-at c = let start = c .before .before .before .before .before in omega (arith, start .pre .2, few _ _ (start .pre .0))

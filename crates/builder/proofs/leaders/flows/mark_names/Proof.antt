@@ -23,8 +23,7 @@ cases-of-requires c κs = search needs
 mark-cases-requires : tie.Need-mark-cases-requires
 mark-cases-requires c κs =
     let start = c .before .before .before .before .before .before .before .before .before in
-    let most = switch-most (c .before .before .before .before .before .flow-under .result) (start .args .i) in
-    (start .pre .0, omega (arith, start .pre .2, c .cases-of .ensures, most), search needs, omega (arith, start .pre .4, c .cases-of .ensures, most))
+    (start .pre .0, omega (arith, start .pre .2, c .cases-of .ensures, switch-most (c .before .before .before .before .before .flow-under .result) (start .args .i)), search needs)
 
 returns : tie.Need-returns
 returns c =
