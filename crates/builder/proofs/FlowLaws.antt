@@ -32,7 +32,8 @@ use Rattle.builder.specs.declared.cursor.Cursor.{Cursor}
 use Rattle.builder.specs.declared.cursor.Given.the-variants.{Edges, Flow as ByFlow}
 use Rattle.builder.specs.Cursor.{Sourced, casesBefore, edgesBefore, cursorAt, givenFor}
 use Rattle.builder.specs.Marks.{Marked, slotMark, caseMark, edgeMark, switchCases, namesMark, leadMark, funcletEnd, visitMark, instructionMark}
-use Rattle.builder.proofs.CursorLaws.{leads-edges, leads-flow, same-place, cases-length, case-is, cases-within, edge-is, edges-within}
+use Rattle.builder.proofs.CursorLaws.{leads-edges, leads-flow, same-place, cases-length, case-is, edge-is}
+use Rattle.builder.proofs.EdgeLaws.{given-inside as all-given, case-inside}
 use Rattle.builder.proofs.MarkLaws.{mark-none, mark-then, mark-as, some-own, eqb-comm}
 
 pub names-are : (m : Image) (first : ℕ) (i : Instruction) (flow n : ℕ) (x : Slot × Slot) → flow ≡ flowUnder (m .header .calls) (i .flow) → x ≡ slotsOf flow → n ≡ switchCases flow i → (p : ℕ) → (slotMark m i (x .0) p || caseMark m first n p) ≡ namesMark m first i p
@@ -174,10 +175,10 @@ module _ (m : Image) (h : Sourced m) (c : Cursor) (here : c ≡ cursorAt m (c .a
   pub given-inside : (k : ℕ) → givenFor m (c .at) ≡ Edges k → c .edge + k ≤ length (m .edges)
   given-inside k leads =
       let g = leads-edges m (c .at) k leads in
-      omega (arith, ap (λ (x : Cursor). x .edge) here, g .1, edges-within m h (c .at) within (g .0))
+      omega (arith, g .1, all-given m h c here within (g .0))
 
   pub flow-inside : (i : Instruction) → i ≡ instructionAt m (c .at) → c .case + i .cases ≤ length (m .cases)
-  flow-inside i is = rw is (omega (arith, ap (λ (x : Cursor). x .case) here, cases-within m h (c .at) within))
+  flow-inside i is = rw is (case-inside m h c here within)
 
   pub given-marks : {n : ℕ} {l r t : List Bool} (k : ℕ) → givenFor m (c .at) ≡ Edges k → Marked n (edgeMark m (c .edge) k) l r → Marked n (λ p. eqb p (c .at + 1)) r t → Marked n (leadMark m (c .at)) l t
   unfolding endsAt leadMark

@@ -3,17 +3,11 @@
 // The cursor is carried along, so that no position is counted anew.
 use image::access::instruction_in;
 use image::access::source_in;
-use image::little::octet;
-use image::little::quad;
-use image::record::GivenSource;
 use image::record::Instruction;
 use image::section::Layout;
 use image::section::Section;
-use image::section::place;
-ghost use mathlib.Core.List.{[]};
 ghost use mathlib.Core.Path.{_≡_};
 ghost use Prim.Native.Nat.{_+_, _<_, _≤_};
-ghost use lib.ListN.{getD};
 ghost use Rattle.image.specs.Image.{Image, recordsIn, imageIn};
 ghost use Rattle.image.specs.Record.{sourceFrom};
 ghost use Rattle.image.specs.There.{Holds, ImageThere};
@@ -76,27 +70,12 @@ pub fn given_at(s: &[u8], sources: Section, i: usize, address: u64) -> Given
 {
     let count = sources.count as usize;
     if i < count {
-        let source = given_source(s, sources, i);
+        let source = source_in(s, sources, i);
         if source.address == address {
             return Given::Edges(source.edges);
         }
     }
     Given::Flow
-}
-
-// Source i: each field is one load, where all its bytes are there.
-fn given_source(s: &[u8], sources: Section, i: usize) -> GivenSource
-    requires { ⌜ i < sources .count × Holds (now s) sources 12 ⌝ }
-    ensures { λ r. ⌜ r ≡ getD (recordsIn sourceFrom (now (s .entry)) sources) i (sourceFrom [] 0) ⌝ }
-{
-    let at = place(sources, i);
-    if s.len() < at + 12 {
-        return source_in(s, sources, i);
-    }
-    GivenSource {
-        address: octet(s, at),
-        edges: quad(s, at + 8) as usize,
-    }
 }
 
 pub fn cursor_after(c: Cursor, cases: usize, given: Given) -> Cursor

@@ -10,21 +10,21 @@ use Rattle.builder.proofs.cursor.given_at.Tie as tie
 cast-count : tie.Need-cast-count
 cast-count c = search needs
 
-given-source-requires : tie.Need-given-source-requires
-given-source-requires c κs = search needs
+source-in-requires : tie.Need-source-in-requires
+source-in-requires c κs = search needs
 
 returns : tie.Need-returns
 unfolding givenHere
 returns c =
     let a = c .before .before .before .before .before .before .args in
-    let here = c .before .before .given-source .ensures in
+    let here = c .before .before .source-in .ensures in
     rw (length-records sourceFrom (a .s .now) (a .sources), lt-ltb (a .i) _ (c .before .before .before .if1 .taken), ← here, eq-eqb _ _ (c .if2 .taken))
 
 returns-2 : tie.Need-returns-2
 unfolding givenHere
 returns-2 c =
     let a = c .before .before .before .before .before .before .args in
-    let here = c .before .before .given-source .ensures in
+    let here = c .before .before .source-in .ensures in
     rw (length-records sourceFrom (a .s .now) (a .sources), lt-ltb (a .i) _ (c .before .before .before .if1 .taken), ← here, ne-eqb _ _ (c .if2 .left))
 
 returns-3 : tie.Need-returns-3
@@ -34,4 +34,4 @@ returns-3 c =
     rw (length-records sourceFrom (a .s .now) (a .sources), le-ltb (a .i) _ (c .if1 .left))
 
 pub given-at-spec : {M : Type 1} → statement M
-given-at-spec = tie.close (tie.spec cast-count given-source-requires returns returns-2 returns-3)
+given-at-spec = tie.close (tie.spec cast-count source-in-requires returns returns-2 returns-3)
