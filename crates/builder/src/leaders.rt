@@ -50,13 +50,16 @@ pub fn leaders(s: &[u8], y: Layout, hints: &[u16], code_end: u64) -> [bool; 512]
     let handlers = y.code.handlers;
     let routes = y.routes.routes;
     let marks = mark_code([false; 512], s, y, hints);
-    if routes.count == 0 {
-        if handlers.count == 0 {
+    if handlers.count == 0 {
+        if routes.count == 0 {
             return marks;
         }
-        return mark_handlers(marks, s, y, hints, code_end);
+        return mark_routes(marks, s, y, hints, code_end);
     }
     let marks = mark_handlers(marks, s, y, hints, code_end);
+    if routes.count == 0 {
+        return marks;
+    }
     mark_routes(marks, s, y, hints, code_end)
 }
 
