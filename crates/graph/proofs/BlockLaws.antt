@@ -4,7 +4,7 @@
 --     member-including, -excluding         a block more or less; length-including, length-excluding
 --     size-including, size-excluding       how many blocks there are then; size-le
 --     including-past, excluding-is         what a store writes
---     Ored, Anded, size-more, lowest-is, none-more         a word more of a loop
+--     Ored, Anded, size-more, lowest-from, lowest-is, none-more    a word more of a loop
 --     ones-past, rank-more, rank-all       how many blocks are below one
 --     zero-below, shift-below, word-below     a set's blocks are below n
 -- Assumes nothing.
@@ -24,7 +24,7 @@ use lib.Pow.{pow-pos, pow-mono}
 use lib.ListN.{length, getD, set, length-set, getD-replicate, List·getD-eq-default}
 use lib.Seq.{getD-set-same, getD-set-other, set-out}
 use Rattle.graph.specs.Fold.{count}
-use Rattle.graph.specs.BlockSet.{member, none, including, excluding, Union, Common, sizeOf, LowestOf}
+use Rattle.graph.specs.BlockSet.{member, none, including, excluding, Union, Common, sizeOf, LowestOf, LowestFrom}
 use Rattle.graph.specs.WellFormed.{within}
 use Rattle.graph.specs.declared.blockset.Lowest.the-variants.{At}
 use Rattle.graph.proofs.FoldLaws.{count-same, count-none, count-add, count-one, count-le}
@@ -213,9 +213,9 @@ union-is u v w lu lv lw all b =
     ]
 
 module _ (w : List ℕ) (i : ℕ) where
-  pub none-more : getD w i 0 ≡ 0 → ((c : ℕ) → c < 64 * i → member w c ≡ false) → (c : ℕ) → c < 64 * (i + 1) → member w c ≡ false
-  none-more z below c h =
-      split (λ (d : ℕ). member w d ≡ false) i c (below c)
+  pub none-more : (n : ℕ) → getD w i 0 ≡ 0 → ((c : ℕ) → n ≤ c → c < 64 * i → member w c ≡ false) → (c : ℕ) → n ≤ c → c < 64 * (i + 1) → member w c ≡ false
+  none-more n z below c ge h =
+      split (λ (d : ℕ). member w d ≡ false) i c (below c ge)
       (λ k e. member-at w i k (omega arith) ∙ ap (λ (v : ℕ). eqb (bit v k) 1) z ∙ ap (λ (n : ℕ). eqb n 1) (bit-zero k))
 
   module _ (fits : getD w i 0 < 2 ^ 64) where
@@ -225,15 +225,19 @@ module _ (w : List ℕ) (i : ℕ) where
         let here = count-same (λ (k : ℕ). member w (64 * i + k)) (λ (k : ℕ). eqb (bit (getD w i 0) k) 1) 64 (λ k h. member-at w i k h) in
         rw next (count-add (member w) (64 * i) 64 ∙ ap (λ (n : ℕ). count (member w) (64 * i) + n) (here ∙ sym (ones-bits 64 (getD w i 0) fits)))
 
-    pub lowest-is : i < 16 → (getD w i 0 ≡ 0 → ⊥) → ((c : ℕ) → c < 64 * i → member w c ≡ false) → LowestOf w (At (64 * i + trailingZeros 64 (getD w i 0)))
-    lowest-is h ne below =
+    pub lowest-from : (n : ℕ) → n ≤ 64 * i → i < 16 → (getD w i 0 ≡ 0 → ⊥) → ((c : ℕ) → n ≤ c → c < 64 * i → member w c ≡ false) → LowestFrom w n (At (64 * i + trailingZeros 64 (getD w i 0)))
+    lowest-from n le h ne below =
         let low = trailing-bit 64 (getD w i 0) fits ne in (
-          omega arith,
+          omega (arith, low .within),
           member-at w i _ (low .within) ∙ eq-eqb _ 1 (low .here),
-          λ c lt.
-              split (λ (d : ℕ). member w d ≡ false) i c (below c)
-              (λ k e. member-at w i k (omega arith) ∙ ap (λ (n : ℕ). eqb n 1) (low .none-below k (omega arith))),
+          λ c ge lt.
+              split (λ (d : ℕ). member w d ≡ false) i c (below c ge)
+              (λ k e. member-at w i k (omega (arith, low .within)) ∙ ap (λ (n : ℕ). eqb n 1) (low .none-below k (omega arith))),
+          omega arith,
         )
+
+    pub lowest-is : i < 16 → (getD w i 0 ≡ 0 → ⊥) → ((c : ℕ) → 0 ≤ c → c < 64 * i → member w c ≡ false) → LowestOf w (At (64 * i + trailingZeros 64 (getD w i 0)))
+    lowest-is h ne below = let low = lowest-from 0 (omega arith) h ne below in (low .0, low .1, λ c lt. low .2 c (omega arith) lt)
 
 -- the blocks below k of a word's, of which those past the word are none
 pub ones-past : (x k : ℕ) → x < 2 ^ 64 → 64 ≤ k → ones (x / 2 ^ k) ≡ 0

@@ -8,6 +8,7 @@ pub mod StoredLaws
 pub mod AddingLaws
 pub mod Bit
 pub mod BlockLaws
+pub mod NextLaws
 pub mod Rule21
 pub mod TableLaws
 pub mod CheckLaws

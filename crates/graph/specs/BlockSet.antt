@@ -2,7 +2,7 @@
 use mathlib.Core.Path.{_≡_}
 use mathlib.Core.Bool.{Bool, true, false, cond, _&&_, _||_}
 use mathlib.Core.List.{List}
-use Prim.Native.Nat.{ℕ, _/_, _%_, _^_, _<_}
+use Prim.Native.Nat.{ℕ, _/_, _%_, _^_, _≤_, _<_}
 use lib.Bits.{bitOr, bitXor}
 use lib.Dec.{eqb}
 use lib.ListN.{getD, set, replicate}
@@ -39,3 +39,8 @@ sizeOf w = count (member w) 1024
 abbrev pub LowestOf : List ℕ → Lowest → Type 0
 LowestOf w (At b) = (b < 1024) × (member w b ≡ true) × ((c : ℕ) → c < b → member w c ≡ false)
 LowestOf w Nothing = (c : ℕ) → member w c ≡ false
+
+-- the lowest block from n on, if there is one
+abbrev pub LowestFrom : List ℕ → ℕ → Lowest → Type 0
+LowestFrom w n (At b) = (b < 1024) × (member w b ≡ true) × ((c : ℕ) → n ≤ c → c < b → member w c ≡ false) × (n ≤ b)
+LowestFrom w n Nothing = (c : ℕ) → n ≤ c → member w c ≡ false

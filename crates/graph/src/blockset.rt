@@ -1,11 +1,12 @@
 // Sets of blocks, of which there are 1,024: block b is bit b % 64 of word b / 64. No other module looks into a set's words.
 ghost use mathlib.Core.Path.{_≡_};
-ghost use Prim.Native.Nat.{_-_, _*_, _/_, _^_, _≤_, _<_};
+ghost use mathlib.Core.Bool.{true};
+ghost use Prim.Native.Nat.{ℕ, _-_, _*_, _/_, _^_, _≤_, _<_};
 ghost use lib.Count.{ones, trailingZeros};
 ghost use lib.Dec.{ltb};
 ghost use lib.ListN.{length};
 ghost use Rattle.graph.specs.Fold.{count};
-ghost use Rattle.graph.specs.BlockSet.{member, none, including, excluding, Union, Common, sizeOf, LowestOf};
+ghost use Rattle.graph.specs.BlockSet.{member, none, including, excluding, Union, Common, sizeOf, LowestOf, LowestFrom};
 ghost use Rattle.graph.specs.WellFormed.{within};
 
 pub struct BlockSet {
@@ -145,6 +146,30 @@ pub fn lowest_in(w: &[u64; 16]) -> Lowest
     Lowest::Nothing
 }
 
+// The lowest block from `from` on; there is none from `past` on.
+pub fn next_in(w: &[u64; 16], from: usize, past: usize) -> Lowest
+    requires { ⌜ (past ≤ 1024) × ((b : ℕ) → member (now w) b ≡ true → b < past) ⌝ }
+    ensures { λ r. ⌜ LowestFrom (now (w .entry)) from r ⌝ }
+{
+    sixteen(w);
+    if past <= from {
+        return Lowest::Nothing;
+    }
+    let k = from / 64;
+    let rest = digits_from(w[k], from % 64);
+    if rest != 0 {
+        return Lowest::At(from + zeros_of(rest));
+    }
+    let words = (past + 63) / 64;
+    for i in k + 1..words {
+        let word = w[i];
+        if word != 0 {
+            return Lowest::At(64 * i + zeros_of(word));
+        }
+    }
+    Lowest::Nothing
+}
+
 fn ones_of(word: u64) -> usize
     ensures { λ r. ⌜ (r ≡ ones word) × (r ≤ 64) × (word < 2 ^ 64) ⌝ }
 {
@@ -159,6 +184,14 @@ fn ones_below(word: u64, k: usize) -> usize
         return ones_of(word) - ones_of(word >> k);
     }
     ones_of(word)
+}
+
+// The digits from digit k on.
+fn digits_from(word: u64, k: usize) -> u64
+    requires { ⌜ k < 64 ⌝ }
+    ensures { λ r. ⌜ (r ≡ word / 2 ^ k) × (word < 2 ^ 64) ⌝ }
+{
+    word >> k
 }
 
 fn zeros_of(word: u64) -> usize

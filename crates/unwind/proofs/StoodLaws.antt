@@ -1,5 +1,5 @@
 -- Copies of blocks and edges stored one by one, by words that hold the graph.
---     blocks-kept, blocks-grow, first-kept, edges-grow     what stood is as it was
+--     blocks-kept, blocks-grow, blocks-stay, first-kept, edges-grow     what stood is as it was
 --     first-all, linked-start, linked-kept, edge-stood     the first edges stay linked
 --     BlocksGoing, blocks-start, blocks-next, blocks-end     the blocks of a set
 --     no-blocks, node-blocks, node-skips     the blocks of a node more
@@ -81,6 +81,10 @@ module _ {l l′ : List ℕ} (bs : List Block) (stored : Stored l l′ (withBloc
       sym (getD-take n (heldIn l′ .graph .blocks) b _ (omega arith)) ∙ ap (λ (k : List Block). getD k b (record { first = 0; count = 0 })) first ∙ getD-take n (heldIn l .graph .blocks) b _ (omega arith)
 
 module _ {l l′ : List ℕ} {es : List Edge} (added : Added l l′ es [] []) where
+  pub blocks-stay : heldIn l′ .graph .blocks ≡ heldIn l .graph .blocks
+  unfolding adding
+  blocks-stay = ap (λ (h : Held). h .graph .blocks) (added .stored .holds)
+
   pub edges-grow : length (heldIn l .graph .edges) ≤ length (heldIn l′ .graph .edges)
   unfolding adding
   edges-grow = rw (added .stored .holds) (mores-long edgeRows (edgesIn (heldIn l)) es)

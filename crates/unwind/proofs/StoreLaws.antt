@@ -32,7 +32,7 @@ use Rattle.graph.specs.Words.{heldIn}
 use Rattle.graph.specs.Fold.{flat}
 use Rattle.graph.specs.Error.{refusalOf}
 use Rattle.graph.specs.Stored.{Stored}
-use Rattle.graph.specs.Adding.{Added, adding, withBlocks}
+use Rattle.graph.specs.Adding.{Added, withBlocks}
 use Rattle.graph.specs.Answers.{Laid}
 use Rattle.graph.specs.Search.{Ends, Linked}
 use Rattle.graph.specs.Search as links
@@ -61,6 +61,7 @@ use Rattle.addition.specs.Walk.{_∈_}
 use Rattle.addition.proofs.Lists.{and-both}
 use Rattle.addition.proofs.Sound.{sound}
 use Rattle.addition.proofs.AgainWays.{way-ends, way-table}
+use Rattle.unwind.proofs.StoodLaws.{blocks-stay}
 use Rattle.unwind.proofs.Standing.{stands-of}
 use Rattle.unwind.proofs.TrieNodes.{length-nodes}
 use Rattle.unwind.proofs.ClonesAre.{sets-in, blocks-are, edges-are}
@@ -224,8 +225,7 @@ module _ (w : List ℕ) (m : RouteImage) {nodes edges ends roots head next bases
 
   module _ {w₁ : List ℕ} (cloned : Added w w₁ (edgeCopies g bases parts (c .nodes)) [] []) where
     blocks-stood : heldIn w₁ .graph .blocks ≡ g .blocks
-    unfolding adding
-    blocks-stood = ap (λ (h : Held). h .graph .blocks) (cloned .stored .holds)
+    blocks-stood = blocks-stay cloned
 
     pub sets-stood : SetsIn (heldIn w₁ .graph) parts (c .nodes)
     sets-stood = record { fit = sets-here .fit; stand = λ i b h k. rw blocks-stood (sets-here .stand i b h k) }

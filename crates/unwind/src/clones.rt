@@ -3,13 +3,13 @@ use crate::slots::set_at;
 use crate::tries::store::number_in;
 use graph::blockset::Lowest;
 use graph::blockset::has_in;
-use graph::blockset::lowest_in;
+use graph::blockset::next_in;
 use graph::blockset::rank_in;
 use graph::blockset::sixteen;
-use graph::blockset::take_from;
 use graph::record::Edge;
 use graph::store::Words;
 use graph::store::blocks::add_block;
+use graph::store::blocks::block_count;
 use graph::store::blocks::block_in;
 use graph::store::edges::add_edge;
 use graph::store::edges::edge_count;
@@ -53,17 +53,18 @@ pub fn clone_edge_count(
 
 // How many edges go out of the blocks of a set.
 fn edges_out(g: &Words, head: &[u16], next: &[u16], set: &[u64; 16]) -> usize
-    requires { ⌜ Ends (heldIn (now g) .graph) × Roomy (heldIn (now g) .graph) (now head) (now next) × Linked (heldIn (now g) .graph) (now head) (now next) 0 × ((b : ℕ) → member (now set) b ≡ true → b < length (now head)) ⌝ }
+    requires { ⌜ Ends (heldIn (now g) .graph) × Roomy (heldIn (now g) .graph) (now head) (now next) × Linked (heldIn (now g) .graph) (now head) (now next) 0 × ((b : ℕ) → member (now set) b ≡ true → b < length (now head)) × ((b : ℕ) → member (now set) b ≡ true → b < length (heldIn (now g) .graph .blocks)) ⌝ }
     ensures { λ r. ⌜ (r ≡ length (joined (outgoing (heldIn (now (g .entry)) .graph)) (listOf (now (set .entry))))) × (r ≤ 4194304) ⌝ }
 {
     sixteen(set);
-    let mut left = *set;
+    let blocks = block_count(g);
+    let mut from = 0;
     let mut count = 0;
     loop {
-        let Lowest::At(b) = lowest_in(&left) else {
+        let Lowest::At(b) = next_in(set, from, blocks) else {
             return count;
         };
-        take_from(&mut left, b);
+        from = b + 1;
         count += out_degree(g, head, next, b);
     }
 }
@@ -106,16 +107,17 @@ pub fn add_clone_edges(
 
 // Adds those of the edges out of the blocks of a set, of which the first is copied as block `base`. The first m edges are linked.
 fn copy_edges(g: &mut Words, m: usize, head: &[u16], next: &[u16], base: usize, set: &[u64; 16])
-    requires { ⌜ LinkedTo (heldIn (now g) .graph) m (now head) (now next) × (base < 65536) × ((b : ℕ) → member (now set) b ≡ true → b < length (now head)) ⌝ }
+    requires { ⌜ LinkedTo (heldIn (now g) .graph) m (now head) (now next) × (base < 65536) × ((b : ℕ) → member (now set) b ≡ true → b < length (now head)) × ((b : ℕ) → member (now set) b ≡ true → b < length (heldIn (now g) .graph .blocks)) ⌝ }
     ensures { λ _. ⌜ Added (now (g .entry)) (now (g .exit)) (joined (λ b. map (copyOf base (now (set .entry))) (outgoing (firstEdges (heldIn (now (g .entry)) .graph) m) b)) (listOf (now (set .entry)))) [] [] ⌝ }
 {
     sixteen(set);
-    let mut left = *set;
+    let blocks = block_count(g);
+    let mut from = 0;
     loop {
-        let Lowest::At(b) = lowest_in(&left) else {
+        let Lowest::At(b) = next_in(set, from, blocks) else {
             return;
         };
-        take_from(&mut left, b);
+        from = b + 1;
         copy_from(g, m, head, next, base, set, b);
     }
 }
@@ -185,12 +187,13 @@ fn copy_blocks(g: &mut Words, set: &[u64; 16])
     ensures { λ _. ⌜ Stored (now (g .entry)) (now (g .exit)) (withBlocks (heldIn (now (g .entry))) (map (block (heldIn (now (g .entry)) .graph)) (listOf (now (set .entry))))) ⌝ }
 {
     sixteen(set);
-    let mut left = *set;
+    let blocks = block_count(g);
+    let mut from = 0;
     loop {
-        let Lowest::At(b) = lowest_in(&left) else {
+        let Lowest::At(b) = next_in(set, from, blocks) else {
             return;
         };
-        take_from(&mut left, b);
+        from = b + 1;
         let copy = block_in(g, b);
         add_block(g, copy);
     }

@@ -19,15 +19,15 @@ use crate::wants::flags::Flags;
 use crate::wants::flags::likely_hop;
 use crate::wants::flags::mark_wanted;
 use graph::blockset::Lowest;
-use graph::blockset::lowest_in;
+use graph::blockset::next_in;
 use graph::blockset::rank_in;
 use graph::blockset::sixteen;
-use graph::blockset::take_from;
 use graph::record::Edge;
 use graph::store::Words;
 use graph::store::edges::add_edge;
 use image::section::RouteLayout;
 ghost use mathlib.Core.Path.{_≡_};
+ghost use mathlib.Core.Bool.{true};
 ghost use mathlib.Core.List.{List, [], _∷_, map};
 ghost use Prim.Native.Nat.{ℕ, _+_, _*_, _≤_, _<_};
 ghost use lib.ListN.{length, getD};
@@ -35,18 +35,20 @@ ghost use Rattle.image.specs.Image.{RouteImage, routesIn};
 ghost use Rattle.graph.specs.Graph.{block};
 ghost use Rattle.graph.specs.Words.{heldIn};
 ghost use Rattle.graph.specs.Fold.{flat};
+ghost use Rattle.graph.specs.BlockSet.{member};
 ghost use Rattle.graph.specs.Adding.{Added};
 ghost use Rattle.unwind.specs.Nodes.{branchIn, recordIn};
 ghost use Rattle.addition.specs.Ways.{hopsOf, routeEdge, routeEdges};
-ghost use Rattle.unwind.specs.Gather.{edgeExits, endNumber, endExits, NodeThere, AllThere};
+ghost use Rattle.unwind.specs.Gather.{inSet, edgeExits, endNumber, endExits, NodeThere, AllThere};
 ghost use Rattle.unwind.specs.Routed.{TriesIn};
 ghost use Rattle.unwind.specs.HopWords.{hopsIn};
+ghost use Rattle.unwind.specs.Members.{BlockSets};
 ghost use Rattle.unwind.specs.Wanted.{wayOf, recordWays, guardWays, returnWays, lentWays, RunsFit};
 ghost use Rattle.unwind.specs.Flags.{leapTo, wayTo, HopsRise, HopStands, HopsJoin, SomeStand, EdgesWanted, AllWanted, placeOf, setWays};
 
 const ROUTE: u64 = 10;
 
-// Adds the route edges to the graph that has the copies, told the hops of the same ways.
+// Adds the route edges to the graph that has the copies, told the hops of the same ways. Before, there were `blocks` blocks.
 pub fn add_route_edges(
     g: &mut Words,
     h: &Hops,
@@ -63,8 +65,9 @@ pub fn add_route_edges(
     parts: &[u64],
     returns: &[u64],
     stored: Counts,
+    blocks: usize,
 )
-    requires { ⌜ HopsJoin (now h) (heldIn (now g) .graph) × (16 * length (routesIn (now s) y .routes) ≤ length (now guards)) × (16 * stored .nodes ≤ length (now parts)) × (16 * stored .nodes ≤ length (now returns)) × ((i : ℕ) → i < stored .nodes → getD (now bases) i 0 ≤ 1024) × (hopsIn (routesIn (now s) y) (now h) ≡ hopsOf (lentWays (routesIn (now s) y) (now nodes) (now edges) (now ends) (now heads) (now landings) (now roots) (now guards) (now bases) (now parts) (now returns) (length (routesIn (now s) y .routes)) (stored .nodes))) × TriesIn (routesIn (now s) y) (now nodes) (now edges) (now ends) (now roots) stored × (stored .nodes ≤ length (now heads)) × (stored .ends ≤ length (now landings)) × (stored .nodes ≤ length (now bases)) ⌝ }
+    requires { ⌜ HopsJoin (now h) (heldIn (now g) .graph) × (16 * length (routesIn (now s) y .routes) ≤ length (now guards)) × (16 * stored .nodes ≤ length (now parts)) × (16 * stored .nodes ≤ length (now returns)) × ((i : ℕ) → i < stored .nodes → getD (now bases) i 0 ≤ 1024) × (hopsIn (routesIn (now s) y) (now h) ≡ hopsOf (lentWays (routesIn (now s) y) (now nodes) (now edges) (now ends) (now heads) (now landings) (now roots) (now guards) (now bases) (now parts) (now returns) (length (routesIn (now s) y .routes)) (stored .nodes))) × TriesIn (routesIn (now s) y) (now nodes) (now edges) (now ends) (now roots) stored × (stored .nodes ≤ length (now heads)) × (stored .ends ≤ length (now landings)) × (stored .nodes ≤ length (now bases)) × BlockSets (now guards) (now returns) blocks (length (routesIn (now s) y .routes)) (stored .nodes) × (blocks ≤ 1024) ⌝ }
     ensures { λ _. ⌜ Added (now (g .entry)) (now (g .exit)) (routeEdges (heldIn (now (g .entry)) .graph) [] (lentWays (routesIn (now (s .entry)) y) (now (nodes .entry)) (now (edges .entry)) (now (ends .entry)) (now (heads .entry)) (now (landings .entry)) (now (roots .entry)) (now (guards .entry)) (now (bases .entry)) (now (parts .entry)) (now (returns .entry)) (length (routesIn (now (s .entry)) y .routes)) (stored .nodes))) [] [] ⌝ }
 {
     let mut done = [0u64; 33];
@@ -79,6 +82,7 @@ pub fn add_route_edges(
         roots,
         guards,
         routes,
+        blocks,
         &mut done,
     );
     want_returned(
@@ -92,6 +96,7 @@ pub fn add_route_edges(
         parts,
         returns,
         stored.nodes,
+        blocks,
         &mut done,
     );
 }
@@ -107,9 +112,10 @@ fn want_guarded(
     roots: &[u16],
     guards: &[u64],
     n: usize,
+    blocks: usize,
     done: &mut Flags,
 )
-    requires { ⌜ SomeStand (now h) (λ m ends. flat (guardWays m (now nodes) (now edges) ends (now heads) (now landings) (now roots) (now guards)) n) × HopsJoin (now h) (heldIn (now g) .graph) × (16 * n ≤ length (now guards)) × AllThere (now nodes) (now edges) (now heads) (now landings) (λ r. getD (now roots) r 0) n × (n ≤ length (now roots)) ⌝ }
+    requires { ⌜ SomeStand (now h) (λ m ends. flat (guardWays m (now nodes) (now edges) ends (now heads) (now landings) (now roots) (now guards)) n) × HopsJoin (now h) (heldIn (now g) .graph) × (16 * n ≤ length (now guards)) × AllThere (now nodes) (now edges) (now heads) (now landings) (λ r. getD (now roots) r 0) n × (n ≤ length (now roots)) × ((r b : ℕ) → r < n → inSet (now guards) r b ≡ true → b < blocks) × (blocks ≤ 1024) ⌝ }
     ensures { λ _. ⌜ AllWanted (now (h .entry)) (now (g .entry)) (now (done .entry)) (λ m ends. flat (guardWays m (now (nodes .entry)) (now (edges .entry)) ends (now (heads .entry)) (now (landings .entry)) (now (roots .entry)) (now (guards .entry))) n) (now (g .exit)) (now (done .exit)) ⌝ }
 {
     for r in 0..n {
@@ -127,6 +133,7 @@ fn want_guarded(
             0,
             &set,
             &set,
+            blocks,
             done,
         );
     }
@@ -144,9 +151,10 @@ fn want_returned(
     parts: &[u64],
     returns: &[u64],
     n: usize,
+    blocks: usize,
     done: &mut Flags,
 )
-    requires { ⌜ SomeStand (now h) (λ m ends. flat (returnWays m (now nodes) (now edges) ends (now heads) (now landings) (now bases) (now parts) (now returns)) n) × HopsJoin (now h) (heldIn (now g) .graph) × (16 * n ≤ length (now parts)) × (16 * n ≤ length (now returns)) × ((i : ℕ) → i < n → getD (now bases) i 0 ≤ 1024) × AllThere (now nodes) (now edges) (now heads) (now landings) (λ i. i) n × (n ≤ length (now bases)) ⌝ }
+    requires { ⌜ SomeStand (now h) (λ m ends. flat (returnWays m (now nodes) (now edges) ends (now heads) (now landings) (now bases) (now parts) (now returns)) n) × HopsJoin (now h) (heldIn (now g) .graph) × (16 * n ≤ length (now parts)) × (16 * n ≤ length (now returns)) × ((i : ℕ) → i < n → getD (now bases) i 0 ≤ 1024) × AllThere (now nodes) (now edges) (now heads) (now landings) (λ i. i) n × (n ≤ length (now bases)) × ((i b : ℕ) → i < n → inSet (now returns) i b ≡ true → b < blocks) × (blocks ≤ 1024) ⌝ }
     ensures { λ _. ⌜ AllWanted (now (h .entry)) (now (g .entry)) (now (done .entry)) (λ m ends. flat (returnWays m (now (nodes .entry)) (now (edges .entry)) ends (now (heads .entry)) (now (landings .entry)) (now (bases .entry)) (now (parts .entry)) (now (returns .entry))) n) (now (g .exit)) (now (done .exit)) ⌝ }
 {
     for i in 0..n {
@@ -166,12 +174,14 @@ fn want_returned(
             base,
             &part,
             &set,
+            blocks,
             done,
         );
     }
 }
 
-// What node i wants for route r out of the blocks of a set; where `base` is not 0, out of the copies that it has of them.
+// What node i wants for route r out of the blocks of a set, all below `blocks`; where `base` is not 0, out of the copies that
+// it has of them.
 fn want_set(
     g: &mut Words,
     h: &Hops,
@@ -184,18 +194,19 @@ fn want_set(
     base: usize,
     part: &[u64; 16],
     set: &[u64; 16],
+    blocks: usize,
     done: &mut Flags,
 )
-    requires { ⌜ SomeStand (now h) (λ m ends. setWays m (now nodes) (now edges) ends (now heads) (now landings) i r base (now part) (now set)) × HopsJoin (now h) (heldIn (now g) .graph) × (base ≤ 1024) × NodeThere (now nodes) (now edges) (now heads) (now landings) i ⌝ }
+    requires { ⌜ SomeStand (now h) (λ m ends. setWays m (now nodes) (now edges) ends (now heads) (now landings) i r base (now part) (now set)) × HopsJoin (now h) (heldIn (now g) .graph) × (base ≤ 1024) × NodeThere (now nodes) (now edges) (now heads) (now landings) i × ((b : ℕ) → member (now set) b ≡ true → b < blocks) × (blocks ≤ 1024) ⌝ }
     ensures { λ _. ⌜ AllWanted (now (h .entry)) (now (g .entry)) (now (done .entry)) (λ m ends. setWays m (now (nodes .entry)) (now (edges .entry)) ends (now (heads .entry)) (now (landings .entry)) i r base (now (part .entry)) (now (set .entry))) (now (g .exit)) (now (done .exit)) ⌝ }
 {
     sixteen(set);
-    let mut left = *set;
+    let mut from = 0;
     loop {
-        let Lowest::At(o) = lowest_in(&left) else {
+        let Lowest::At(o) = next_in(set, from, blocks) else {
             return;
         };
-        take_from(&mut left, o);
+        from = o + 1;
         let b = place_of(base, part, o);
         want_from(g, h, nodes, edges, heads, landings, i, r, b, done);
     }

@@ -209,6 +209,7 @@ fn store_addition(
     requires { ⌜ AtHand (heldIn (now g)) (routesIn (now s) y) (now nodes) (now edges) (now ends) (now roots) (now head) (now next) (now bases) (now heads) (now parts) (now returns) (now guards) (now landings) (now exits) stored × (sizeCheck (addition (heldIn (now g) .graph) (routesOf (routesIn (now s) y))) ≡ clear) × RoutesThere (now s) y ⌝ }
     ensures { λ _. ⌜ Laid (now (g .entry)) (now (g .exit)) (addition (heldIn (now (g .entry)) .graph) (routesOf (routesIn (now (s .entry)) y)) .graph) × HopsLaid (routesIn (now (s .entry)) y) (now (h .entry)) (now (h .exit)) (addition (heldIn (now (g .entry)) .graph) (routesOf (routesIn (now (s .entry)) y)) .hops) ⌝ }
 {
+    let blocks = block_count(g);
     add_hops(
         g,
         h,
@@ -245,5 +246,6 @@ fn store_addition(
         parts,
         returns,
         stored,
+        blocks,
     );
 }

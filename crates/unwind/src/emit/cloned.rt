@@ -4,9 +4,8 @@ use crate::emit::gather::gather_node;
 use crate::hops::Hops;
 use crate::slots::set_at;
 use graph::blockset::Lowest;
-use graph::blockset::lowest_in;
+use graph::blockset::next_in;
 use graph::blockset::rank_in;
-use graph::blockset::take_from;
 use image::section::RouteLayout;
 ghost use mathlib.Core.Path.{_≡_};
 ghost use mathlib.Core.List.{_++_};
@@ -43,12 +42,13 @@ pub fn add_copies(
     ensures { λ _. ⌜ HopsHeld (routesIn (now (s .entry)) y) (copyNumber (now (parts .entry)) i base blocks) (now (h .entry)) (now (h .exit)) (hopsIn (routesIn (now (s .entry)) y) (now (h .entry)) ++ flat (copyHops (routesIn (now (s .entry)) y) (now (nodes .entry)) (now (edges .entry)) (now (ends .entry)) (now (heads .entry)) (now (landings .entry)) (now (parts .entry)) (now (returns .entry)) i base) blocks) × (length (now (exits .exit)) ≡ length (now (exits .entry))) ⌝ }
 {
     let part = set_at(parts, i);
-    let mut left = set_at(returns, i);
+    let set = set_at(returns, i);
+    let mut from = 0;
     loop {
-        let Lowest::At(o) = lowest_in(&left) else {
+        let Lowest::At(o) = next_in(&set, from, blocks) else {
             return;
         };
-        take_from(&mut left, o);
+        from = o + 1;
         let b = base + rank_in(&part, o);
         add_copy(h, s, y, nodes, edges, ends, heads, landings, i, b, exits);
     }

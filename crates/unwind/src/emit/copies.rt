@@ -6,9 +6,8 @@ use crate::emit::gather::gather_node;
 use crate::slots::set_at;
 use crate::tries::store::number_in;
 use graph::blockset::Lowest;
-use graph::blockset::lowest_in;
+use graph::blockset::next_in;
 use graph::blockset::rank_in;
-use graph::blockset::take_from;
 use image::section::RouteLayout;
 ghost use Prim.Native.Nat.{_≤_, _<_};
 ghost use lib.ListN.{length, getD};
@@ -130,17 +129,18 @@ fn count_copies(
     ensures { λ r. ⌜ SumSize (flat (copyHops (routesIn (now (s .entry)) y) (now (nodes .entry)) (now (edges .entry)) (now (ends .entry)) (now (heads .entry)) (now (landings .entry)) (now (parts .entry)) (now (returns .entry)) i base) blocks) (now (exits .entry)) (now (exits .exit)) r ⌝ }
 {
     let part = set_at(parts, i);
-    let mut left = set_at(returns, i);
+    let set = set_at(returns, i);
+    let mut from = 0;
     let mut sizes = Sizes {
         hops: 0,
         lists: 0,
         blocks: 0,
     };
     loop {
-        let Lowest::At(o) = lowest_in(&left) else {
+        let Lowest::At(o) = next_in(&set, from, blocks) else {
             return sizes;
         };
-        take_from(&mut left, o);
+        from = o + 1;
         let b = base + rank_in(&part, o);
         let more = sizes_from(s, y, nodes, edges, ends, heads, landings, i, b, exits);
         sizes = sizes_both(sizes, more);

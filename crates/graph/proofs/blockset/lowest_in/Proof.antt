@@ -12,7 +12,7 @@ use Rattle.graph.proofs.blockset.lowest_in.Statement.{statement}
 use Rattle.graph.proofs.blockset.lowest_in.Tie as tie
 
 abbrev Inv-loop : tie.InvT-loop
-Inv-loop w i₀ i = (i ≤ 16) × (length w ≡ 16) × ((c : ℕ) → c < 64 * i → member w c ≡ false)
+Inv-loop w i₀ i = (i ≤ 16) × (length w ≡ 16) × ((c : ℕ) → 0 ≤ c → c < 64 * i → member w c ≡ false)
 
 abbrev μ-loop : tie.MeasureT-loop
 μ-loop w i₀ i = 16 - i
@@ -26,12 +26,12 @@ returns c =
 loop-again : tie.Need-loop-again Inv-loop μ-loop
 loop-again c =
     let top = c .before .before .before .loop in
-    (search needs, search needs, none-more (c .before .before .before .before .before .args .w .now) (top .i) (c .if1 .left) (top .inv .2))
+    (search needs, search needs, none-more (c .before .before .before .before .before .args .w .now) (top .i) 0 (c .if1 .left) (top .inv .2))
 
 returns-2 : tie.Need-returns-2 Inv-loop μ-loop
 returns-2 c =
     let end = c .before .loop in
-    none-at-all (c .before .before .before .args .w .now) (end .inv .1) (λ b h. end .inv .2 b (omega arith))
+    none-at-all (c .before .before .before .args .w .now) (end .inv .1) (λ b h. end .inv .2 b (omega arith) (omega arith))
 
 pub lowest-in-spec : {M : Type 1} → statement M
-lowest-in-spec = tie.close (tie.spec Inv-loop μ-loop (λ c κs. search needs) (λ c. (search needs, search needs, λ k h. absurd (not-suc-le-zero h))) (λ c. search needs) (λ c. search needs) (λ c. search needs) (λ c κs. search needs) (λ c. search needs) returns (λ c. search needs) (λ c. search needs) loop-again returns-2)
+lowest-in-spec = tie.close (tie.spec Inv-loop μ-loop (λ c κs. search needs) (λ c. (search needs, search needs, λ k ge h. absurd (not-suc-le-zero h))) (λ c. search needs) (λ c. search needs) (λ c. search needs) (λ c κs. search needs) (λ c. search needs) returns (λ c. search needs) (λ c. search needs) loop-again returns-2)

@@ -1,14 +1,15 @@
 -- `add_clone_edges` meets its contract. The loop's invariant: the copies of the edges of the nodes before i are added. Assumes nothing.
-use mathlib.Core.Path.{_≡_, sym, _∙_}
+use mathlib.Core.Path.{_≡_, sym, ap, _∙_}
 use mathlib.Core.Logic.{⊎-elim}
 use mathlib.Core.List.{[]}
-use Prim.Native.Nat.{_-_, _≤_}
+use Prim.Native.Nat.{_-_, _≤_, _<_}
 use native.Mathlib.Omega.{arith}
 use borrow.Author.Needs.{needs}
+use lib.ListN.{length}
 use Rattle.graph.specs.Words.{heldIn}
 use Rattle.graph.specs.Adding.{Added}
 use Rattle.unwind.specs.Clones.{edgeCopies}
-use Rattle.unwind.proofs.StoodLaws.{linked-start, linked-kept, no-copies, edges-skip, edges-node}
+use Rattle.unwind.proofs.StoodLaws.{blocks-stay, linked-start, linked-kept, no-copies, edges-skip, edges-node}
 use Rattle.unwind.proofs.clones.add_clone_edges.Statement.{statement}
 use Rattle.unwind.proofs.clones.add_clone_edges.Tie as tie
 
@@ -28,10 +29,14 @@ copy-edges-requires : tie.Need-copy-edges-requires Inv-loop μ-loop
 copy-edges-requires c κs =
     let a = c .before .before .before .before .before .before .before .before .before .before .before .before .before .args in
     let pre = c .before .before .before .before .before .before .before .before .before .before .before .before .before .pre in
-    let g = heldIn (a .g .now) .graph in (
-      linked-kept (c .before .before .before .before .before .before .loop .inv .1) _ (a .head .now) (a .next .now) (rw (c .before .before .before .before .before .before .before .edge-count .ensures) (linked-start g (a .head .now) (a .next .now) (pre .0) (pre .1) (pre .2))),
+    let g = heldIn (a .g .now) .graph in
+    let top = c .before .before .before .before .before .before .loop in
+    let test = c .before .before .before .before .before .loop-test .taken in
+    let same = ap length (blocks-stay (top .inv .1)) in (
+      linked-kept (top .inv .1) _ (a .head .now) (a .next .now) (rw (c .before .before .before .before .before .before .before .edge-count .ensures) (linked-start g (a .head .now) (a .next .now) (pre .0) (pre .1) (pre .2))),
       c .before .before .before .before .number-in .ensures .1,
-      rw (c .before .before .set-at .ensures) (λ b m. omega (arith, pre .4 .stand (c .before .before .before .before .before .before .loop .i) b (c .before .before .before .before .before .loop-test .taken) m, pre .1 .blocks)),
+      rw (c .before .before .set-at .ensures) (λ b m. omega (arith, pre .4 .stand (top .i) b test m, pre .1 .blocks)),
+      rw (c .before .before .set-at .ensures) (λ b m. let stands : b < length (heldIn (top .g) .graph .blocks) = omega (arith, same, pre .4 .stand (top .i) b test m) in stands),
     )
 
 loop-again : tie.Need-loop-again Inv-loop μ-loop

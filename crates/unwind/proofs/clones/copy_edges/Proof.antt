@@ -1,47 +1,66 @@
--- `copy_edges` meets its contract. The loop's invariant: the copies of the edges out of the blocks taken out are added. Assumes nothing.
+-- `copy_edges` meets its contract. The loop's invariant: the copies of the edges out of the blocks before `from` are added. Assumes nothing.
+use mathlib.Core.Path.{_≡_}
 use native.Mathlib.Omega.{arith}
 use borrow.Author.Needs.{needs}
+use lib.ListN.{length}
 use Rattle.graph.specs.BlockSet.{sizeOf}
+use Rattle.graph.proofs.RecordLaws.{block-most}
 use Rattle.graph.proofs.BlockLaws.{size-excluding}
+use Rattle.graph.proofs.NextLaws.{leftFrom, left-all, left-long, left-lowest, left-none, left-next}
 use Rattle.unwind.proofs.StoodLaws.{linked-kept, SetGoing, set-start, set-next, set-end}
 use Rattle.unwind.proofs.clones.copy_edges.Statement.{statement}
 use Rattle.unwind.proofs.clones.copy_edges.Tie as tie
 
 abbrev Inv-loop : tie.InvT-loop
-Inv-loop g₀ m head next base set left₀ g left = SetGoing m base set g₀ g left
+Inv-loop g₀ m head next base set blocks from₀ g from = (length set ≡ 16) × SetGoing m base set g₀ g (leftFrom set from)
 
 abbrev μ-loop : tie.MeasureT-loop
-μ-loop g₀ m head next base set left₀ g left = sizeOf left
+μ-loop g₀ m head next base set blocks from₀ g from = sizeOf (leftFrom set from)
 
 loop-holds : tie.Need-loop-holds Inv-loop μ-loop
-loop-holds c = let a = c .before .before .before .before .args in set-start (a .m) (a .base) (a .set .now) (a .g .now) (c .before .sixteen .ensures)
+loop-holds c =
+    let a = c .before .before .before .before .before .args in
+    let long = c .before .before .sixteen .ensures in
+    (long, rw (left-all (a .set .now)) (set-start (a .m) (a .base) (a .set .now) (a .g .now) long))
+
+next-in-requires : tie.Need-next-in-requires Inv-loop μ-loop
+next-in-requires c κs =
+    let start = c .before .before .before .before .before .before in
+    let all = c .before .block-count .ensures in
+    (omega (arith, all, block-most (start .args .g .now)), λ b m. omega (arith, all, start .pre .3 b m))
 
 returns : tie.Need-returns Inv-loop μ-loop
 returns c =
     let a = c .before .before .before .before .before .before .before .before .before .args in
-    let top = c .before .before .before .before .loop in
-    set-end (a .m) (a .base) (a .set .now) (a .g .now) (top .g) (top .left) (top .inv) (rw (c .enum-told .given .1) at (c .before .before .lowest-in .ensures))
+    let top = c .before .before .before .loop in
+    set-end (a .m) (a .base) (a .set .now) (a .g .now) (top .g) _ (top .inv .1) (left-none (a .set .now) (top .inv .0) (top .from) (rw (c .enum-told .given .1) at (c .before .before .next-in .ensures)))
+
+add-from : tie.Need-add-from Inv-loop μ-loop
+add-from c = let low = rw (c .before .b .given .1) at (c .before .before .before .next-in .ensures) in omega (arith, low .0)
 
 copy-from-requires : tie.Need-copy-from-requires Inv-loop μ-loop
 copy-from-requires c κs =
-    let a = c .before .before .before .before .before .before .before .before .before .before .before .before .before .args in
-    let pre = c .before .before .before .before .before .before .before .before .before .before .before .before .before .pre in
-    let top = c .before .before .before .before .before .before .before .before .loop in
-    let low = rw (c .before .before .before .before .b .given .1) at (c .before .before .before .before .before .before .lowest-in .ensures) in
-    (linked-kept (top .inv .added) (a .m) (a .head .now) (a .next .now) (pre .0), pre .1, pre .2 _ (top .inv .within _ (low .1)))
+    let start = c .before .before .before .before .before .before .before .before .before .before .before in
+    let a = start .args in
+    let low = rw (c .before .before .b .given .1) at (c .before .before .before .before .next-in .ensures) in
+    (linked-kept (c .before .before .before .before .before .loop .inv .1 .added) (a .m) (a .head .now) (a .next .now) (start .pre .0), start .pre .1, start .pre .2 _ (low .1))
 
 loop-less : tie.Need-loop-less Inv-loop μ-loop
 loop-less c =
-    let top = c .before .before .before .before .before .before .before .before .before .loop in
-    let low = rw (c .before .before .before .before .before .b .given .1) at (c .before .before .before .before .before .before .before .lowest-in .ensures) in
-    rw (c .before .before .take-from .ensures) (omega (arith, size-excluding (top .left) (top .inv .long) _ (low .0) (low .1)))
+    let set = c .before .before .before .before .before .before .before .before .before .before .before .before .args .set .now in
+    let top = c .before .before .before .before .before .before .loop in
+    let low = rw (c .before .before .before .b .given .1) at (c .before .before .before .before .before .next-in .ensures) in
+    let at = left-lowest set (top .inv .0) (top .from) _ low in
+    rw (left-next set (top .inv .0) (top .from) _ low) (omega (arith, size-excluding (leftFrom set (top .from)) (left-long set (top .inv .0) (top .from)) _ (at .0) (at .1)))
 
 loop-again : tie.Need-loop-again Inv-loop μ-loop
 loop-again c =
-    let a = c .before .before .before .before .before .before .before .before .before .before .before .before .before .before .args in
-    let top = c .before .before .before .before .before .before .before .before .before .loop in
-    let low = rw (c .before .before .before .before .before .b .given .1) at (c .before .before .before .before .before .before .before .lowest-in .ensures) in
-    rw (c .before .before .take-from .ensures) (set-next (a .m) (a .base) (a .set .now) (a .g .now) (top .g) (top .left) (top .inv) (c .before .before .before .before .before .before .before .before .before .before .before .before .before .before .pre .0 .stood) _ (low .0) (low .1) (low .2) _ (c .copy-from .ensures))
+    let start = c .before .before .before .before .before .before .before .before .before .before .before .before in
+    let a = start .args in
+    let top = c .before .before .before .before .before .before .loop in
+    let low = rw (c .before .before .before .b .given .1) at (c .before .before .before .before .before .next-in .ensures) in
+    let at = left-lowest (a .set .now) (top .inv .0) (top .from) _ low in
+    (top .inv .0, rw (left-next (a .set .now) (top .inv .0) (top .from) _ low) (set-next (a .m) (a .base) (a .set .now) (a .g .now) (top .g) _ (top .inv .1) (start .pre .0 .stood) _ (at .0) (at .1) (at .2) _ (c .copy-from .ensures)))
 
 pub copy-edges-spec : {M : Type 1} → statement M
 copy-edges-spec =
@@ -50,12 +69,13 @@ copy-edges-spec =
     Inv-loop
     μ-loop
     (λ c κs. search needs)
-    loop-holds
     (λ c κs. search needs)
+    loop-holds
+    next-in-requires
     (λ c. search needs)
     (λ c. search needs)
     returns
-    (λ c κs. search needs)
+    add-from
     copy-from-requires
     loop-less
     loop-again)

@@ -20,6 +20,8 @@ want-guarded-requires c κs =
       omega (arith, count, start .pre .1),
       record { there = λ r h. node-there m (a .nodes .now) (a .edges .now) (a .ends .now) (a .roots .now) (a .stored) (start .pre .6) (a .heads .now) (a .landings .now) (start .pre .7) (start .pre .8) _ (start .pre .6 .roots-in r (omega (arith, count, h))) },
       omega (arith, count, roots-fit m (a .nodes .now) (a .edges .now) (a .ends .now) (a .roots .now) (a .stored) (start .pre .6)),
+      λ r b h. start .pre .10 .guards-below r b (omega (arith, count, h)),
+      start .pre .11,
     )
 
 want-returned-requires : tie.Need-want-returned-requires
@@ -35,6 +37,8 @@ want-returned-requires c κs =
       start .pre .4,
       record { there = node-there m (a .nodes .now) (a .edges .now) (a .ends .now) (a .roots .now) (a .stored) (start .pre .6) (a .heads .now) (a .landings .now) (start .pre .7) (start .pre .8) },
       start .pre .9,
+      start .pre .10 .returns-below,
+      start .pre .11,
     )
 
 returns : tie.Need-returns

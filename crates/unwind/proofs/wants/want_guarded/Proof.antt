@@ -1,21 +1,22 @@
 -- `want_guarded` meets its contract. The loop's invariant: what the routes before r want is added. Assumes nothing.
-use mathlib.Core.Path.{_≡_, subst}
+use mathlib.Core.Path.{_≡_, _∙_, subst}
 use Prim.Native.Nat.{_-_, _≤_}
 use native.Mathlib.Omega.{arith}
 use borrow.Author.Needs.{needs}
 use Rattle.graph.specs.Fold.{flat}
 use Rattle.unwind.specs.Wanted.{guardWays}
 use Rattle.unwind.specs.Flags.{WaysStand, AllWanted}
+use Rattle.unwind.proofs.MemberLaws.{in-set}
 use Rattle.unwind.proofs.WantLaws.{hops-join, stand-flat, guard-set, flat-start, flat-next}
 use Rattle.unwind.proofs.wants.want_guarded.Statement.{statement}
 use Rattle.unwind.proofs.wants.want_guarded.Tie as tie
 
 abbrev Inv-loop : tie.InvT-loop
-Inv-loop g₀ h nodes edges heads landings roots guards n done₀ r₀ g done r =
+Inv-loop g₀ h nodes edges heads landings roots guards n blocks done₀ r₀ g done r =
     (r ≤ n) × AllWanted h g₀ done₀ (λ m ends. flat (guardWays m nodes edges ends heads landings roots guards) r) g done
 
 abbrev μ-loop : tie.MeasureT-loop
-μ-loop g₀ h nodes edges heads landings roots guards n done₀ r₀ g done r = n - r
+μ-loop g₀ h nodes edges heads landings roots guards n blocks done₀ r₀ g done r = n - r
 
 loop-holds : tie.Need-loop-holds Inv-loop μ-loop
 loop-holds c =
@@ -42,6 +43,8 @@ want-set-requires c κs =
       hops-join (top .inv .1 m ends .runs) (pre .1),
       omega arith,
       rw (c .before .before .before .before .before .number-in .ensures .0) (pre .3 .there (top .r) (c .before .before .before .before .before .before .loop-test .taken)),
+      rw (c .before .before .before .before .set-at .ensures) (λ b m. pre .5 (top .r) b (c .before .before .before .before .before .before .loop-test .taken) (in-set (a .guards .now) (top .r) b (omega (arith, c .before .before .before .before .before .before .loop-test .taken, pre .2)) ∙ m)),
+      pre .6,
     )
 
 loop-again : tie.Need-loop-again Inv-loop μ-loop

@@ -1,5 +1,5 @@
 -- `want_returned` meets its contract. The loop's invariant: what the nodes before i want is added. Assumes nothing.
-use mathlib.Core.Path.{_≡_, ap, subst}
+use mathlib.Core.Path.{_≡_, ap, _∙_, subst}
 use Prim.Native.Nat.{_-_, _≤_}
 use native.Mathlib.Omega.{arith}
 use borrow.Author.Needs.{needs}
@@ -7,16 +7,17 @@ use Rattle.graph.specs.Fold.{flat}
 use Rattle.unwind.specs.declared.tries.store.NodeRecord.{NodeRecord}
 use Rattle.unwind.specs.Wanted.{returnWays}
 use Rattle.unwind.specs.Flags.{WaysStand, AllWanted}
+use Rattle.unwind.proofs.MemberLaws.{in-set}
 use Rattle.unwind.proofs.WantLaws.{hops-join, stand-flat, return-set, flat-start, flat-next}
 use Rattle.unwind.proofs.wants.want_returned.Statement.{statement}
 use Rattle.unwind.proofs.wants.want_returned.Tie as tie
 
 abbrev Inv-loop : tie.InvT-loop
-Inv-loop g₀ h nodes edges heads landings bases parts returns n done₀ i₀ g done i =
+Inv-loop g₀ h nodes edges heads landings bases parts returns n blocks done₀ i₀ g done i =
     (i ≤ n) × AllWanted h g₀ done₀ (λ m ends. flat (returnWays m nodes edges ends heads landings bases parts returns) i) g done
 
 abbrev μ-loop : tie.MeasureT-loop
-μ-loop g₀ h nodes edges heads landings bases parts returns n done₀ i₀ g done i = n - i
+μ-loop g₀ h nodes edges heads landings bases parts returns n blocks done₀ i₀ g done i = n - i
 
 loop-holds : tie.Need-loop-holds Inv-loop μ-loop
 loop-holds c =
@@ -50,6 +51,8 @@ want-set-requires c κs =
       hops-join (top .inv .1 m ends .runs) (pre .1),
       rw base (pre .4 (top .i) (c .before .before .before .before .before .before .before .before .loop-test .taken)),
       pre .5 .there (top .i) (c .before .before .before .before .before .before .before .before .loop-test .taken),
+      rw (c .before .before .before .before .set-at2 .ensures) (λ b m. pre .7 (top .i) b (c .before .before .before .before .before .before .before .before .loop-test .taken) (in-set (a .returns .now) (top .i) b (omega (arith, c .before .before .before .before .before .before .before .before .loop-test .taken, pre .3)) ∙ m)),
+      pre .8,
     )
 
 add-i : tie.Need-add-i Inv-loop μ-loop
