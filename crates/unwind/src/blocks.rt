@@ -15,7 +15,7 @@ ghost use lib.Dec.{eqb, ltb};
 ghost use lib.ListN.{length};
 ghost use Rattle.graph.specs.Graph.{block};
 ghost use Rattle.graph.specs.Words.{heldIn};
-ghost use Rattle.graph.specs.Table.{below};
+ghost use Rattle.graph.specs.Table.{below, isStart};
 ghost use Rattle.graph.specs.Lookup.{Finds};
 ghost use Rattle.graph.specs.WellFormed.{Built};
 ghost use Rattle.addition.specs.Blocks.{firstOf, lastOf, leading};
@@ -48,17 +48,26 @@ pub fn position(g: &Words, a: u64) -> usize
 }
 
 // The position of the instruction that starts at a.
-pub fn find_start(g: &Words, a: u64) -> Found
+fn find_start(g: &Words, a: u64) -> Found
     requires { ⌜ Stands (heldIn (now g) .graph) ⌝ }
     ensures { λ r. ⌜ Finds (heldIn (now (g .entry)) .graph .table) a r ⌝ }
 {
     let p = position(g, a);
-    if p < table_count(g) {
-        if table_in(g, p).address == a {
-            return Found::At(p);
-        }
+    if is_start(g, p, a) {
+        return Found::At(p);
     }
     Found::Nothing
+}
+
+// Whether an instruction starts at a, whose position is p.
+pub fn is_start(g: &Words, p: usize, a: u64) -> bool
+    requires { ⌜ Stands (heldIn (now g) .graph) × (p ≡ below (heldIn (now g) .graph .table) a) ⌝ }
+    ensures { λ r. ⌜ r ≡ isStart (heldIn (now (g .entry)) .graph .table) a ⌝ }
+{
+    if table_count(g) <= p {
+        return false;
+    }
+    table_in(g, p).address == a
 }
 
 // How many of the built blocks begin before position p: the next one, if any, begins at p or behind it.
@@ -157,11 +166,17 @@ pub fn guarded_by(g: &Words, built: usize, start: u64, end: u64) -> [u64; 16]
     requires { ⌜ Stands (heldIn (now g) .graph) × Built (heldIn (now g) .graph) built ⌝ }
     ensures { λ r. ⌜ Guards (heldIn (now (g .entry)) .graph) start end r ⌝ }
 {
-    let first = block_from(g, built, position(g, start));
-    let past = block_from(g, built, position(g, end));
     let mut set = [0u64; 16];
-    for b in first..past {
-        if first_of(g, b).keeps == 1 {
+    if table_count(g) == 0 {
+        return set;
+    }
+    let first = block_from(g, built, position(g, start));
+    for b in first..built {
+        let entry = first_of(g, b);
+        if end <= entry.address {
+            return set;
+        }
+        if entry.keeps == 1 {
             put_in(&mut set, b);
         }
     }

@@ -1,12 +1,11 @@
 // The checks of an addition's routes, before anything is made of them: 10 to 12, 15 and 17.
 use crate::blocks::Lead;
 use crate::blocks::block_from;
-use crate::blocks::find_start;
+use crate::blocks::is_start;
 use crate::blocks::leading_block;
 use crate::blocks::position;
 use graph::error::AddressBuildError;
 use graph::error::Checked;
-use graph::found::Found;
 use graph::resume::resumes_late;
 use graph::store::Words;
 use graph::store::blocks::block_in;
@@ -18,7 +17,7 @@ use image::section::RouteLayout;
 ghost use mathlib.Core.Path.{_≡_};
 ghost use mathlib.Core.Bool.{_&&_};
 ghost use mathlib.Core.List.{List};
-ghost use Prim.Native.Nat.{_+_, _≤_};
+ghost use Prim.Native.Nat.{ℕ, _+_, _≤_};
 ghost use lib.Dec.{eqb, ltb};
 ghost use lib.ListN.{length};
 ghost use Rattle.image.specs.Image.{routesIn};
@@ -29,7 +28,7 @@ ghost use Rattle.graph.specs.Graph.{block};
 ghost use Rattle.graph.specs.Words.{heldIn};
 ghost use Rattle.graph.specs.Error.{checkOf};
 ghost use Rattle.graph.specs.Fold.{checks};
-ghost use Rattle.graph.specs.Table.{codeEnd, rangeCheck};
+ghost use Rattle.graph.specs.Table.{below, codeEnd, rangeCheck};
 ghost use Rattle.graph.specs.Route.{stepsBefore, Placed};
 ghost use Rattle.graph.specs.WellFormed.{Built};
 ghost use Rattle.unwind.specs.Stands.{Stands, routeOf};
@@ -74,14 +73,16 @@ fn check_route(
     let route = route_in(s, y.routes, r);
     let start = route.start;
     let end = route.end;
-    let found = check_range(g, code_end, start, end);
+    let first = position(g, start);
+    let past = position(g, end);
+    let found = check_range(g, code_end, start, end, first, past);
     let Checked::Clear = found else {
         return found;
     };
     if resumes_late(s, y, r, path, step) {
         return Checked::Refused(AddressBuildError::ResumeAfterFunclet { route: r });
     }
-    check_leads(g, built, start, end)
+    check_leads(g, built, first, past)
 }
 
 // 14 and 17 of an address that a node names: it starts a built block.
@@ -125,33 +126,39 @@ fn code_end(g: &Words) -> u64
     greatest
 }
 
-// 10 to 12 of a range.
-fn check_range(g: &Words, code_end: u64, start: u64, end: u64) -> Checked
-    requires { ⌜ Stands (heldIn (now g) .graph) × («code_end» ≡ codeEnd (heldIn (now g) .graph .table)) ⌝ }
+// 10 to 12 of a range, whose ends have the positions `first` and `past`.
+fn check_range(
+    g: &Words,
+    code_end: u64,
+    start: u64,
+    end: u64,
+    first: usize,
+    past: usize,
+) -> Checked
+    requires { ⌜ Stands (heldIn (now g) .graph) × («code_end» ≡ codeEnd (heldIn (now g) .graph .table)) × (first ≡ below (heldIn (now g) .graph .table) start) × (past ≡ below (heldIn (now g) .graph .table) end) ⌝ }
     ensures { λ r. ⌜ checkOf r ≡ rangeCheck (heldIn (now (g .entry)) .graph .table) start end ⌝ }
 {
     if end <= start {
         return Checked::Refused(AddressBuildError::EmptyProtectedRange { start, end });
     }
-    let Found::At(_) = find_start(g, start) else {
+    if !is_start(g, first, start) {
         return Checked::Refused(AddressBuildError::MissingRangeStart { address: start });
-    };
+    }
     if end == code_end {
         return Checked::Clear;
     }
-    let Found::At(_) = find_start(g, end) else {
-        return Checked::Refused(AddressBuildError::MissingRangeEnd { address: end });
-    };
-    Checked::Clear
+    if is_start(g, past, end) {
+        return Checked::Clear;
+    }
+    Checked::Refused(AddressBuildError::MissingRangeEnd { address: end })
 }
 
-// 17 of a range: the built blocks that its instructions lead stand one behind the other.
-fn check_leads(g: &Words, built: usize, start: u64, end: u64) -> Checked
-    requires { ⌜ Stands (heldIn (now g) .graph) × Built (heldIn (now g) .graph) built ⌝ }
-    ensures { λ r. ⌜ ((ps : List UnwindPath) → checkOf r ≡ checks (rangeLeads (heldIn (now (g .entry)) .graph) (routeOf start end ps)) (length (heldIn (now (g .entry)) .graph .table))) ⌝ }
+// 17 of a range whose ends have the positions `first` and `past`: the built blocks that its instructions lead stand one
+// behind the other.
+fn check_leads(g: &Words, built: usize, first: usize, past: usize) -> Checked
+    requires { ⌜ Stands (heldIn (now g) .graph) × Built (heldIn (now g) .graph) built × (past ≤ length (heldIn (now g) .graph .table)) ⌝ }
+    ensures { λ r. ⌜ ((start end : ℕ) → first ≡ below (heldIn (now (g .entry)) .graph .table) start → past ≡ below (heldIn (now (g .entry)) .graph .table) end → (ps : List UnwindPath) → checkOf r ≡ checks (rangeLeads (heldIn (now (g .entry)) .graph) (routeOf start end ps)) (length (heldIn (now (g .entry)) .graph .table))) ⌝ }
 {
-    let first = position(g, start);
-    let past = position(g, end);
     let mut b = block_from(g, built, first);
     for p in first..past {
         if !begins_at(g, built, b, p) {
