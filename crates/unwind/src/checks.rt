@@ -127,14 +127,7 @@ fn code_end(g: &Words) -> u64
 }
 
 // 10 to 12 of a range, whose ends have the positions `first` and `past`.
-fn check_range(
-    g: &Words,
-    code_end: u64,
-    start: u64,
-    end: u64,
-    first: usize,
-    past: usize,
-) -> Checked
+fn check_range(g: &Words, code_end: u64, start: u64, end: u64, first: usize, past: usize) -> Checked
     requires { ⌜ Stands (heldIn (now g) .graph) × («code_end» ≡ codeEnd (heldIn (now g) .graph .table)) × (first ≡ below (heldIn (now g) .graph .table) start) × (past ≡ below (heldIn (now g) .graph .table) end) ⌝ }
     ensures { λ r. ⌜ checkOf r ≡ rangeCheck (heldIn (now (g .entry)) .graph .table) start end ⌝ }
 {

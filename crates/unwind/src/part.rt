@@ -24,6 +24,7 @@ ghost use Rattle.image.specs.Image.{routesIn};
 ghost use Rattle.image.specs.Deal.{routesOf};
 ghost use Rattle.image.specs.Accepted.{AcceptedRoutes};
 ghost use Rattle.image.specs.There.{RoutesThere};
+ghost use Rattle.graph.specs.BlockSet.{none};
 ghost use Rattle.graph.specs.Graph.{edge};
 ghost use Rattle.graph.specs.Words.{heldIn};
 ghost use Rattle.graph.specs.Search.{Linked, Roomy, Follows};
@@ -49,26 +50,25 @@ fn is_ordinary(kind: u64) -> bool
     (kind != EXCEPTION_UNWIND) & (kind != CALL)
 }
 
-// The built blocks that start a funclet of the routes.
+// The built blocks that start a funclet of the routes, put into an empty set.
 pub fn funclet_entries(
     g: &Words,
     built: usize,
     hints: &[u16],
     s: &[u8],
     y: RouteLayout,
-) -> [u64; 16]
-    requires { ⌜ Stands (heldIn (now g) .graph) × Built (heldIn (now g) .graph) built × (0 < length (routesIn (now s) y .steps) → 0 < length (heldIn (now g) .graph .table)) × AcceptedRoutes (routesIn (now s) y) × RoutesThere (now s) y ⌝ }
-    ensures { λ r. ⌜ Barriers (heldIn (now (g .entry)) .graph) (routesOf (routesIn (now (s .entry)) y)) r ⌝ }
+    set: &mut [u64; 16],
+)
+    requires { ⌜ Stands (heldIn (now g) .graph) × Built (heldIn (now g) .graph) built × (0 < length (routesIn (now s) y .steps) → 0 < length (heldIn (now g) .graph .table)) × AcceptedRoutes (routesIn (now s) y) × RoutesThere (now s) y × (now set ≡ none) ⌝ }
+    ensures { λ _. ⌜ Barriers (heldIn (now (g .entry)) .graph) (routesOf (routesIn (now (s .entry)) y)) (now (set .exit)) ⌝ }
 {
     let n = y.steps.count as usize;
-    let mut set = [0u64; 16];
     for j in 0..n {
         let x = step_in(s, y.steps, j);
         if x.code == FUNCLET {
-            put_entry(g, built, hints, x.value, &mut set);
+            put_entry(g, built, hints, x.value, set);
         }
     }
-    set
 }
 
 // The built block that starts at a, put into the set.
@@ -111,20 +111,18 @@ fn returning(g: &Words, sources: &[u64; 16], b: usize) -> bool
     (flow == JUMP) & !has_in(sources, b)
 }
 
-// The blocks that return.
-pub fn returning_blocks(g: &Words) -> [u64; 16]
-    requires { ⌜ Stands (heldIn (now g) .graph) ⌝ }
-    ensures { λ r. ⌜ Returners (heldIn (now (g .entry)) .graph) r ⌝ }
+// The blocks that return, put into an empty set.
+pub fn returning_blocks(g: &Words, set: &mut [u64; 16])
+    requires { ⌜ Stands (heldIn (now g) .graph) × (now set ≡ none) ⌝ }
+    ensures { λ _. ⌜ Returners (heldIn (now (g .entry)) .graph) (now (set .exit)) ⌝ }
 {
     let sources = ordinary_sources(g);
     let n = block_count(g);
-    let mut set = [0u64; 16];
     for b in 0..n {
         if returning(g, &sources, b) {
-            put_in(&mut set, b);
+            put_in(set, b);
         }
     }
-    set
 }
 
 // The part of the funclet whose entry is block `start`, along edges that are linked by their source.

@@ -123,8 +123,10 @@ fn place(
     requires { ⌜ RoutesChecked (heldIn (now g)) built (routesIn (now s) y) × Roomy (heldIn (now g) .graph) (now head) (now next) × Linked (heldIn (now g) .graph) (now head) (now next) 0 × ((i : ℕ) → i < n → funcletCheck (heldIn (now g) .graph) (funcletAt (routesIn (now s) y) (now nodes) i) ≡ clear) × Slots n (now bases) (now heads) (now parts) (now returns) × Firsts (heldIn (now g) .graph) (routesIn (now s) y) (now nodes) (now firsts) 0 × (n ≤ 544) × RoutesThere (now s) y × (6 * n ≤ length (now nodes)) ⌝ }
     ensures { λ r. ⌜ PlacedAll (heldIn (now (g .entry)) .graph) (routesIn (now (s .entry)) y) (now (nodes .entry)) n (now (bases .exit)) (now (heads .exit)) (now (parts .exit)) (now (returns .exit)) (checkOf r) ⌝ }
 {
-    let barriers = funclet_entries(g, built, hints, s, y);
-    let returners = returning_blocks(g);
+    let mut barriers = [0u64; 16];
+    funclet_entries(g, built, hints, s, y, &mut barriers);
+    let mut returners = [0u64; 16];
+    returning_blocks(g, &mut returners);
     place_nodes(
         g,
         built,

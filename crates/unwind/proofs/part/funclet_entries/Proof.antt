@@ -16,13 +16,15 @@ use Rattle.unwind.proofs.part.funclet_entries.Statement.{statement}
 use Rattle.unwind.proofs.part.funclet_entries.Tie as tie
 
 abbrev Inv-loop : tie.InvT-loop
-Inv-loop g built hints s y n set₀ j₀ set j = (j ≤ n) × Entered (heldIn g .graph) (routesIn s y) j set
+Inv-loop g built hints s y set₀ n j₀ set j = (j ≤ n) × Entered (heldIn g .graph) (routesIn s y) j set
 
 abbrev μ-loop : tie.MeasureT-loop
-μ-loop g built hints s y n set₀ j₀ set j = n - j
+μ-loop g built hints s y set₀ n j₀ set j = n - j
 
 loop-holds : tie.Need-loop-holds Inv-loop μ-loop
-loop-holds c = (omega arith, entered-none (heldIn (c .before .before .before .args .g .now) .graph) (routesIn (c .before .before .before .args .s .now) (c .before .before .before .args .y)))
+loop-holds c =
+    let start = c .before .before .before in
+    (omega arith, rw (start .pre .5) (entered-none (heldIn (start .args .g .now) .graph) (routesIn (start .args .s .now) (start .args .y))))
 
 loop-again : tie.Need-loop-again Inv-loop μ-loop
 loop-again c =

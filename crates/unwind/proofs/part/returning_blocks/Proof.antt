@@ -12,13 +12,13 @@ use Rattle.unwind.proofs.part.returning_blocks.Statement.{statement}
 use Rattle.unwind.proofs.part.returning_blocks.Tie as tie
 
 abbrev Inv-loop : tie.InvT-loop
-Inv-loop g sources n set₀ b₀ set b = (b ≤ length (heldIn g .graph .blocks)) × ReturnersTo (heldIn g .graph) b set
+Inv-loop g set₀ sources n b₀ set b = (b ≤ length (heldIn g .graph .blocks)) × ReturnersTo (heldIn g .graph) b set
 
 abbrev μ-loop : tie.MeasureT-loop
-μ-loop g sources n set₀ b₀ set b = n - b
+μ-loop g set₀ sources n b₀ set b = n - b
 
 loop-holds : tie.Need-loop-holds Inv-loop μ-loop
-loop-holds c = (omega arith, returners-none _)
+loop-holds c = (omega arith, rw (c .before .before .pre .1) (returners-none _))
 
 add-b : tie.Need-add-b Inv-loop μ-loop
 add-b c = omega (arith, block-most (c .before .before .before .before .before .before .before .args .g .now))
