@@ -108,8 +108,11 @@ pub fn hint_blocks(g: &Words, built: usize, hints: &mut [u16])
 // The slot of an address among n hints.
 fn hint_slot(n: usize, a: u64) -> usize {
     let mixed = a % 0x100000000 * 0x9E3779B9;
-    if n < 128 {
+    if n < 64 {
         return (mixed / 0x10000000 % 16) as usize;
+    }
+    if n < 128 {
+        return (mixed / 0x4000000 % 64) as usize;
     }
     if n < 1024 {
         return (mixed / 0x2000000 % 128) as usize;

@@ -1,4 +1,4 @@
-// The frames of an addition: scratch of three sizes, zeroed for each call, so that a small addition does not pay for a large one.
+// The frames of an addition: scratch of four sizes, zeroed for each call, so that a small addition does not pay for a large one.
 use crate::add::AddedRoutes;
 use crate::add::run::add_tries;
 use crate::hops::Hops;
@@ -29,11 +29,14 @@ pub fn add_checked(
     if !is_small(g) {
         return add_full(g, built, s, y, h);
     }
-    if is_few(y, 8, 8, 4) {
+    if is_few(y, 6, 6, 2) {
         return add_tiny(g, built, s, y, h);
     }
-    if is_few(y, 64, 32, 8) {
+    if is_few(y, 32, 16, 4) {
         return add_small(g, built, s, y, h);
+    }
+    if is_few(y, 64, 32, 8) {
+        return add_middle(g, built, s, y, h);
     }
     add_full(g, built, s, y, h)
 }
@@ -52,26 +55,80 @@ fn is_few(y: RouteLayout, steps: u32, paths: u32, routes: u32) -> bool
     (y.steps.count <= steps) & (y.paths.count <= paths) & (y.routes.count <= routes)
 }
 
-// Few routes, to a small graph.
+// Very few routes, to a small graph.
 fn add_tiny(g: &mut Words, built: usize, s: &[u8], y: RouteLayout, h: &mut Hops) -> AddedRoutes
-    requires { ⌜ RoutesChecked (heldIn (now g)) built (routesIn (now s) y) × Few y 8 8 4 × Small (heldIn (now g) .graph) 64 256 × RoutesThere (now s) y ⌝ }
+    requires { ⌜ RoutesChecked (heldIn (now g)) built (routesIn (now s) y) × Few y 6 6 2 × Small (heldIn (now g) .graph) 64 256 × RoutesThere (now s) y ⌝ }
     ensures { λ r. ⌜ Adds (routesIn (now (s .entry)) y) (now (g .entry)) (now (g .exit)) (now (h .entry)) (now (h .exit)) r ⌝ }
 {
-    let mut starts = [0u16; 9];
-    let mut nodes = [0u16; 72];
-    let mut edges = [0u16; 24];
-    let mut ends = [0u16; 24];
-    let mut stack = [0u16; 24];
+    let mut starts = [0u16; 7];
+    let mut nodes = [0u16; 48];
+    let mut edges = [0u16; 18];
+    let mut ends = [0u16; 18];
+    let mut stack = [0u16; 18];
+    let mut roots = [0u16; 2];
+    let mut head = [0u16; 64];
+    let mut next = [0u16; 256];
+    let mut bases = [0u16; 8];
+    let mut heads = [0u16; 8];
+    let mut parts = [0u64; 128];
+    let mut returns = [0u64; 128];
+    let mut guards = [0u64; 32];
+    let mut landings = [0u16; 6];
+    let mut exits = [0u16; 72];
+    let stored = intern_routes(
+        s,
+        y,
+        &mut starts,
+        &mut nodes,
+        &mut edges,
+        &mut ends,
+        &mut stack,
+        &mut roots,
+    );
+    add_tries(
+        g,
+        built,
+        &mut stack,
+        s,
+        y,
+        h,
+        &nodes,
+        &edges,
+        &ends,
+        &roots,
+        stored,
+        &mut head,
+        &mut next,
+        &mut bases,
+        &mut heads,
+        &mut parts,
+        &mut returns,
+        &mut guards,
+        &mut landings,
+        &mut exits,
+    )
+}
+
+// Few of them.
+fn add_small(g: &mut Words, built: usize, s: &[u8], y: RouteLayout, h: &mut Hops) -> AddedRoutes
+    requires { ⌜ RoutesChecked (heldIn (now g)) built (routesIn (now s) y) × Few y 32 16 4 × Small (heldIn (now g) .graph) 64 256 × RoutesThere (now s) y ⌝ }
+    ensures { λ r. ⌜ Adds (routesIn (now (s .entry)) y) (now (g .entry)) (now (g .exit)) (now (h .entry)) (now (h .exit)) r ⌝ }
+{
+    let mut starts = [0u16; 17];
+    let mut nodes = [0u16; 216];
+    let mut edges = [0u16; 96];
+    let mut ends = [0u16; 48];
+    let mut stack = [0u16; 96];
     let mut roots = [0u16; 4];
     let mut head = [0u16; 64];
     let mut next = [0u16; 256];
-    let mut bases = [0u16; 12];
-    let mut heads = [0u16; 12];
-    let mut parts = [0u64; 192];
-    let mut returns = [0u64; 192];
+    let mut bases = [0u16; 36];
+    let mut heads = [0u16; 36];
+    let mut parts = [0u64; 576];
+    let mut returns = [0u64; 576];
     let mut guards = [0u64; 64];
-    let mut landings = [0u16; 8];
-    let mut exits = [0u16; 96];
+    let mut landings = [0u16; 16];
+    let mut exits = [0u16; 288];
     let stored = intern_routes(
         s,
         y,
@@ -107,7 +164,7 @@ fn add_tiny(g: &mut Words, built: usize, s: &[u8], y: RouteLayout, h: &mut Hops)
 }
 
 // More of them.
-fn add_small(g: &mut Words, built: usize, s: &[u8], y: RouteLayout, h: &mut Hops) -> AddedRoutes
+fn add_middle(g: &mut Words, built: usize, s: &[u8], y: RouteLayout, h: &mut Hops) -> AddedRoutes
     requires { ⌜ RoutesChecked (heldIn (now g)) built (routesIn (now s) y) × Few y 64 32 8 × Small (heldIn (now g) .graph) 64 256 × RoutesThere (now s) y ⌝ }
     ensures { λ r. ⌜ Adds (routesIn (now (s .entry)) y) (now (g .entry)) (now (g .exit)) (now (h .entry)) (now (h .exit)) r ⌝ }
 {

@@ -10,6 +10,9 @@ add-tiny-requires c κs = (c .before .before .before .before .before .before .be
 add-small-requires : tie.Need-add-small-requires
 add-small-requires c κs = (c .before .before .before .before .before .before .before .before .before .before .pre .0, c .before .before .before .is-few2 .ensures (c .before .before .if3 .taken), c .before .before .before .before .before .before .before .is-small .ensures (not-false _ (c .before .before .before .before .before .before .if1 .left)), search needs)
 
+add-middle-requires : tie.Need-add-middle-requires
+add-middle-requires c κs = (c .before .before .before .before .before .before .before .before .before .before .before .before .pre .0, c .before .before .before .is-few3 .ensures (c .before .before .if4 .taken), c .before .before .before .before .before .before .before .before .before .is-small .ensures (not-false _ (c .before .before .before .before .before .before .before .before .if1 .left)), search needs)
+
 pub add-checked-spec : {M : Type 1} → statement M
 add-checked-spec =
     tie.close
@@ -22,6 +25,9 @@ add-checked-spec =
     (λ c. search needs)
     (λ c κs. search needs)
     add-small-requires
+    (λ c. search needs)
+    (λ c κs. search needs)
+    add-middle-requires
     (λ c. search needs)
     (λ c κs. search needs)
     (λ c. search needs))

@@ -1,4 +1,4 @@
--- The lengths are those of a frame for 8 steps, 8 paths and 4 routes. Assumes nothing.
+-- The lengths are those of a frame for 6 steps, 6 paths and 2 routes. Assumes nothing.
 use mathlib.Core.Path.{refl}
 use native.Mathlib.Omega.{arith}
 use Rattle.graph.specs.Words.{heldIn}
@@ -11,7 +11,7 @@ intern-routes-requires : tie.Need-intern-routes-requires
 intern-routes-requires c κs =
     let start = c .before .before .before .before .before .before .before in
     let a = start .args in
-    (start .pre .0 .accepted, scratched (a .s .now) (a .y) 8 8 4 (start .pre .1) refl refl refl refl refl refl, search needs)
+    (start .pre .0 .accepted, scratched (a .s .now) (a .y) 6 6 2 (start .pre .1) refl refl refl refl refl refl, search needs)
 
 add-tries-requires : tie.Need-add-tries-requires
 add-tries-requires c κs =
@@ -19,7 +19,7 @@ add-tries-requires c κs =
     let a = start .args in
     let tries = c .before .before .before .before .before .before .before .before .before .before .before .before .before .before .before .before .before .before .before .before .before .before .intern-routes in
     let kept = tries .kept .1 .1 .1 in
-    (start .pre .0, tries .ensures, roomed (a .s .now) (a .y) 8 8 4 (start .pre .1) (heldIn (a .g .now) .graph) 64 256 (start .pre .2) (omega arith) (omega arith) (omega arith) (tries .ensures) (kept .0) (kept .1 .0) (kept .1 .1 .0) refl refl refl refl refl refl refl refl refl refl refl, search needs)
+    (start .pre .0, tries .ensures, roomed (a .s .now) (a .y) 6 6 2 (start .pre .1) (heldIn (a .g .now) .graph) 64 256 (start .pre .2) (omega arith) (omega arith) (omega arith) (tries .ensures) (kept .0) (kept .1 .0) (kept .1 .1 .0) refl refl refl refl refl refl refl refl refl refl refl, search needs)
 
 pub add-tiny-spec : {M : Type 1} → statement M
 add-tiny-spec =
