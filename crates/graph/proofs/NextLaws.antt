@@ -3,7 +3,7 @@
 --     next-here, rest-none     what is left of the word that a block stands in
 --     leftFrom, left-all       a set without the blocks below one; left-long, left-in, left-out
 --     left-lowest, left-none   its lowest block is the lowest from there on
---     left-next                what is left behind that
+--     left-next, left-less     what is left behind that
 -- Assumes nothing.
 use mathlib.Core.Path.{_≡_, refl, sym, ap, _∙_}
 use mathlib.Core.Bool.{Bool, true, false, not, _&&_}
@@ -16,10 +16,10 @@ use lib.Count.{trailingZeros}
 use lib.Dec.{eqb}
 use lib.ListN.{length, getD}
 use lib.Pow.{shr-shr}
-use Rattle.graph.specs.BlockSet.{member, excluding, LowestOf, LowestFrom}
+use Rattle.graph.specs.BlockSet.{member, excluding, sizeOf, LowestOf, LowestFrom}
 use Rattle.graph.specs.declared.blockset.Lowest.the-variants.{At, Nothing}
 use Rattle.graph.proofs.Bit.{bit, bit-shift, bit-zero, bit-below, trailing-bit}
-use Rattle.graph.proofs.BlockLaws.{member-at, excluding-none, member-excluding, length-excluding}
+use Rattle.graph.proofs.BlockLaws.{member-at, excluding-none, member-excluding, length-excluding, size-excluding}
 
 -- a block past all that there are
 pub none-past : (w : List ℕ) (past : ℕ) → ((b : ℕ) → member w b ≡ true → b < past) → (c : ℕ) → past ≤ c → member w c ≡ false
@@ -116,3 +116,6 @@ module _ (w : List ℕ) (long : length w ≡ 16) where
       same (suc d) h =
           let more : n + suc d ≡ suc (n + d) = omega arith in
           rw more (excluding-none (leftFrom w (n + d)) (n + d) (left-in (n + d) (n + d) (omega arith) ∙ low .2 (n + d) (omega arith) (omega arith)) ∙ same d (omega arith))
+
+  pub left-less : (n b : ℕ) → LowestFrom w n (At b) → sizeOf (leftFrom w (b + 1)) < sizeOf (leftFrom w n)
+  left-less n b low = let at = left-lowest n b low in rw (left-next n b low) (omega (arith, size-excluding (leftFrom w n) (left-long n) b (at .0) (at .1)))

@@ -93,6 +93,7 @@ pub fn block_from(g: &Words, built: usize, p: usize) -> usize
 pub fn hint_blocks(g: &Words, built: usize, hints: &mut [u16])
     requires { ⌜ Stands (heldIn (now g) .graph) × Built (heldIn (now g) .graph) built ⌝ }
 {
+    // The block of an empty table has no address.
     if table_count(g) == 0 {
         return;
     }

@@ -5,8 +5,7 @@ use borrow.Author.Needs.{needs}
 use lib.ListN.{length}
 use Rattle.graph.specs.BlockSet.{sizeOf}
 use Rattle.graph.proofs.RecordLaws.{block-most}
-use Rattle.graph.proofs.BlockLaws.{size-excluding}
-use Rattle.graph.proofs.NextLaws.{leftFrom, left-all, left-long, left-lowest, left-none, left-next}
+use Rattle.graph.proofs.NextLaws.{leftFrom, left-all, left-lowest, left-none, left-next, left-less}
 use Rattle.unwind.proofs.StoodLaws.{linked-kept, SetGoing, set-start, set-next, set-end}
 use Rattle.unwind.proofs.clones.copy_edges.Statement.{statement}
 use Rattle.unwind.proofs.clones.copy_edges.Tie as tie
@@ -47,11 +46,8 @@ copy-from-requires c κs =
 
 loop-less : tie.Need-loop-less Inv-loop μ-loop
 loop-less c =
-    let set = c .before .before .before .before .before .before .before .before .before .before .before .before .args .set .now in
     let top = c .before .before .before .before .before .before .loop in
-    let low = rw (c .before .before .before .b .given .1) at (c .before .before .before .before .before .next-in .ensures) in
-    let at = left-lowest set (top .inv .0) (top .from) _ low in
-    rw (left-next set (top .inv .0) (top .from) _ low) (omega (arith, size-excluding (leftFrom set (top .from)) (left-long set (top .inv .0) (top .from)) _ (at .0) (at .1)))
+    left-less (c .before .before .before .before .before .before .before .before .before .before .before .before .args .set .now) (top .inv .0) (top .from) _ (rw (c .before .before .before .b .given .1) at (c .before .before .before .before .before .next-in .ensures))
 
 loop-again : tie.Need-loop-again Inv-loop μ-loop
 loop-again c =

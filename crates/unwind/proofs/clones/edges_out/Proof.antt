@@ -8,8 +8,7 @@ use lib.ListN.{length}
 use Rattle.graph.specs.Words.{heldIn}
 use Rattle.graph.specs.BlockSet.{member, sizeOf}
 use Rattle.graph.proofs.RecordLaws.{block-most, edge-most}
-use Rattle.graph.proofs.BlockLaws.{size-excluding}
-use Rattle.graph.proofs.NextLaws.{leftFrom, left-all, left-long, left-lowest, left-none, left-next}
+use Rattle.graph.proofs.NextLaws.{leftFrom, left-all, left-long, left-lowest, left-none, left-next, left-less}
 use Rattle.addition.specs.Lists.{joined}
 use Rattle.addition.specs.Part.{outgoing}
 use Rattle.unwind.specs.Clones.{listOf}
@@ -58,11 +57,8 @@ add-count c =
 
 loop-less : tie.Need-loop-less Inv-loop μ-loop
 loop-less c =
-    let set = c .before .before .before .before .before .before .before .before .before .before .args .set .now in
     let top = c .before .before .before .before .before .loop in
-    let low = rw (c .before .before .b .given .1) at (c .before .before .before .before .next-in .ensures) in
-    let at = left-lowest set (top .inv .0) (top .from) _ low in
-    rw (left-next set (top .inv .0) (top .from) _ low) (omega (arith, size-excluding (leftFrom set (top .from)) (left-long set (top .inv .0) (top .from)) _ (at .0) (at .1)))
+    left-less (c .before .before .before .before .before .before .before .before .before .before .args .set .now) (top .inv .0) (top .from) _ (rw (c .before .before .b .given .1) at (c .before .before .before .before .next-in .ensures))
 
 loop-again : tie.Need-loop-again Inv-loop μ-loop
 loop-again c =

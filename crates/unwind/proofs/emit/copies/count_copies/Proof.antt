@@ -5,8 +5,7 @@ use native.Mathlib.Omega.{arith}
 use lib.ListN.{length}
 use Rattle.image.specs.Image.{routesIn}
 use Rattle.graph.specs.BlockSet.{sizeOf}
-use Rattle.graph.proofs.BlockLaws.{size-excluding}
-use Rattle.graph.proofs.NextLaws.{leftFrom, left-all, left-long, left-lowest, left-none, left-next}
+use Rattle.graph.proofs.NextLaws.{leftFrom, left-all, left-lowest, left-none, left-next, left-less}
 use Rattle.addition.specs.Ways.{Hop}
 use Rattle.unwind.specs.Placed.{setAt}
 use Rattle.unwind.specs.Sizes.{HopsSize}
@@ -80,10 +79,7 @@ sizes-both-requires c κs =
 loop-less : tie.Need-loop-less Inv-loop μ-loop
 loop-less c =
     let a = c .before .before .before .before .before .before .before .before .before .before .before .before .before .before .before .before .before .before .before .before .before .before .before .before .args in
-    let top = c .before .before .before .before .before .before .before .before .before .before .before .before .loop in
-    let next = rw (c .before .before .before .before .before .before .before .before .before .before .before .before .before .set-at2 .ensures) at (rw (c .before .before .before .before .before .before .before .before .o .given .1) at (c .before .before .before .before .before .before .before .before .before .before .next-in .ensures)) in
-    let low = left-lowest (setAt (a .returns .now) (a .i)) (set-long (a .returns .now) (a .i)) (top .from) _ next in
-    rw (left-next (setAt (a .returns .now) (a .i)) (set-long (a .returns .now) (a .i)) (top .from) _ next) (omega (arith, size-excluding (leftFrom (setAt (a .returns .now) (a .i)) (top .from)) (left-long (setAt (a .returns .now) (a .i)) (set-long (a .returns .now) (a .i)) (top .from)) _ (low .0) (low .1)))
+    left-less (setAt (a .returns .now) (a .i)) (set-long (a .returns .now) (a .i)) (c .before .before .before .before .before .before .before .before .before .before .before .before .loop .from) _ (rw (c .before .before .before .before .before .before .before .before .before .before .before .before .before .set-at2 .ensures) at (rw (c .before .before .before .before .before .before .before .before .o .given .1) at (c .before .before .before .before .before .before .before .before .before .before .next-in .ensures)))
 
 loop-again : tie.Need-loop-again Inv-loop μ-loop
 loop-again c =
