@@ -2,7 +2,7 @@
 --     region-count, handler-count     how many there are
 --     regions-most                    no more regions than handlers
 --     region-is, handler-is           region r and handler h
---     parent-most, parents-exist      a region has one parent at most, and that is a region
+--     parents-exist                   a parent of a region is a region
 --     set-within                      a set of blocks below n is within n
 --     entry-clear                     a handler that passed has an entry
 --     region-blocks-exist             a region's blocks, and a handler's entry, are blocks
@@ -93,13 +93,6 @@ module _ (m : Image) where
       go true before = inr (n, omega arith, refl)
       go false (inl e) = inl e
       go false (inr (j, h, e)) = inr (j, omega arith, e)
-
-  pub parent-most : (r n : ℕ) → length (parentBelow m r n) ≤ 1
-  parent-most r n = go (parent-is r n)
-    where
-      go : (parentBelow m r n ≡ []) ⊎ ((j : ℕ) × (j < n) × (parentBelow m r n ≡ j ∷ [])) → length (parentBelow m r n) ≤ 1
-      go (inl e) = rw e (omega arith)
-      go (inr p) = rw (p .2) (omega arith)
 
   parent-exists : (r n : ℕ) → (eqb (length (parentBelow m r n)) 0 || ltb (getD (parentBelow m r n) 0 0) n) ≡ true
   parent-exists r n = go (parent-is r n)

@@ -23,9 +23,9 @@ pub record RoutesThere (l : List ℕ) (y : RouteLayout) : Type 0 where
   pub steps-there : Holds l (y .steps) 9
 
 -- those of routes that were read
-abbrev pub ReadThere : List ℕ → ReadRoutes → Type 0
-ReadThere l (Routed y) = RoutesThere l y
-ReadThere l (NotRouted e) = Unit {0}
+abbrev pub RoutesReadThere : List ℕ → ReadRoutes → Type 0
+RoutesReadThere l (Routed y) = RoutesThere l y
+RoutesReadThere l (NotRouted e) = Unit {0}
 
 -- all of the eight sections of an image
 pub record ImageThere (l : List ℕ) (y : Layout) : Type 0 where

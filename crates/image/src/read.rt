@@ -19,7 +19,7 @@ ghost use mathlib.Core.Path.{_≡_};
 ghost use Prim.Native.Nat.{_<_};
 ghost use Rattle.image.specs.Read.{readImage, readRoutes};
 ghost use Rattle.image.specs.Scanned.{PairRead, CodeRead, RoutesRead, imageAnswer, routesAnswer};
-ghost use Rattle.image.specs.There.{ReadThere, ImageReadThere};
+ghost use Rattle.image.specs.There.{RoutesReadThere, ImageReadThere};
 
 // A section and that of its children, where this one ends, and how many children it has in turn.
 pub enum ReadPair {
@@ -75,7 +75,7 @@ pub fn read_image(s: &[u8]) -> ReadImage
 }
 
 pub fn read_routes(s: &[u8]) -> ReadRoutes
-    ensures { λ r. ⌜ (routesAnswer (now (s .entry)) r ≡ readRoutes (now (s .entry))) × ReadThere (now (s .entry)) r ⌝ }
+    ensures { λ r. ⌜ (routesAnswer (now (s .entry)) r ≡ readRoutes (now (s .entry))) × RoutesReadThere (now (s .entry)) r ⌝ }
 {
     let routes = match read_route_sections(s, 0, true) {
         ReadRoutes::Refused(e) => return ReadRoutes::Refused(e),
