@@ -6,7 +6,7 @@
 --     left-next, left-less     what is left behind that
 -- Assumes nothing.
 use mathlib.Core.Path.{_≡_, refl, sym, ap, _∙_}
-use mathlib.Core.Bool.{Bool, true, false, not, _&&_}
+use mathlib.Core.Bool.{Bool, true, false}
 use mathlib.Core.List.{List}
 use Prim.Native.Nat.{ℕ, zero, suc, _+_, _-_, _*_, _/_, _%_, _^_, _≤_, _<_}
 use native.Mathlib.Decide.{decLt, ℕ-discrete}
@@ -39,7 +39,7 @@ module _ (w : List ℕ) (n : ℕ) where
   rest-at : (k : ℕ) → n % 64 + k < 64 → member w (n + k) ≡ eqb (bit (getD w (n / 64) 0 / 2 ^ (n % 64)) k) 1
   rest-at k h =
       let place : n + k ≡ 64 * (n / 64) + (n % 64 + k) = omega arith in
-      rw (place) (member-at w (n / 64) (n % 64 + k) h) ∙ ap (λ (d : ℕ). eqb d 1) (sym (bit-rest (getD w (n / 64) 0) (n % 64) k))
+      rw place (member-at w (n / 64) (n % 64 + k) h) ∙ ap (λ (d : ℕ). eqb d 1) (sym (bit-rest (getD w (n / 64) 0) (n % 64) k))
 
   pub rest-none : getD w (n / 64) 0 / 2 ^ (n % 64) ≡ 0 → (c : ℕ) → n ≤ c → c < 64 * (n / 64 + 1) → member w c ≡ false
   rest-none z c ge lt =

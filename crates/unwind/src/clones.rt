@@ -53,7 +53,7 @@ pub fn clone_edge_count(
 
 // How many edges go out of the blocks of a set.
 fn edges_out(g: &Words, head: &[u16], next: &[u16], set: &[u64; 16]) -> usize
-    requires { ⌜ Ends (heldIn (now g) .graph) × Roomy (heldIn (now g) .graph) (now head) (now next) × Linked (heldIn (now g) .graph) (now head) (now next) 0 × ((b : ℕ) → member (now set) b ≡ true → b < length (now head)) × ((b : ℕ) → member (now set) b ≡ true → b < length (heldIn (now g) .graph .blocks)) ⌝ }
+    requires { ⌜ Ends (heldIn (now g) .graph) × Roomy (heldIn (now g) .graph) (now head) (now next) × Linked (heldIn (now g) .graph) (now head) (now next) 0 × ((b : ℕ) → member (now set) b ≡ true → b < length (heldIn (now g) .graph .blocks)) ⌝ }
     ensures { λ r. ⌜ (r ≡ length (joined (outgoing (heldIn (now (g .entry)) .graph)) (listOf (now (set .entry))))) × (r ≤ 4194304) ⌝ }
 {
     sixteen(set);
@@ -107,7 +107,7 @@ pub fn add_clone_edges(
 
 // Adds those of the edges out of the blocks of a set, of which the first is copied as block `base`. The first m edges are linked.
 fn copy_edges(g: &mut Words, m: usize, head: &[u16], next: &[u16], base: usize, set: &[u64; 16])
-    requires { ⌜ LinkedTo (heldIn (now g) .graph) m (now head) (now next) × (base < 65536) × ((b : ℕ) → member (now set) b ≡ true → b < length (now head)) × ((b : ℕ) → member (now set) b ≡ true → b < length (heldIn (now g) .graph .blocks)) ⌝ }
+    requires { ⌜ LinkedTo (heldIn (now g) .graph) m (now head) (now next) × (base < 65536) × ((b : ℕ) → member (now set) b ≡ true → b < length (heldIn (now g) .graph .blocks)) ⌝ }
     ensures { λ _. ⌜ Added (now (g .entry)) (now (g .exit)) (joined (λ b. map (copyOf base (now (set .entry))) (outgoing (firstEdges (heldIn (now (g .entry)) .graph) m) b)) (listOf (now (set .entry)))) [] [] ⌝ }
 {
     sixteen(set);

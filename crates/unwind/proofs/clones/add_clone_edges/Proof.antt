@@ -35,7 +35,6 @@ copy-edges-requires c κs =
     let same = ap length (blocks-stay (top .inv .1)) in (
       linked-kept (top .inv .1) _ (a .head .now) (a .next .now) (rw (c .before .before .before .before .before .before .before .edge-count .ensures) (linked-start g (a .head .now) (a .next .now) (pre .0) (pre .1) (pre .2))),
       c .before .before .before .before .number-in .ensures .1,
-      rw (c .before .before .set-at .ensures) (λ b m. omega (arith, pre .4 .stand (top .i) b test m, pre .1 .blocks)),
       rw (c .before .before .set-at .ensures) (λ b m. let stands : b < length (heldIn (top .g) .graph .blocks) = omega (arith, same, pre .4 .stand (top .i) b test m) in stands),
     )
 

@@ -28,7 +28,7 @@ edges-out-requires c κs =
     let pre = c .before .before .before .before .before .before .before .before .before .before .pre in
     let top = c .before .before .before .before .before .loop in
     let test = c .before .before .before .before .loop-test .taken in
-    (pre .0, pre .1, pre .2, rw (c .before .set-at .ensures) (λ b m. omega (arith, pre .5 .stand (top .i) b test m, pre .1 .blocks)), rw (c .before .set-at .ensures) (λ b m. pre .5 .stand (top .i) b test m))
+    (pre .0, pre .1, pre .2, rw (c .before .set-at .ensures) (λ b m. pre .5 .stand (top .i) b test m))
 
 add-count : tie.Need-add-count Inv-loop μ-loop
 add-count c = omega (arith, c .before .before .before .before .before .before .loop .inv .1, c .edges-out .ensures .1, c .before .before .before .before .before .before .before .before .before .before .before .pre .3)

@@ -6,6 +6,7 @@ use lib.ListN.{length}
 use Rattle.graph.specs.BlockSet.{sizeOf}
 use Rattle.graph.proofs.RecordLaws.{block-most}
 use Rattle.graph.proofs.NextLaws.{leftFrom, left-all, left-lowest, left-none, left-next, left-less}
+use Rattle.unwind.specs.Clones.{firstEdges}
 use Rattle.unwind.proofs.StoodLaws.{linked-kept, SetGoing, set-start, set-next, set-end}
 use Rattle.unwind.proofs.clones.copy_edges.Statement.{statement}
 use Rattle.unwind.proofs.clones.copy_edges.Tie as tie
@@ -26,7 +27,7 @@ next-in-requires : tie.Need-next-in-requires Inv-loop μ-loop
 next-in-requires c κs =
     let start = c .before .before .before .before .before .before in
     let all = c .before .block-count .ensures in
-    (omega (arith, all, block-most (start .args .g .now)), λ b m. omega (arith, all, start .pre .3 b m))
+    (omega (arith, all, block-most (start .args .g .now)), λ b m. omega (arith, all, start .pre .2 b m))
 
 returns : tie.Need-returns Inv-loop μ-loop
 returns c =
@@ -38,11 +39,12 @@ add-from : tie.Need-add-from Inv-loop μ-loop
 add-from c = let low = rw (c .before .b .given .1) at (c .before .before .before .next-in .ensures) in omega (arith, low .0)
 
 copy-from-requires : tie.Need-copy-from-requires Inv-loop μ-loop
+unfolding firstEdges
 copy-from-requires c κs =
     let start = c .before .before .before .before .before .before .before .before .before .before .before in
     let a = start .args in
     let low = rw (c .before .before .b .given .1) at (c .before .before .before .before .next-in .ensures) in
-    (linked-kept (c .before .before .before .before .before .loop .inv .1 .added) (a .m) (a .head .now) (a .next .now) (start .pre .0), start .pre .1, start .pre .2 _ (low .1))
+    (linked-kept (c .before .before .before .before .before .loop .inv .1 .added) (a .m) (a .head .now) (a .next .now) (start .pre .0), start .pre .1, omega (arith, start .pre .2 _ (low .1), start .pre .0 .roomy .blocks))
 
 loop-less : tie.Need-loop-less Inv-loop μ-loop
 loop-less c =

@@ -30,7 +30,7 @@ next-in-requires : tie.Need-next-in-requires Inv-loop μ-loop
 next-in-requires c κs =
     let start = c .before .before .before .before .before in
     let all = c .before .block-count .ensures in
-    (omega (arith, all, block-most (start .args .g .now)), λ b m. omega (arith, all, start .pre .4 b m))
+    (omega (arith, all, block-most (start .args .g .now)), λ b m. omega (arith, all, start .pre .3 b m))
 
 returns : tie.Need-returns Inv-loop μ-loop
 returns c =
@@ -47,7 +47,7 @@ out-degree-requires : tie.Need-out-degree-requires Inv-loop μ-loop
 out-degree-requires c κs =
     let pre = c .before .before .before .before .before .before .before .before .before .pre in
     let low = rw (c .before .b .given .1) at (c .before .before .before .next-in .ensures) in
-    (pre .0, pre .1, pre .2, pre .3 _ (low .1))
+    (pre .0, pre .1, pre .2, omega (arith, pre .3 _ (low .1), pre .1 .blocks))
 
 add-count : tie.Need-add-count Inv-loop μ-loop
 add-count c =
