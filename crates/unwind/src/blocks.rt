@@ -93,7 +93,7 @@ pub fn block_from(g: &Words, built: usize, p: usize) -> usize
 pub fn hint_blocks(g: &Words, built: usize, hints: &mut [u16])
     requires { ⌜ Stands (heldIn (now g) .graph) × Built (heldIn (now g) .graph) built ⌝ }
 {
-    // The block of an empty table has no address.
+    // The block of an empty table has no first instruction.
     if table_count(g) == 0 {
         return;
     }
@@ -171,6 +171,7 @@ pub fn guarded_by(g: &Words, built: usize, start: u64, end: u64) -> [u64; 16]
     ensures { λ r. ⌜ Guards (heldIn (now (g .entry)) .graph) start end r ⌝ }
 {
     let mut set = [0u64; 16];
+    // The block of an empty table has no first instruction.
     if table_count(g) == 0 {
         return set;
     }

@@ -15,13 +15,13 @@ want-guarded-requires c κs =
     let a = start .args in
     let m = routesIn (a .s .now) (a .y) in
     let count = length-records routeFrom (a .s .now) (a .y .routes) in (
-      (m, a .ends .now, lent-stand m (a .nodes .now) (a .edges .now) (a .ends .now) (a .heads .now) (a .landings .now) (a .roots .now) (a .guards .now) (a .bases .now) (a .parts .now) (a .returns .now) (a .y .routes .count) (a .stored .nodes) (a .h .now) (rw count at (start .pre .5)) .0),
+      (m, a .ends .now, lent-stand m (a .nodes .now) (a .edges .now) (a .ends .now) (a .heads .now) (a .landings .now) (a .roots .now) (a .guards .now) (a .bases .now) (a .parts .now) (a .returns .now) (a .y .routes .count) (a .stored .nodes) (a .h .now) (rw count at (start .pre .3)) .0),
       start .pre .0,
-      omega (arith, count, start .pre .1),
-      record { there = λ r h. node-there m (a .nodes .now) (a .edges .now) (a .ends .now) (a .roots .now) (a .stored) (start .pre .6) (a .heads .now) (a .landings .now) (start .pre .7) (start .pre .8) _ (start .pre .6 .roots-in r (omega (arith, count, h))) },
-      omega (arith, count, roots-fit m (a .nodes .now) (a .edges .now) (a .ends .now) (a .roots .now) (a .stored) (start .pre .6)),
-      λ r b h. start .pre .10 .guards-below r b (omega (arith, count, h)),
-      start .pre .11,
+      omega (arith, count, start .pre .8 .guards-fit),
+      record { there = λ r h. node-there m (a .nodes .now) (a .edges .now) (a .ends .now) (a .roots .now) (a .stored) (start .pre .4) (a .heads .now) (a .landings .now) (start .pre .5) (start .pre .6) _ (start .pre .4 .roots-in r (omega (arith, count, h))) },
+      omega (arith, count, roots-fit m (a .nodes .now) (a .edges .now) (a .ends .now) (a .roots .now) (a .stored) (start .pre .4)),
+      λ r b h. start .pre .8 .guards-below r b (omega (arith, count, h)),
+      start .pre .9,
     )
 
 want-returned-requires : tie.Need-want-returned-requires
@@ -30,15 +30,15 @@ want-returned-requires c κs =
     let a = start .args in
     let m = routesIn (a .s .now) (a .y) in
     let count = length-records routeFrom (a .s .now) (a .y .routes) in (
-      (m, a .ends .now, lent-stand m (a .nodes .now) (a .edges .now) (a .ends .now) (a .heads .now) (a .landings .now) (a .roots .now) (a .guards .now) (a .bases .now) (a .parts .now) (a .returns .now) (a .y .routes .count) (a .stored .nodes) (a .h .now) (rw count at (start .pre .5)) .1),
+      (m, a .ends .now, lent-stand m (a .nodes .now) (a .edges .now) (a .ends .now) (a .heads .now) (a .landings .now) (a .roots .now) (a .guards .now) (a .bases .now) (a .parts .now) (a .returns .now) (a .y .routes .count) (a .stored .nodes) (a .h .now) (rw count at (start .pre .3)) .1),
       hops-join (c .before .before .want-guarded .ensures m (a .ends .now) .runs) (start .pre .0),
+      start .pre .1,
+      start .pre .8 .returns-fit,
       start .pre .2,
-      start .pre .3,
-      start .pre .4,
-      record { there = node-there m (a .nodes .now) (a .edges .now) (a .ends .now) (a .roots .now) (a .stored) (start .pre .6) (a .heads .now) (a .landings .now) (start .pre .7) (start .pre .8) },
+      record { there = node-there m (a .nodes .now) (a .edges .now) (a .ends .now) (a .roots .now) (a .stored) (start .pre .4) (a .heads .now) (a .landings .now) (start .pre .5) (start .pre .6) },
+      start .pre .7,
+      start .pre .8 .returns-below,
       start .pre .9,
-      start .pre .10 .returns-below,
-      start .pre .11,
     )
 
 returns : tie.Need-returns

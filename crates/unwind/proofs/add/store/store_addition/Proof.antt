@@ -36,9 +36,7 @@ add-route-edges-requires c κs =
     let x = start .pre .0 in
     let l = all-lent w m x in (
       joins-stood w m x (c .before .before .before .before .add-clone-edges .ensures) (start .pre .1) (c .before .before .add-clone-blocks .ensures) (c .before .before .before .before .before .before .before .before .add-hops .ensures),
-      x .instances .guards-fit,
       x .instances .slots .parts-fit,
-      x .instances .slots .returns-fit,
       l .5 .few,
       hops-lent w m x (c .before .before .before .before .before .before .before .before .add-hops .ensures),
       x .instances .trie,
