@@ -4,23 +4,22 @@
 --     bit-or, bit-xor         a digit of an or, and of an exclusive or
 --     bit-power-same, -other  the digits of a power of two
 --     ones-bits, ones-none    `count_ones` counts the digits
---     ones-split              those of the lowest k digits, and those above
+--     ones-low                and those of the lowest k digits
 --     trailing-bit            `trailing_zeros` finds the lowest digit that is set
 --     bit-below               the digits of a number below a power of two
 -- Assumes nothing.
 use mathlib.Core.Path.{_≡_, refl, sym, ap, _∙_}
 use mathlib.Core.Bool.{Bool}
 use Prim.Native.Nat.{ℕ, zero, suc, _+_, _*_, _/_, _%_, _^_, _≤_, _<_, max, suc-le-suc}
-use native.Mathlib.Nat.{one-mul, pow-suc, not-suc-le-zero, div-le-self}
-use native.Mathlib.Numerals.{one-add}
+use native.Mathlib.Nat.{one-mul, pow-suc, not-suc-le-zero, mod-lt}
+use native.Mathlib.Numerals.{one-add, add-one}
 use native.Mathlib.Omega.{arith}
-use borrow.Author.Tests.{ne-eqb}
 use lib.Dec.{eqb, lit<}
-use lib.Pow.{shr-shr, shl-exact}
+use lib.Pow.{shr-shr, shl-exact, pow-pos, field, mod-mod-pow}
 use lib.Bits.{bitOr, bitXor, differ, or-step, xor-step}
 use lib.Count.{ones, ones-step, trailingZeros, under}
 use Rattle.graph.specs.Fold.{count}
-use Rattle.graph.proofs.FoldLaws.{count-add, count-same, count-none}
+use Rattle.graph.proofs.FoldLaws.{count-add, count-same}
 
 unfoldable pub bit : ℕ → ℕ → ℕ
 bit x zero = x % 2
@@ -112,17 +111,16 @@ pub ones-none : ones 0 ≡ 0
 unfolding count
 ones-none = ones-bits 0 0 (omega arith)
 
-bit-shifted : (x k j : ℕ) → bit (x / 2 ^ k) j ≡ bit x (k + j)
-bit-shifted x k j = sym (bit-shift (x / 2 ^ k) j) ∙ ap (λ (n : ℕ). n % 2) (shr-shr x k j) ∙ bit-shift x (k + j)
+bit-low : (x k j : ℕ) → j < k → bit (x % 2 ^ k) j ≡ bit x j
+unfolding bit
+bit-low x zero j h = absurd (not-suc-le-zero h)
+bit-low x (suc k) zero h = ap (λ (n : ℕ). x % 2 ^ n % 2) (sym (add-one k)) ∙ mod-mod-pow x k 1
+bit-low x (suc k) (suc j) h = ap (λ (n : ℕ). bit n j) (ap (λ (n : ℕ). x % 2 ^ n / 2) (sym (add-one k)) ∙ field x k 1) ∙ bit-low (x / 2) k j (omega arith)
 
-pub ones-split : (x k : ℕ) → x < 2 ^ 64 → ones x ≡ count (λ (j : ℕ). eqb (bit x j) 1) k + ones (x / 2 ^ k)
-ones-split x k h =
-    let f : ℕ → Bool = λ j. eqb (bit x j) 1 in
-    let shifted : x / 2 ^ k < 2 ^ 64 = omega (arith, div-le-self x (2 ^ k)) in
-    let high = ones-bits 64 (x / 2 ^ k) shifted ∙ count-same _ (λ (j : ℕ). f (k + j)) 64 (λ j lt. ap (λ (n : ℕ). eqb n 1) (bit-shifted x k j)) in
-    let past = count-none (λ (j : ℕ). f (64 + j)) k (λ j lt. ne-eqb (bit x (64 + j)) 1 (omega (arith, bit-below 64 x (64 + j) h (omega arith)))) in
-    let turn : k + 64 ≡ 64 + k = omega arith in
-    omega (arith, ones-bits 64 x h, high, past, count-add f k 64, count-add f 64 k, ap (count f) turn)
+pub ones-low : (x k : ℕ) → ones (x % 2 ^ k) ≡ count (λ (j : ℕ). eqb (bit x j) 1) k
+ones-low x k =
+    ones-bits k (x % 2 ^ k) (mod-lt x (pow-pos k))
+    ∙ count-same _ (λ (j : ℕ). eqb (bit x j) 1) k (λ j lt. ap (λ (n : ℕ). eqb n 1) (bit-low x k j lt))
 
 -- ---- the lowest digit that is set
 

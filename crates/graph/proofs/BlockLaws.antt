@@ -5,7 +5,7 @@
 --     size-including, size-excluding       how many blocks there are then; size-le
 --     including-past, excluding-is         what a store writes
 --     Ored, Anded, size-more, lowest-from, lowest-is, none-more    a word more of a loop
---     ones-past, rank-more, rank-all       how many blocks are below one
+--     rank-more, rank-all     how many blocks are below one
 --     zero-below, shift-below, word-below     a set's blocks are below n
 -- Assumes nothing.
 use mathlib.Core.Path.{_≡_, refl, sym, ap, ap₂, _∙_}
@@ -28,7 +28,7 @@ use Rattle.graph.specs.BlockSet.{member, none, including, excluding, Uni
 use Rattle.graph.specs.WellFormed.{within}
 use Rattle.graph.specs.declared.blockset.Lowest.the-variants.{At}
 use Rattle.graph.proofs.FoldLaws.{count-same, count-none, count-add, count-one, count-le}
-use Rattle.graph.proofs.Bit.{bit, bit-shift, bit-lt, bit-zero, bit-or, bit-xor, bit-power-same, bit-power-other, ones-bits, ones-none, ones-split, trailing-bit}
+use Rattle.graph.proofs.Bit.{bit, bit-shift, bit-lt, bit-zero, bit-or, bit-xor, bit-power-same, bit-power-other, ones-bits, ones-low, trailing-bit}
 
 -- digit b of the set
 abbrev digit : List ℕ → ℕ → ℕ
@@ -239,20 +239,14 @@ module _ (w : List ℕ) (i : ℕ) where
     pub lowest-is : i < 16 → (getD w i 0 ≡ 0 → ⊥) → ((c : ℕ) → 0 ≤ c → c < 64 * i → member w c ≡ false) → LowestOf w (At (64 * i + trailingZeros 64 (getD w i 0)))
     lowest-is h ne below = let low = lowest-from 0 (omega arith) h ne below in (low .0, low .1, λ c lt. low .2 c (omega arith) lt)
 
--- the blocks below k of a word's, of which those past the word are none
-pub ones-past : (x k : ℕ) → x < 2 ^ 64 → 64 ≤ k → ones (x / 2 ^ k) ≡ 0
-ones-past x k h le = ap ones (div-eq-of-lt (omega (arith, pow-mono {i = 64} {j = k} le))) ∙ ones-none
-
-pub rank-more : (w : List ℕ) (i k : ℕ) → getD w i 0 < 2 ^ 64 → count (member w) (64 * i + min k 64) ≡ count (member w) (64 * i) + (ones (getD w i 0) - ones (getD w i 0 / 2 ^ k))
-rank-more w i k fits =
+-- the blocks below the one of digit k of a word
+pub rank-more : (w : List ℕ) (i k : ℕ) → k < 64 → getD w i 0 < 2 ^ 64 → count (member w) (64 * i + k) ≡ count (member w) (64 * i) + ones (getD w i 0 % 2 ^ k)
+rank-more w i k lt fits =
     let v : ℕ = getD w i 0 in
-    let here = count-add (member w) (64 * i) (min k 64) in
-    let digits = count-same (λ (j : ℕ). member w (64 * i + j)) (λ (j : ℕ). eqb (bit v j) 1) (min k 64) (λ j h. member-at w i j (omega arith)) in
-    elim (decLt k 64) [
-      | yes lt ↦ let m : min k 64 ≡ k = omega arith in omega (arith, here, digits, ones-split v k fits, ap (count (λ (j : ℕ). eqb (bit v j) 1)) m)
-      | no ge ↦ let m : min k 64 ≡ 64 = omega arith in omega (arith, here, digits, ones-bits 64 v fits, ap (count (λ (j : ℕ). eqb (bit v j) 1)) m, ones-past v k fits (omega arith))
-    ]
+    let digits = count-same (λ (j : ℕ). member w (64 * i + j)) (λ (j : ℕ). eqb (bit v j) 1) k (λ j h. member-at w i j (omega arith)) in
+    omega (arith, count-add (member w) (64 * i) k, digits, ones-low v k)
 
+-- and those of a set, which has none past its words
 pub rank-all : (w : List ℕ) → length w ≡ 16 → (b : ℕ) → count (member w) (min b 1024) ≡ count (member w) b
 rank-all w long b =
     elim (decLt b 1024) [

@@ -1,7 +1,7 @@
 // Sets of blocks, of which there are 1,024: block b is bit b % 64 of word b / 64. No other module looks into a set's words.
 ghost use mathlib.Core.Path.{_≡_};
 ghost use mathlib.Core.Bool.{true};
-ghost use Prim.Native.Nat.{ℕ, _-_, _*_, _/_, _^_, _≤_, _<_};
+ghost use Prim.Native.Nat.{ℕ, _-_, _*_, _/_, _%_, _^_, _≤_, _<_};
 ghost use lib.Count.{ones, trailingZeros};
 ghost use lib.Dec.{ltb};
 ghost use lib.ListN.{length};
@@ -116,18 +116,20 @@ pub fn size_of(w: &[u64; 16]) -> usize
     n
 }
 
-// How many blocks are below b.
+// How many blocks are below b. Most words of a set have none.
 pub fn rank_in(w: &[u64; 16], b: usize) -> usize
     ensures { λ r. ⌜ r ≡ count (member (now (w .entry))) b ⌝ }
 {
     sixteen(w);
     let mut n = 0;
     for i in 0..16 {
-        let before = 64 * i;
-        if b <= before {
-            return n;
+        let word = w[i];
+        if b / 64 == i {
+            return n + ones_below(word, b % 64);
         }
-        n += ones_below(w[i], b - before);
+        if word != 0 {
+            n += ones_of(word);
+        }
     }
     n
 }
@@ -178,12 +180,10 @@ fn ones_of(word: u64) -> usize
 
 // How many of the lowest k digits are ones.
 fn ones_below(word: u64, k: usize) -> usize
-    ensures { λ r. ⌜ (r ≡ ones word - ones (word / 2 ^ k)) × (r ≤ 64) × (word < 2 ^ 64) ⌝ }
+    requires { ⌜ k < 64 ⌝ }
+    ensures { λ r. ⌜ (r ≡ ones (word % 2 ^ k)) × (r ≤ 64) × (word < 2 ^ 64) ⌝ }
 {
-    if k < 64 {
-        return ones_of(word) - ones_of(word >> k);
-    }
-    ones_of(word)
+    ones_of(word % (1 << k))
 }
 
 // The digits from digit k on.
