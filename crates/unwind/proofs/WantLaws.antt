@@ -11,13 +11,14 @@
 --     SetWanting, wanting-start, wanting-stands, wanting-next, wanting-end     the blocks of a set
 --     outOf, set-ways, guard-set, return-set     those of a route, and of a node
 --     flat-start, flat-next        one route, or one node, more
+--     over-wants                   a node that is over wants nothing
 --     place-same, place-copy       where a node has a block
 --     lent-stand, lent-wants       all ways of an addition
 -- Assumes nothing.
 use mathlib.Core.Path.{_≡_, refl, sym, ap, ap₂, _∙_, subst}
 use mathlib.Core.Bool.{Bool, true, false, _||_}
 use mathlib.Core.List.{List, [], _∷_, _++_, map, append-nil, append-assoc, map-append, List·Memᴰ·head, List·Memᴰ·tail, Memᴰ·append-left, Memᴰ·append-right, Memᴰ·cast}
-use Prim.Native.Nat.{ℕ, zero, suc, _+_, _<_, Ordering·lt}
+use Prim.Native.Nat.{ℕ, zero, suc, _+_, _≤_, _<_, Ordering·lt}
 use native.Mathlib.Decide.{ℕ-discrete}
 use native.Mathlib.Numerals.{add-one}
 use native.Mathlib.Omega.{arith}
@@ -52,7 +53,7 @@ use Rattle.unwind.specs.Entries.{endIn}
 use Rattle.unwind.specs.Gather.{exitTo, edgeExits, endNumber, endExits, recordExits}
 use Rattle.unwind.specs.HopWords.{hopRows, hopRow, rowsIn, rowHop, rowHops, hopsIn}
 use Rattle.unwind.specs.Wanted.{wayOf, placeIn, recordWays, guardWays, returnWays, lentWays}
-use Rattle.unwind.specs.Flags.{pair, leapTo, wayTo, rowLeap, leapAt, HopsRise, HopIs, HopStands, HopsJoin, WaysStand, Flags, FlagSet, seenWith, SameRuns, EdgesWanted, placeOf, setWays}
+use Rattle.unwind.specs.Flags.{pair, leapTo, wayTo, rowLeap, leapAt, HopsRise, HopIs, HopStands, HopsJoin, WaysStand, Flags, FlagSet, seenWith, SameRuns, EdgesWanted, placeOf, setWays, Over}
 use Rattle.addition.proofs.Lists.{or-left, none-in, mem-map, map-mem, mem-joined, mem-flat, mem-getD}
 use Rattle.addition.proofs.Order.{exact-leaps, mem-sorted, sorted-mem}
 use Rattle.unwind.proofs.Rising.{Rising, rising-sorted, total-leaps}
@@ -390,6 +391,46 @@ module _ {h g₀ : List ℕ} {done₀ : List ℕ} (f : ℕ → List Way) where
 
   pub flat-next : {g g′ : List ℕ} {done done′ : List ℕ} (k : ℕ) → EdgesWanted h g₀ done₀ (flat f k) g done → EdgesWanted h g done (f k) g′ done′ → EdgesWanted h g₀ done₀ (flat f (k + 1)) g′ done′
   flat-next k a b = rw (flat-more f k) (wants-then a b)
+
+-- ---- a node that is over
+
+module _ (h g done : List ℕ) where
+  none-joined : (f : ℕ → List Way) → ((o : ℕ) → EdgesWanted h g done (f o) g done) → (l : List ℕ) → EdgesWanted h g done (joined f l) g done
+  unfolding joined
+  none-joined f none [] = wants-none h g done
+  none-joined f none (o ∷ l) = wants-then (none o) (none-joined f none l)
+
+  module _ (m : RouteImage) (nodes edges ends heads landings : List ℕ) (i : ℕ) (over : Over nodes landings i) where
+    abbrev node : NodeRecord
+    node = recordIn nodes i
+
+    over-edges : (r b : ℕ) → EdgesWanted h g done (map (wayOf r) (edgeExits m b edges heads (node .«first_edge») (node .edges))) g done
+    unfolding edgeExits table
+    over-edges r b = rw (over .edgeless) (wants-none h g done)
+
+    over-number : (b k : ℕ) → k < node .ends → endNumber b landings (node .«first_end» + k) ≡ 65535
+    unfolding endNumber
+    over-number b k lt = rw (over .leaves k lt)
+
+    -- its first k ends
+    over-ends : (r b k : ℕ) → k ≤ node .ends → EdgesWanted h g done (map (wayOf r) (endExits m b ends landings (node .«first_end») k)) g done
+    unfolding endExits table
+    over-ends r b zero le = wants-none h g done
+    over-ends r b (suc k) le =
+        rw (add-one k) at
+        (want-next m r b (λ j. branchIn ends (node .«first_end» + j)) (λ j. endNumber b landings (node .«first_end» + j)) k 65535
+        (sym (over-number b k (omega arith)))
+        (over-ends r b k (omega arith))
+        (want-leave h g done r b 65535 refl))
+
+    pub over-wants : (bases parts returns : List ℕ) → EdgesWanted h g done (returnWays m nodes edges ends heads landings bases parts returns i) g done
+    unfolding returnWays
+    over-wants bases parts returns =
+        none-joined (λ o. recordWays m nodes edges ends heads landings (node .route) (placeIn bases parts i o) node)
+        (λ o. let b = placeIn bases parts i o in record-wants m nodes edges ends heads landings (node .route) b node node refl (over-edges (node .route) b) (over-ends (node .route) b (node .ends) (omega arith)))
+        (listOf (setAt returns i))
+
+-- ---- where a node has a block
 
 module _ (base : ℕ) (part : List ℕ) (o : ℕ) where
   pub place-same : base ≡ 0 → o ≡ placeOf base part o

@@ -5,7 +5,7 @@ use mathlib.Core.Bool.{true, cond}
 use mathlib.Core.List.{List, [], _∷_}
 use Prim.Native.Nat.{ℕ, _+_, _<_, Ordering·lt}
 use lib.Dec.{eqb}
-use lib.ListN.{length}
+use lib.ListN.{length, getD}
 use Rattle.image.specs.Image.{RouteImage}
 use Rattle.graph.specs.Graph.{Graph, block as blockAt}
 use Rattle.graph.specs.Words.{heldIn}
@@ -116,3 +116,8 @@ placeOf base part o = cond (eqb base 0) o (base + count (member part) o)
 unfoldable pub setWays : RouteImage → List ℕ → List ℕ → List ℕ → List ℕ → List ℕ → ℕ → ℕ → ℕ → List ℕ → List ℕ → List Way
 setWays m nodes edges ends heads landings i r base part set =
     joined (λ o. recordWays m nodes edges ends heads landings r (placeOf base part o) (recordIn nodes i)) (listOf set)
+
+-- node i has no edges, and all its ends leave, so it wants nothing
+pub record Over (nodes landings : List ℕ) (i : ℕ) : Type 0 where
+  pub edgeless : recordIn nodes i .edges ≡ 0
+  pub leaves : (k : ℕ) → k < recordIn nodes i .ends → getD landings (recordIn nodes i .«first_end» + k) 0 ≡ 65535

@@ -44,7 +44,7 @@ ghost use Rattle.unwind.specs.Routed.{TriesIn};
 ghost use Rattle.unwind.specs.HopWords.{hopsIn};
 ghost use Rattle.unwind.specs.Members.{BlockSets};
 ghost use Rattle.unwind.specs.Wanted.{wayOf, recordWays, guardWays, returnWays, lentWays, RunsFit};
-ghost use Rattle.unwind.specs.Flags.{leapTo, wayTo, HopsRise, HopStands, HopsJoin, SomeStand, EdgesWanted, AllWanted, placeOf, setWays};
+ghost use Rattle.unwind.specs.Flags.{leapTo, wayTo, HopsRise, HopStands, HopsJoin, SomeStand, EdgesWanted, AllWanted, placeOf, setWays, Over};
 
 const ROUTE: u64 = 10;
 
@@ -158,26 +158,47 @@ fn want_returned(
     ensures { λ _. ⌜ AllWanted (now (h .entry)) (now (g .entry)) (now (done .entry)) (λ m ends. flat (returnWays m (now (nodes .entry)) (now (edges .entry)) ends (now (heads .entry)) (now (landings .entry)) (now (bases .entry)) (now (parts .entry)) (now (returns .entry))) n) (now (g .exit)) (now (done .exit)) ⌝ }
 {
     for i in 0..n {
-        let r = node_in(nodes, i).route;
-        let base = number_in(bases, i);
-        let part = set_at(parts, i);
-        let set = set_at(returns, i);
-        want_set(
-            g,
-            h,
-            nodes,
-            edges,
-            heads,
-            landings,
-            i,
-            r,
-            base,
-            &part,
-            &set,
-            blocks,
-            done,
-        );
+        if !is_over(nodes, landings, i) {
+            let r = node_in(nodes, i).route;
+            let base = number_in(bases, i);
+            let part = set_at(parts, i);
+            let set = set_at(returns, i);
+            want_set(
+                g,
+                h,
+                nodes,
+                edges,
+                heads,
+                landings,
+                i,
+                r,
+                base,
+                &part,
+                &set,
+                blocks,
+                done,
+            );
+        }
     }
+}
+
+// Whether node i wants nothing: it has no edges, and all its ends leave.
+fn is_over(nodes: &[u16], landings: &[u16], i: usize) -> bool
+    requires { ⌜ (6 * i + 6 ≤ length (now nodes)) × (recordIn (now nodes) i .«first_end» + recordIn (now nodes) i .ends ≤ length (now landings)) ⌝ }
+    ensures { λ r. ⌜ (r ≡ true → Over (now (nodes .entry)) (now (landings .entry)) i) ⌝ }
+{
+    let node = node_in(nodes, i);
+    if node.edges != 0 {
+        return false;
+    }
+    let first = node.first_end;
+    let n = node.ends;
+    for k in 0..n {
+        if number_in(landings, first + k) != LEAVE {
+            return false;
+        }
+    }
+    true
 }
 
 // What node i wants for route r out of the blocks of a set, all below `blocks`; where `base` is not 0, out of the copies that
