@@ -5,6 +5,7 @@ pub mod Trie
 pub mod Intern
 pub mod Sound
 pub mod Closure
+pub mod Named
 pub mod Instance
 pub mod NewEdges
 pub mod After

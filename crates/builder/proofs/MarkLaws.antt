@@ -13,7 +13,6 @@
 --     eqb-comm                      a test that is turned
 --     no-handlers, no-routes        where there are none
 --     leading                       all collectors, one after the other
---     not-clear                     what is refused is not clear
 -- Assumes nothing.
 use mathlib.Core.Path.{_≡_, refl, sym, ap, _∙_}
 use mathlib.Core.Bool.{Bool, true, false, _&&_, _||_, or-true, or-false, and-true, and-false, or-assoc}
@@ -30,7 +29,7 @@ use lib.ListN.{length, getD, set, replicate, getD-replicate}
 use lib.Seq.{getD-set-same, getD-set-other}
 use Rattle.image.specs.Record.{instructionFrom, handlerFrom, routeFrom}
 use Rattle.image.specs.Image.{Image, imageIn, routesIn}
-use Rattle.image.specs.Refusal.{Refusal, Check, clear, refused}
+use Rattle.image.specs.Refusal.{clear}
 use Rattle.image.specs.declared.section.Layout.{Layout}
 use Rattle.image.specs.Deal.{UnwindRoute}
 use Rattle.image.proofs.Tables.{length-records}
@@ -192,6 +191,3 @@ leading l y passed code handlers routed p h =
     in-order false false false true u h r = refl
     in-order false false false false true h r = sym (or-true (h || r))
     in-order false false false false false h r = sym (or-false (h || r))
-
-pub not-clear : {c : Check} {r : Refusal} → c ≡ refused r → c ≡ clear → ⊥
-not-clear e f = let z : _≡_ {A = ℕ} 0 1 = cc in omega arith

@@ -2,6 +2,7 @@
 --     checks-more, checks-stop     one check more, where nothing was refused before it
 --     then-left, then-right        what is clear in a row is clear by itself; unless-clear, field-clear, byte-clear likewise
 --     checks-each                  so is each of n checks
+--     not-clear                    what is refused is not clear
 --     field-there                  the bytes of a field that is clear are there
 --     there-fits                   the bytes of a field that may hold anything are there,
 --     there-good, there-not        and a field that must be good is bad alone, or refused likewise
@@ -102,3 +103,6 @@ product a b ha hb =
     let p : a ≤ 4294967295 = omega arith in
     let q : b ≤ 4294967295 = omega arith in
     le-trans (mul-le-mul-left a q) (mul-le-mul-right 4294967295 p)
+
+pub not-clear : {c : Check} {r : Refusal} → c ≡ refused r → c ≡ clear → ⊥
+not-clear e f = let z : _≡_ {A = ℕ} 0 1 = cc in omega arith

@@ -4,16 +4,19 @@
 --     endsCheck, node-checks       of a node: its funclet, then its ends
 --     node-check                   of a node in scratch
 --     funclets-lead                where all nodes are clear, each funclet leads a block
+--     entered-none, entered-more   the entries of the nodes before one
 -- Assumes nothing.
 use mathlib.Core.Path.{_≡_, refl, sym, ap, _∙_}
 use mathlib.Core.Bool.{Bool, true, false, cond}
 use mathlib.Core.List.{List, [], _∷_, map}
 use Prim.Native.Nat.{ℕ, zero, suc, _+_, _-_, _<_}
 use native.Mathlib.Nat.{not-suc-le-zero, le-of-suc-le-suc}
+use native.Mathlib.Decide.{ℕ-discrete}
 use native.Mathlib.Omega.{arith}
 use borrow.Author.Tests.{eq-eqb, ne-eqb}
 use lib.Dec.{eqb}
-use lib.ListN.{length, getD, length-map}
+use lib.ListN.{length, getD, set, length-map}
+use lib.Seq.{getD-set-same, getD-set-other}
 use Rattle.image.specs.Refusal.{Check, clear, _then_}
 use Rattle.image.specs.Image.{RouteImage}
 use Rattle.image.specs.Deal.{UnwindEnd, propagate, resume, endOf}
@@ -28,7 +31,8 @@ use Rattle.unwind.specs.declared.tries.store.Branch.{Branch}
 use Rattle.addition.specs.Order.{Tagged, tagged}
 use Rattle.unwind.specs.Nodes.{branchIn, branches, stepIn, pathRecord, funcletIn, endAt, recordIn, nodeIn, nodesIn}
 use Rattle.addition.specs.Trie.{nodeAt}
-use Rattle.unwind.specs.Placed.{funcletAt}
+use Rattle.unwind.specs.Placed.{funcletAt, Entered}
+use Rattle.addition.specs.Instance.{entryBlock}
 use Rattle.addition.specs.Add.{leadCheck, funcletCheck, endCheck, nodeCheck}
 use Rattle.unwind.proofs.TrieNodes.{node-of}
 
@@ -84,3 +88,19 @@ module _ (g : Graph) where
       pub funclets-lead : (nodes : List ℕ) (n : ℕ) → checks (λ i. nodeCheck g (nodeAt (nodesIn m nodes edges ends n) i)) n ≡ clear → (i : ℕ) → i < n → funcletCheck g (funcletAt m nodes i) ≡ clear
       funclets-lead nodes n passed i h =
           then-left _ _ (sym (node-check nodes n i h ∙ node-checks (recordIn nodes i)) ∙ checks-each (λ i. nodeCheck g (nodeAt (nodesIn m nodes edges ends n) i)) n i passed h)
+
+-- ---- entries
+
+module _ (g : Graph) (m : RouteImage) (nodes entries : List ℕ) where
+  pub entered-none : Entered g m nodes entries 0
+  entered-none = record { enters = λ i h. absurd (not-suc-le-zero h) }
+
+  pub entered-more : (i : ℕ) → i < length entries → Entered g m nodes entries i → Entered g m nodes (set entries i (entryBlock g (funcletAt m nodes i))) (i + 1)
+  entered-more i h old =
+      record {
+        enters = λ j lt.
+            elim (ℕ-discrete j i) [
+              | yes same ↦ rw same (getD-set-same entries i _ 0 h)
+              | no ne ↦ getD-set-other entries i j _ 0 ne ∙ old .enters j (omega arith)
+            ];
+      }

@@ -35,8 +35,8 @@ use Rattle.addition.specs.Blocks.{blockIn, blockOf, leading}
 use Rattle.unwind.specs.Stands.{Has}
 use Rattle.addition.specs.Part.{funclets, round, rounds, part, returning}
 use Rattle.unwind.specs.PartSearch.{Barriers, PartFrom}
-use Rattle.addition.specs.Trie.{Node, nodeAt, sameFunclet}
-use Rattle.unwind.specs.Nodes.{stepIn, funcletIn, nodeIn, nodesIn}
+use Rattle.addition.specs.Trie.{Node, sameFunclet}
+use Rattle.unwind.specs.Nodes.{stepIn, funcletIn, nodesIn}
 use Rattle.addition.specs.Instance.{entryBlock, partOf, blocksOf, later, copied, base, entryOf, cloneBlocks}
 use Rattle.addition.specs.Add.{funcletCheck}
 use Rattle.addition.specs.Walk.{_∈_}
@@ -46,7 +46,7 @@ use Rattle.addition.proofs.Accepted.{lead-begins}
 use Rattle.addition.proofs.Instance.{place-first, place-later, copied-later}
 use Rattle.unwind.proofs.Sets.{none-kept, Rises, part-kept, size-has, rank-has}
 use Rattle.unwind.proofs.CloneLaws.{rank-few}
-use Rattle.unwind.proofs.TrieNodes.{length-nodes, node-of}
+use Rattle.unwind.proofs.TrieNodes.{length-nodes, funclet-at}
 
 -- ---- the funclet of a node
 
@@ -180,6 +180,10 @@ sizes-kept {i} {b} {e} {bases = bases} {entries = entries} p =
       returns-long = p .returns-put .long;
     }
 
+entries-rest : {i b e : ℕ} {w r bases entries parts returns bases′ entries′ parts′ returns′ : List ℕ} → NodePlaced i b e w r bases entries parts returns bases′ entries′ parts′ returns′
+    → (j : ℕ) → i < j → getD entries′ j 0 ≡ getD entries j 0
+entries-rest {i} {b} {e} {entries = entries} p j h = rw (p .entries-set) (getD-set-other entries i j e 0 (λ same. omega arith))
+
 module _ (g : Graph) (m : RouteImage) (nodes edges ends : List ℕ) (n : ℕ) where
   abbrev z : List Node
   z = nodesIn m nodes edges ends n
@@ -187,17 +191,13 @@ module _ (g : Graph) (m : RouteImage) (nodes edges ends : List ℕ) (n : ℕ) wh
   abbrev fs′ : List ℕ
   fs′ = funclets (routesOf m)
 
-  funclet-at : (i : ℕ) → i < n → nodeAt z i .funclet ≡ funcletAt m nodes i
-  unfolding nodeAt nodeIn
-  funclet-at i h = ap (λ (x : Node). x .funclet) (node-of m nodes edges ends n i _ h)
-
   blocks-at : (i : ℕ) → i < n → blocksOf g fs′ z i ≡ partOf g fs′ (funcletAt m nodes i)
   unfolding blocksOf
-  blocks-at i h = ap (partOf g fs′) (funclet-at i h)
+  blocks-at i h = ap (partOf g fs′) (funclet-at m nodes edges ends n i h)
 
   later-at : (i : ℕ) → i < n → later g fs′ z i ≡ any (like m nodes i) i
   unfolding later
-  later-at i h = some-same _ _ i (λ j lt. ap₂ sameFunclet (funclet-at j (omega arith)) (funclet-at i h))
+  later-at i h = some-same _ _ i (λ j lt. ap₂ sameFunclet (funclet-at m nodes edges ends n j (omega arith)) (funclet-at m nodes edges ends n i h))
 
   base-next : (i : ℕ) → base g fs′ z (i + 1) ≡ base g fs′ z i + length (copied g fs′ z i)
   unfolding base
@@ -239,11 +239,11 @@ module _ (g : Graph) (m : RouteImage) (nodes edges ends : List ℕ) (n : ℕ) wh
 
   entry-original : (i : ℕ) → i < n → later g fs′ z i ≡ false → entryBlock g (funcletAt m nodes i) ≡ entryOf g fs′ z i
   unfolding entryOf
-  entry-original i h first = ap (entryBlock g) (sym (funclet-at i h)) ∙ sym (place-first g (routesOf m) z i _ first)
+  entry-original i h first = ap (entryBlock g) (sym (funclet-at m nodes edges ends n i h)) ∙ sym (place-first g (routesOf m) z i _ first)
 
   entry-copy : (i : ℕ) → i < n → later g fs′ z i ≡ true → entryOf g fs′ z i ≡ base g fs′ z i + rank (entryBlock g (funcletAt m nodes i)) (partOf g fs′ (funcletAt m nodes i))
   unfolding entryOf
-  entry-copy i h is = place-later g (routesOf m) z i _ is ∙ ap₂ (λ (o : Option ℕ) (l : List ℕ). base g fs′ z i + rank (entryBlock g o) l) (funclet-at i h) (blocks-at i h)
+  entry-copy i h is = place-later g (routesOf m) z i _ is ∙ ap₂ (λ (o : Option ℕ) (l : List ℕ). base g fs′ z i + rank (entryBlock g o) l) (funclet-at m nodes edges ends n i h) (blocks-at i h)
 
   -- the first node with the funclet of node i
   module _ (i j : ℕ) (h : i < n) (lt : j < i) (alike : funcletAt m nodes j ≡ funcletAt m nodes i) (none-before : any (like m nodes i) j ≡ false) where
@@ -279,6 +279,7 @@ module _ (g : Graph) (m : RouteImage) (nodes : List ℕ) (i : ℕ) (bases entrie
       record {
         few = omega arith;
         sizes = sizes-kept (p .placed);
+        rest = entries-rest (p .placed);
         next = λ edges ends n h is old.
             let first = later-at g m nodes edges ends n i h ∙ f in
             let blocks = blocks-at g m nodes edges ends n i h in
@@ -301,6 +302,7 @@ module _ (g : Graph) (m : RouteImage) (nodes : List ℕ) (i : ℕ) (bases entrie
         record {
           few = rw size (count-le (member w) 1024);
           sizes = sizes-kept p;
+          rest = entries-rest p;
           next = λ edges ends n h is old.
               let hr : r < n = omega arith in
               let is-later = later-at g m nodes edges ends n i h ∙ some-at (like m nodes i) i r lt same in

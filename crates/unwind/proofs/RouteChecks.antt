@@ -6,31 +6,29 @@
 --     lead-all                     all instructions of the range lead theirs
 --     pathsAt                      the paths of a route
 --     route-checks                 10 to 12, 15 and 17 of a route of an image
---     table-some, table-stepped    where a route passes there is an instruction, and so where a route has a step
 -- Assumes nothing.
-use mathlib.Core.Path.{_≡_, refl, sym, ap, _∙_}
-use mathlib.Core.Bool.{Bool, true, false, cond, not, _||_, and-false}
+use mathlib.Core.Path.{_≡_, refl, ap}
+use mathlib.Core.Bool.{Bool, true, false, cond, not, and-false}
 use mathlib.Core.List.{List, [], map}
 use Prim.Native.Nat.{ℕ, _+_, _≤_, _<_}
 use native.Mathlib.Decide.{decLt, ℕ-discrete}
 use native.Mathlib.Omega.{arith}
 use borrow.Author.Tests.{lt-ltb, le-ltb, lt-leb, le-leb}
-use lib.Dec.{eqb, leb, ltb}
+use lib.Dec.{leb}
 use lib.ListN.{length, getD}
-use Rattle.image.specs.Record.{routeFrom, pathFrom}
+use Rattle.image.specs.Record.{routeFrom}
 use Rattle.image.specs.Refusal.{clear, refused, refusal, _then_, unless, checks}
 use Rattle.image.specs.Image.{RouteImage}
-use Rattle.image.specs.Deal.{total, deal, UnwindPath, UnwindRoute, pathsOf, routesOf}
-use Rattle.image.specs.Accepted.{AcceptedRoutes}
+use Rattle.image.specs.Deal.{deal, UnwindPath, UnwindRoute, pathsOf, routesOf}
 use Rattle.image.specs.declared.record.Route.{Route}
-use Rattle.image.proofs.Checks.{checks-each, then-left, then-right, unless-clear}
+use Rattle.image.proofs.Checks.{checks-each}
 use Rattle.graph.specs.Graph.{Graph, block}
-use Rattle.graph.specs.Table.{entryAt, isStart, below, codeEnd, rangeCheck}
+use Rattle.graph.specs.Table.{entryAt, below, rangeCheck}
 use Rattle.graph.specs.Route.{routeAt, resumesLate}
 use Rattle.graph.specs.WellFormed.{Built}
 use Rattle.graph.proofs.CheckLaws.{checks-clear}
-use Rattle.graph.proofs.TableLaws.{start-at, start-has, below-at}
-use Rattle.graph.proofs.RouteLaws.{route-is, length-routes}
+use Rattle.graph.proofs.TableLaws.{start-at, below-at}
+use Rattle.graph.proofs.RouteLaws.{route-is}
 use Rattle.addition.specs.Blocks.{leads, inside, leading, within}
 use Rattle.unwind.specs.Stands.{Stands, Before, routeOf}
 use Rattle.addition.specs.Add.{leadFound, leadCheck, rangeLeads, routeCheck}
@@ -108,29 +106,3 @@ pub route-checks : (g : Graph) (m : RouteImage) (r : ℕ) → r < length (m .rou
 unfolding routeCheck
 route-checks g m r h =
     ap (λ (x : UnwindRoute). rangeCheck (g .table) (x .start) (x .end) then unless (not (resumesLate (routeAt (routesOf m) r))) (refusal 15 r 0) then checks (rangeLeads g x) (length (g .table))) (route-is m r h)
-
--- routes that pass have an instruction to cover
-pub table-some : (g : Graph) (rs : List UnwindRoute) → 0 < length rs → checks (routeCheck g rs) (length rs) ≡ clear → 0 < length (g .table)
-unfolding routeCheck rangeCheck
-table-some g rs h passed =
-    let r = routeAt rs 0 in
-    let order = unless (ltb (r .start) (r .end)) (refusal 10 (r .start) (r .end)) in
-    let starts = unless (isStart (g .table) (r .start)) (refusal 11 (r .start) 0) in
-    let ends = unless (eqb (r .end) (codeEnd (g .table)) || isStart (g .table) (r .end)) (refusal 12 (r .end) 0) in
-    let late = unless (not (resumesLate r)) (refusal 15 0 0) in
-    let first : (order then starts then ends then late then checks (rangeLeads g r) (length (g .table))) ≡ clear = checks-each (routeCheck g rs) (length rs) 0 passed h in
-    let range : (order then starts then ends) ≡ clear = then-left (order then starts then ends) late (then-left (order then starts then ends then late) (checks (rangeLeads g r) (length (g .table))) first) in
-    let start = start-has (g .table) (r .start) (unless-clear (isStart (g .table) (r .start)) (refusal 11 (r .start) 0) (then-right order starts (then-left (order then starts) ends range))) in
-    omega (arith, start .1)
-
-pub table-stepped : (g : Graph) (m : RouteImage) → AcceptedRoutes m → checks (routeCheck g (routesOf m)) (length (routesOf m)) ≡ clear → 0 < length (m .steps) → 0 < length (g .table)
-unfolding total
-table-stepped g m ok passed h =
-    elim (decLt 0 (length (m .routes))) [
-      | yes some ↦ table-some g (routesOf m) (rw (length-routes m) some) passed
-      | no none ↦
-          let routes : length (m .routes) ≡ 0 = omega arith in
-          let paths : length (m .paths) ≡ 0 = sym (ok .paths-add) ∙ ap (total (λ r. getD (m .routes) r (routeFrom [] 0) .paths)) routes in
-          let steps : length (m .steps) ≡ 0 = sym (ok .steps-add) ∙ ap (total (λ p. getD (m .paths) p (pathFrom [] 0) .steps)) paths in
-          absurd (omega arith)
-    ]

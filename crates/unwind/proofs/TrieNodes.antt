@@ -3,7 +3,7 @@
 --     funclet-root, funclet-other, funclet-both           two funclets compared
 --     value-root, value-other                             the number that names one
 --     place-first, place-lt                               the first of a list that equals a node; it stands there
---     length-nodes, nodes-more, node-of, place-nothing, nodes-same, nodes-still     the nodes in scratch; none equals a node; after stores elsewhere
+--     length-nodes, nodes-more, node-of, funclet-at, place-nothing, nodes-same, nodes-still     the nodes in scratch; none equals a node; after stores elsewhere
 --     behind-fits, stored-fits                            the edges and ends of nodes stand in the lists
 --     kept-present, kept-new                              a node stands already, or is stored
 -- Assumes nothing.
@@ -24,7 +24,7 @@ use Rattle.graph.proofs.FoldLaws.{length-table, getD-table, table-same}
 use Rattle.unwind.specs.declared.tries.store.NodeRecord.{NodeRecord}
 use Rattle.unwind.specs.declared.tries.store.Counts.{Counts}
 use Rattle.addition.specs.Order.{same}
-use Rattle.addition.specs.Trie.{Node, sameFunclet, sameNode, placeOf, created, create}
+use Rattle.addition.specs.Trie.{Node, sameFunclet, sameNode, placeOf, created, create, nodeAt}
 use Rattle.unwind.specs.Nodes.{stepIn, funcletIn, valueOf, recordIn, branchIn, edgeOf, endAt, nodeIn, nodesIn, Stored, NodeFits, AllFit, NodePut}
 use Rattle.unwind.specs.Kept.{Behind, Kept}
 use Rattle.unwind.proofs.TrieRuns.{branches-same}
@@ -130,6 +130,10 @@ module _ (m : RouteImage) (nodes edges ends : List ℕ) where
   pub node-of : (n i : ℕ) (d : Node) → i < n → getD (nodesIn m nodes edges ends n) i d ≡ nodeIn m edges ends (recordIn nodes i)
   unfolding nodesIn
   node-of n i d h = getD-table (λ k. nodeIn m edges ends (recordIn nodes k)) n i d h
+
+  pub funclet-at : (n i : ℕ) → i < n → nodeAt (nodesIn m nodes edges ends n) i .funclet ≡ funcletIn m (recordIn nodes i .funclet)
+  unfolding nodeAt nodeIn
+  funclet-at n i h = ap (λ (x : Node). x .funclet) (node-of n i _ h)
 
   pub place-nothing : (n : ℕ) (x : Node) → ((j : ℕ) → j < n → sameNode x (nodeIn m edges ends (recordIn nodes j)) ≡ false) → none ≡ placeOf x (nodesIn m nodes edges ends n)
   place-nothing n x others =

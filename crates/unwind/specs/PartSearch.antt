@@ -8,11 +8,11 @@ use Rattle.image.specs.Deal.{UnwindRoute}
 use Rattle.graph.specs.declared.record.Edge.{Edge}
 use Rattle.graph.specs.Graph.{Graph}
 use Rattle.graph.specs.Fold.{among}
-use Rattle.graph.specs.BlockSet.{member, including}
+use Rattle.graph.specs.BlockSet.{member}
 use Rattle.graph.specs.Search.{seeing}
 use Rattle.graph.specs.WellFormed.{isBuilt}
 use Rattle.addition.specs.Lists.{keep, isEmpty}
-use Rattle.addition.specs.Blocks.{Leading, leads, inside, absent, firstOf}
+use Rattle.addition.specs.Blocks.{firstOf}
 use Rattle.unwind.specs.Stands.{Has}
 use Rattle.addition.specs.Part.{funclets, ordinary, outgoing, part, returning}
 
@@ -41,12 +41,6 @@ abbrev pub PartFrom : Graph → List ℕ → ℕ → List ℕ → Type 0
 PartFrom g w e r = (rs : List UnwindRoute) → Barriers g rs w → Has r (part g (funclets rs) (firstOf g e .address) e)
 
 -- ---- what the search keeps: only the contracts of `part` cite it
-
--- a set with the block that an address starts
-abbrev pub entering : Leading → List ℕ → List ℕ
-entering (leads b) w = including w b
-entering inside w = w
-entering absent w = w
 
 -- an edge is followed if it is ordinary and enters no block of w
 unfoldable pub followed : List ℕ → Edge → Bool

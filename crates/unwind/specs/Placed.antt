@@ -11,7 +11,6 @@ use Rattle.image.specs.Image.{RouteImage, table}
 use Rattle.image.specs.Deal.{routesOf}
 use Rattle.graph.specs.Graph.{Graph}
 use Rattle.graph.specs.Search.{Linked, Roomy}
-use Rattle.graph.specs.WellFormed.{Built}
 use Rattle.addition.specs.Lists.{keep}
 use Rattle.addition.specs.Blocks.{blockOf}
 use Rattle.unwind.specs.Stands.{Stands, Has}
@@ -19,7 +18,8 @@ use Rattle.addition.specs.Part.{funclets, returning}
 use Rattle.unwind.specs.PartSearch.{Barriers, Returners}
 use Rattle.addition.specs.Trie.{Node, sameFunclet}
 use Rattle.unwind.specs.Nodes.{recordIn, funcletIn, nodesIn}
-use Rattle.addition.specs.Instance.{blocksOf, later, base, entryOf, cloneBlocks}
+use Rattle.addition.specs.Instance.{entryBlock, blocksOf, later, base, entryOf, cloneBlocks}
+use Rattle.addition.specs.Walk.{_∈_}
 
 -- set i of a slice, sixteen words each
 unfoldable pub setAt : List ℕ → ℕ → List ℕ
@@ -59,13 +59,21 @@ pub record Placed (g : Graph) (fs : List ℕ) (z : List Node) (bases entries par
 abbrev pub funcletAt : RouteImage → List ℕ → ℕ → Option ℕ
 funcletAt m nodes i = funcletIn m (recordIn nodes i .funclet)
 
+-- the entries of the funclets of the first n nodes; 0 at the root of a route
+pub record Entered (g : Graph) (m : RouteImage) (nodes entries : List ℕ) (n : ℕ) : Type 0 where
+  pub enters : (i : ℕ) → i < n → getD entries i 0 ≡ entryBlock g (funcletAt m nodes i)
+
 abbrev pub like : RouteImage → List ℕ → ℕ → ℕ → Bool
 like m nodes i j = sameFunclet (funcletAt m nodes j) (funcletAt m nodes i)
 
--- what is at hand: the graph's built blocks and links, the entries of funclets, and the blocks that return
-pub record Ready (g : Graph) (m : RouteImage) (n : ℕ) (head next barriers returners : List ℕ) : Type 0 where
+-- the funclets of the first n nodes are those of the routes
+pub record Named (m : RouteImage) (nodes : List ℕ) (n : ℕ) : Type 0 where
+  pub each : (i a : ℕ) → i < n → funcletAt m nodes i ≡ some a → a ∈ funclets (routesOf m)
+  pub all : (a : ℕ) → a ∈ funclets (routesOf m) → (i : ℕ) × (i < n) × (funcletAt m nodes i ≡ some a)
+
+-- what is at hand: the graph's links, the entries of funclets, and the blocks that return
+pub record Ready (g : Graph) (m : RouteImage) (head next barriers returners : List ℕ) : Type 0 where
   pub stands : Stands g
-  pub built : Built g n
   pub roomy : Roomy g head next
   pub linked : Linked g head next 0
   pub bars : Barriers g (routesOf m) barriers
@@ -90,10 +98,11 @@ pub record NodePlaced (i b e : ℕ) (w r bases entries parts returns bases′ en
   pub part-put : SetPut parts i w parts′
   pub returns-put : SetPut returns i r returns′
 
--- one more instance, which copies r blocks, the first as block b
+-- one more instance, which copies r blocks, the first as block b; the entries behind it are as they were
 pub record Placing (g : Graph) (m : RouteImage) (nodes : List ℕ) (i b r : ℕ) (bases entries parts returns bases′ entries′ parts′ returns′ : List ℕ) : Type 0 where
   pub few : r ≤ 1024
   pub sizes : SameSizes bases entries parts returns bases′ entries′ parts′ returns′
+  pub rest : (j : ℕ) → i < j → getD entries′ j 0 ≡ getD entries j 0
   pub next : (edges ends : List ℕ) (n : ℕ) → i < n → b ≡ base g (funclets (routesOf m)) (nodesIn m nodes edges ends n) i
       → Placed g (funclets (routesOf m)) (nodesIn m nodes edges ends n) bases entries parts returns i
       → Placed g (funclets (routesOf m)) (nodesIn m nodes edges ends n) bases′ entries′ parts′ returns′ (i + 1)

@@ -18,7 +18,7 @@ ghost use Rattle.graph.specs.Words.{heldIn};
 ghost use Rattle.graph.specs.Table.{below, isStart};
 ghost use Rattle.graph.specs.Lookup.{Finds};
 ghost use Rattle.graph.specs.WellFormed.{Built};
-ghost use Rattle.addition.specs.Blocks.{firstOf, lastOf, leading};
+ghost use Rattle.addition.specs.Blocks.{firstOf, lastOf, blockIn, leading};
 ghost use Rattle.unwind.specs.Stands.{Stands, Before, Guards, leadingOf};
 ghost use Rattle.unwind.specs.Wanted.{RunsFit};
 
@@ -131,6 +131,17 @@ pub fn leading_block(g: &Words, built: usize, hints: &[u16], a: u64) -> Lead
         return Lead::Leads(b);
     }
     search(g, built, a)
+}
+
+// The block that is led, or 0 where none is.
+pub fn led_block(found: Lead) -> usize
+    ensures { λ r. ⌜ r ≡ blockIn (leadingOf found) ⌝ }
+{
+    match found {
+        Lead::Leads(b) => b,
+        Lead::Inside => 0,
+        Lead::Absent => 0,
+    }
 }
 
 // Whether b is a built block whose first instruction starts at a.

@@ -2,7 +2,6 @@
 use crate::blocks::Lead;
 use crate::blocks::block_from;
 use crate::blocks::is_start;
-use crate::blocks::leading_block;
 use crate::blocks::position;
 use graph::error::AddressBuildError;
 use graph::error::Checked;
@@ -31,8 +30,8 @@ ghost use Rattle.graph.specs.Fold.{checks};
 ghost use Rattle.graph.specs.Table.{below, codeEnd, rangeCheck};
 ghost use Rattle.graph.specs.Route.{stepsBefore, Placed};
 ghost use Rattle.graph.specs.WellFormed.{Built};
-ghost use Rattle.unwind.specs.Stands.{Stands, routeOf};
-ghost use Rattle.addition.specs.Add.{leadCheck, rangeLeads, routeCheck};
+ghost use Rattle.unwind.specs.Stands.{Stands, leadingOf, routeOf};
+ghost use Rattle.addition.specs.Add.{leadFound, rangeLeads, routeCheck};
 
 // The first refusal among those of the routes. The scan carries along where a route's paths and their steps start.
 pub fn check_routes(g: &Words, built: usize, s: &[u8], y: RouteLayout) -> Checked
@@ -85,12 +84,11 @@ fn check_route(
     check_leads(g, built, first, past)
 }
 
-// 14 and 17 of an address that a node names: it starts a built block.
-pub fn check_lead(g: &Words, built: usize, hints: &[u16], a: u64) -> Checked
-    requires { ⌜ Stands (heldIn (now g) .graph) × Built (heldIn (now g) .graph) built ⌝ }
-    ensures { λ r. ⌜ checkOf r ≡ leadCheck (heldIn (now (g .entry)) .graph) a ⌝ }
+// 14 and 17 of an address that a node names, which leads what was found.
+pub fn check_lead(found: Lead, a: u64) -> Checked
+    ensures { λ r. ⌜ checkOf r ≡ leadFound a (leadingOf found) ⌝ }
 {
-    match leading_block(g, built, hints, a) {
+    match found {
         Lead::Leads(_) => Checked::Clear,
         Lead::Inside => Checked::Refused(AddressBuildError::RouteAddressNotBlockStart {
             address: a,

@@ -1,38 +1,36 @@
 // Parts of funclets: the blocks that are reached from an entry, and those of them that return.
-use crate::blocks::Lead;
 use crate::blocks::last_of;
-use crate::blocks::leading_block;
+use crate::tries::store::node_in;
+use crate::tries::store::number_in;
 use graph::blockset::Lowest;
 use graph::blockset::has_in;
 use graph::blockset::lowest_in;
 use graph::blockset::put_in;
 use graph::blockset::take_from;
 use graph::reach::see;
-use graph::resume::FUNCLET;
 use graph::store::Words;
 use graph::store::blocks::block_count;
 use graph::store::edges::edge_count;
 use graph::store::edges::edge_in;
-use image::access::step_in;
 use image::section::RouteLayout;
 ghost use mathlib.Core.Path.{_≡_};
 ghost use mathlib.Core.Bool.{true, not, _&&_};
-ghost use Prim.Native.Nat.{ℕ, _<_};
+ghost use Prim.Native.Nat.{ℕ, _*_, _≤_, _<_};
 ghost use lib.Dec.{eqb};
 ghost use lib.ListN.{length};
+ghost use Rattle.image.specs.Refusal.{clear};
 ghost use Rattle.image.specs.Image.{routesIn};
 ghost use Rattle.image.specs.Deal.{routesOf};
-ghost use Rattle.image.specs.Accepted.{AcceptedRoutes};
-ghost use Rattle.image.specs.There.{RoutesThere};
 ghost use Rattle.graph.specs.BlockSet.{none};
 ghost use Rattle.graph.specs.Graph.{edge};
 ghost use Rattle.graph.specs.Words.{heldIn};
 ghost use Rattle.graph.specs.Search.{Linked, Roomy, Follows};
-ghost use Rattle.graph.specs.WellFormed.{isBuilt, Built};
-ghost use Rattle.addition.specs.Blocks.{leading};
+ghost use Rattle.graph.specs.WellFormed.{isBuilt};
 ghost use Rattle.addition.specs.Part.{returning as isReturning};
+ghost use Rattle.addition.specs.Add.{funcletCheck};
 ghost use Rattle.unwind.specs.Stands.{Stands};
-ghost use Rattle.unwind.specs.PartSearch.{Barriers, Sources, Returners, PartFrom, entering, bounded, Takes};
+ghost use Rattle.unwind.specs.PartSearch.{Barriers, Sources, Returners, PartFrom, bounded, Takes};
+ghost use Rattle.unwind.specs.Placed.{funcletAt, Named, Entered};
 
 // 'without an ExceptionUnwind or Call edge'
 const CALL: u64 = 5;
@@ -50,36 +48,23 @@ fn is_ordinary(kind: u64) -> bool
     (kind != EXCEPTION_UNWIND) & (kind != CALL)
 }
 
-// The built blocks that start a funclet of the routes, put into an empty set.
+// The built blocks that start a funclet of the routes, put into an empty set: the entries of the n nodes but the roots.
 pub fn funclet_entries(
     g: &Words,
-    built: usize,
-    hints: &[u16],
     s: &[u8],
     y: RouteLayout,
+    nodes: &[u16],
+    n: usize,
+    heads: &[u16],
     set: &mut [u64; 16],
 )
-    requires { ⌜ Stands (heldIn (now g) .graph) × Built (heldIn (now g) .graph) built × (0 < length (routesIn (now s) y .steps) → 0 < length (heldIn (now g) .graph .table)) × AcceptedRoutes (routesIn (now s) y) × RoutesThere (now s) y × (now set ≡ none) ⌝ }
+    requires { ⌜ Stands (heldIn (now g) .graph) × Named (routesIn (now s) y) (now nodes) n × ((i : ℕ) → i < n → funcletCheck (heldIn (now g) .graph) (funcletAt (routesIn (now s) y) (now nodes) i) ≡ clear) × Entered (heldIn (now g) .graph) (routesIn (now s) y) (now nodes) (now heads) n × (6 * n ≤ length (now nodes)) × (n ≤ length (now heads)) × (now set ≡ none) ⌝ }
     ensures { λ _. ⌜ Barriers (heldIn (now (g .entry)) .graph) (routesOf (routesIn (now (s .entry)) y)) (now (set .exit)) ⌝ }
 {
-    let n = y.steps.count as usize;
-    for j in 0..n {
-        let x = step_in(s, y.steps, j);
-        if x.code == FUNCLET {
-            put_entry(g, built, hints, x.value, set);
+    for i in 0..n {
+        if node_in(nodes, i).funclet != 0 {
+            put_in(set, number_in(heads, i));
         }
-    }
-}
-
-// The built block that starts at a, put into the set.
-fn put_entry(g: &Words, built: usize, hints: &[u16], a: u64, set: &mut [u64; 16])
-    requires { ⌜ Stands (heldIn (now g) .graph) × Built (heldIn (now g) .graph) built ⌝ }
-    ensures { λ _. ⌜ now (set .exit) ≡ entering (leading (heldIn (now (g .entry)) .graph) a) (now (set .entry)) ⌝ }
-{
-    match leading_block(g, built, hints, a) {
-        Lead::Leads(b) => put_in(set, b),
-        Lead::Inside => {}
-        Lead::Absent => {}
     }
 }
 

@@ -1,8 +1,5 @@
 // Instances in scratch: for each node of the trie the first of its copies, its entry, its blocks and those that return.
-use crate::blocks::Lead;
-use crate::blocks::leading_block;
 use crate::part::part_of;
-use crate::routes::step_of;
 use crate::slots::put_set;
 use crate::slots::set_at;
 use crate::tries::store::node_in;
@@ -21,28 +18,25 @@ ghost use Prim.Native.Nat.{ℕ, _+_, _*_, _≤_, _<_};
 ghost use lib.ListN.{length, getD};
 ghost use Rattle.image.specs.Refusal.{clear};
 ghost use Rattle.image.specs.Image.{routesIn};
-ghost use Rattle.image.specs.There.{RoutesThere};
 ghost use Rattle.graph.specs.Words.{heldIn};
 ghost use Rattle.graph.specs.Error.{checkOf};
 ghost use Rattle.graph.specs.Fold.{count};
 ghost use Rattle.graph.specs.BlockSet.{member, none, sizeOf};
 ghost use Rattle.graph.specs.Search.{Linked, Roomy};
-ghost use Rattle.graph.specs.WellFormed.{isBuilt, Built};
+ghost use Rattle.graph.specs.WellFormed.{isBuilt};
 ghost use Rattle.unwind.specs.Stands.{Stands};
 ghost use Rattle.unwind.specs.PartSearch.{PartFrom};
-ghost use Rattle.unwind.specs.Nodes.{funcletIn};
 ghost use Rattle.addition.specs.Instance.{entryBlock};
 ghost use Rattle.addition.specs.Add.{funcletCheck};
-ghost use Rattle.unwind.specs.Placed.{setAt, Slots, funcletAt, Ready, Firsts, NodePlaced, Placing, PlacedAll};
+ghost use Rattle.unwind.specs.Placed.{setAt, Slots, funcletAt, Entered, Ready, Firsts, NodePlaced, Placing, PlacedAll};
 
 // Most blocks of a graph (18).
 const MOST: usize = 1024;
 
-// The instances of the n nodes, by the first node of each funclet; 18 where with their copies there are too many blocks.
+// The instances of the n nodes, told the entries of their funclets, by the first node of each; 18 where with their copies there
+// are too many blocks.
 pub fn place_nodes(
     g: &Words,
-    built: usize,
-    hints: &[u16],
     s: &[u8],
     y: RouteLayout,
     nodes: &[u16],
@@ -57,15 +51,13 @@ pub fn place_nodes(
     returns: &mut [u64],
     firsts: &mut [u16],
 ) -> Checked
-    requires { ⌜ Ready (heldIn (now g) .graph) (routesIn (now s) y) built (now head) (now next) (now barriers) (now returners) × ((i : ℕ) → i < n → funcletCheck (heldIn (now g) .graph) (funcletAt (routesIn (now s) y) (now nodes) i) ≡ clear) × Slots n (now bases) (now entries) (now parts) (now returns) × Firsts (heldIn (now g) .graph) (routesIn (now s) y) (now nodes) (now firsts) 0 × (n ≤ 544) × RoutesThere (now s) y × (6 * n ≤ length (now nodes)) ⌝ }
+    requires { ⌜ Ready (heldIn (now g) .graph) (routesIn (now s) y) (now head) (now next) (now barriers) (now returners) × ((i : ℕ) → i < n → funcletCheck (heldIn (now g) .graph) (funcletAt (routesIn (now s) y) (now nodes) i) ≡ clear) × Slots n (now bases) (now entries) (now parts) (now returns) × Firsts (heldIn (now g) .graph) (routesIn (now s) y) (now nodes) (now firsts) 0 × (n ≤ 544) × (6 * n ≤ length (now nodes)) × Entered (heldIn (now g) .graph) (routesIn (now s) y) (now nodes) (now entries) n ⌝ }
     ensures { λ r. ⌜ PlacedAll (heldIn (now (g .entry)) .graph) (routesIn (now (s .entry)) y) (now (nodes .entry)) n (now (bases .exit)) (now (entries .exit)) (now (parts .exit)) (now (returns .exit)) (checkOf r) ⌝ }
 {
     let mut base = block_count(g);
     for i in 0..n {
         base += place_node(
             g,
-            built,
-            hints,
             s,
             y,
             nodes,
@@ -91,8 +83,6 @@ pub fn place_nodes(
 // Node i: the first of its funclet has the original blocks, a later one copies, which begin with block `base`; how many.
 fn place_node(
     g: &Words,
-    built: usize,
-    hints: &[u16],
     s: &[u8],
     y: RouteLayout,
     nodes: &[u16],
@@ -108,11 +98,11 @@ fn place_node(
     returns: &mut [u64],
     firsts: &mut [u16],
 ) -> usize
-    requires { ⌜ Ready (heldIn (now g) .graph) (routesIn (now s) y) built (now head) (now next) (now barriers) (now returners) × ((j : ℕ) → j ≤ i → funcletCheck (heldIn (now g) .graph) (funcletAt (routesIn (now s) y) (now nodes) j) ≡ clear) × Slots (i + 1) (now bases) (now entries) (now parts) (now returns) × Firsts (heldIn (now g) .graph) (routesIn (now s) y) (now nodes) (now firsts) i × (i < 544) × (base ≤ 1024) × RoutesThere (now s) y × (6 * i + 6 ≤ length (now nodes)) ⌝ }
+    requires { ⌜ Ready (heldIn (now g) .graph) (routesIn (now s) y) (now head) (now next) (now barriers) (now returners) × ((j : ℕ) → j ≤ i → funcletCheck (heldIn (now g) .graph) (funcletAt (routesIn (now s) y) (now nodes) j) ≡ clear) × Slots (i + 1) (now bases) (now entries) (now parts) (now returns) × Firsts (heldIn (now g) .graph) (routesIn (now s) y) (now nodes) (now firsts) i × (i < 544) × (base ≤ 1024) × (6 * i + 6 ≤ length (now nodes)) × (getD (now entries) i 0 ≡ entryBlock (heldIn (now g) .graph) (funcletAt (routesIn (now s) y) (now nodes) i)) ⌝ }
     ensures { λ r. ⌜ Placing (heldIn (now (g .entry)) .graph) (routesIn (now (s .entry)) y) (now (nodes .entry)) i base r (now (bases .entry)) (now (entries .entry)) (now (parts .entry)) (now (returns .entry)) (now (bases .exit)) (now (entries .exit)) (now (parts .exit)) (now (returns .exit)) × Firsts (heldIn (now (g .entry)) .graph) (routesIn (now (s .entry)) y) (now (nodes .entry)) (now (firsts .exit)) (i + 1) ⌝ }
 {
     let f = node_in(nodes, i).funclet;
-    let entry = entry_of(g, built, hints, s, y, f);
+    let entry = number_in(entries, i);
     let slot = slot_of(f, entry);
     let first = number_in(firsts, slot);
     if first != 0 {
@@ -156,22 +146,7 @@ fn slot_of(f: usize, entry: usize) -> usize
     entry + 1
 }
 
-// The entry of the funclet that step f - 1 names; 0 at the root of a route.
-fn entry_of(g: &Words, built: usize, hints: &[u16], s: &[u8], y: RouteLayout, f: usize) -> usize
-    requires { ⌜ Stands (heldIn (now g) .graph) × Built (heldIn (now g) .graph) built × RoutesThere (now s) y ⌝ }
-    ensures { λ r. ⌜ r ≡ entryBlock (heldIn (now (g .entry)) .graph) (funcletIn (routesIn (now (s .entry)) y) f) ⌝ }
-{
-    if f == 0 {
-        return 0;
-    }
-    match leading_block(g, built, hints, step_of(s, y, f - 1).value) {
-        Lead::Leads(b) => b,
-        Lead::Inside => 0,
-        Lead::Absent => 0,
-    }
-}
-
-// Its part; none at the root of a route.
+// The part of that funclet; none at the root of a route.
 fn part_at(
     g: &Words,
     head: &[u16],

@@ -1,7 +1,7 @@
 // What routes and ends say of blocks: the blocks that each route guards, and where each end lands.
-use crate::blocks::Lead;
 use crate::blocks::guarded_by;
 use crate::blocks::leading_block;
+use crate::blocks::led_block;
 use crate::emit::entries::LEAVE;
 use crate::routes::path_of;
 use crate::slots::put_set;
@@ -72,9 +72,5 @@ fn land(g: &Words, built: usize, hints: &[u16], s: &[u8], y: RouteLayout, p: usi
     if path.end != HANDLER {
         return STAY;
     }
-    match leading_block(g, built, hints, path.handler) {
-        Lead::Leads(b) => b,
-        Lead::Inside => 0,
-        Lead::Absent => 0,
-    }
+    led_block(leading_block(g, built, hints, path.handler))
 }

@@ -23,8 +23,9 @@ ghost use Rattle.image.specs.There.{RoutesThere};
 ghost use Rattle.graph.specs.Words.{heldIn};
 ghost use Rattle.graph.specs.Error.{checkOf};
 ghost use Rattle.graph.specs.Search.{Linked, Roomy};
+ghost use Rattle.unwind.specs.Stands.{Stands};
 ghost use Rattle.unwind.specs.Routed.{TriesIn};
-ghost use Rattle.unwind.specs.Placed.{Slots, funcletAt, Firsts, PlacedAll};
+ghost use Rattle.unwind.specs.Placed.{Slots, funcletAt, Named, Entered, Firsts, PlacedAll};
 ghost use Rattle.addition.specs.Add.{funcletCheck};
 ghost use Rattle.unwind.specs.Answers.{Adds, Sized, RoutesChecked};
 ghost use Rattle.unwind.specs.Frames.{Room, Placements};
@@ -57,14 +58,12 @@ pub fn add_tries(
 {
     let n = stored.nodes;
     hint_blocks(g, built, hints);
-    if let Checked::Refused(e) = check_nodes(g, built, hints, s, y, nodes, ends, n) {
+    if let Checked::Refused(e) = check_nodes(g, built, hints, s, y, nodes, ends, n, heads) {
         return AddedRoutes::Refused(e);
     }
     link(g, head, next);
     if let Checked::Refused(e) = place(
         g,
-        built,
-        hints,
         s,
         y,
         nodes,
@@ -106,8 +105,6 @@ pub fn add_tries(
 // The instances of the n nodes; 18 where with their copies there are too many blocks.
 fn place(
     g: &Words,
-    built: usize,
-    hints: &[u16],
     s: &[u8],
     y: RouteLayout,
     nodes: &[u16],
@@ -120,17 +117,15 @@ fn place(
     returns: &mut [u64],
     firsts: &mut [u16],
 ) -> Checked
-    requires { ⌜ RoutesChecked (heldIn (now g)) built (routesIn (now s) y) × Roomy (heldIn (now g) .graph) (now head) (now next) × Linked (heldIn (now g) .graph) (now head) (now next) 0 × ((i : ℕ) → i < n → funcletCheck (heldIn (now g) .graph) (funcletAt (routesIn (now s) y) (now nodes) i) ≡ clear) × Slots n (now bases) (now heads) (now parts) (now returns) × Firsts (heldIn (now g) .graph) (routesIn (now s) y) (now nodes) (now firsts) 0 × (n ≤ 544) × RoutesThere (now s) y × (6 * n ≤ length (now nodes)) ⌝ }
+    requires { ⌜ Stands (heldIn (now g) .graph) × Roomy (heldIn (now g) .graph) (now head) (now next) × Linked (heldIn (now g) .graph) (now head) (now next) 0 × ((i : ℕ) → i < n → funcletCheck (heldIn (now g) .graph) (funcletAt (routesIn (now s) y) (now nodes) i) ≡ clear) × Slots n (now bases) (now heads) (now parts) (now returns) × Firsts (heldIn (now g) .graph) (routesIn (now s) y) (now nodes) (now firsts) 0 × (n ≤ 544) × (6 * n ≤ length (now nodes)) × Named (routesIn (now s) y) (now nodes) n × Entered (heldIn (now g) .graph) (routesIn (now s) y) (now nodes) (now heads) n ⌝ }
     ensures { λ r. ⌜ PlacedAll (heldIn (now (g .entry)) .graph) (routesIn (now (s .entry)) y) (now (nodes .entry)) n (now (bases .exit)) (now (heads .exit)) (now (parts .exit)) (now (returns .exit)) (checkOf r) ⌝ }
 {
     let mut barriers = [0u64; 16];
-    funclet_entries(g, built, hints, s, y, &mut barriers);
+    funclet_entries(g, s, y, nodes, n, heads, &mut barriers);
     let mut returners = [0u64; 16];
     returning_blocks(g, &mut returners);
     place_nodes(
         g,
-        built,
-        hints,
         s,
         y,
         nodes,

@@ -7,7 +7,8 @@ use Rattle.graph.specs.Lookup.{entriesIn}
 use Rattle.graph.specs.Table.{below}
 use Rattle.graph.proofs.TableLaws.{size-is}
 use Rattle.builder.specs.Marks.{Marked}
-use Rattle.builder.proofs.MarkLaws.{mark-within, run-none, run-more, run-all, not-clear}
+use Rattle.image.proofs.Checks.{not-clear}
+use Rattle.builder.proofs.MarkLaws.{mark-within, run-none, run-more, run-all}
 use native.Mathlib.Omega.{arith}
 use borrow.Author.Needs.{needs}
 use Rattle.builder.proofs.marks.mark_range.Statement.{statement}

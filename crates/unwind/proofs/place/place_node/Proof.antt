@@ -20,23 +20,26 @@ use Rattle.unwind.proofs.Sets.{returns-has, has-lt}
 use Rattle.unwind.proofs.place.place_node.Statement.{statement}
 use Rattle.unwind.proofs.place.place_node.Tie as tie
 
-entry-of-requires : tie.Need-entry-of-requires
-entry-of-requires c κs = let ready = c .before .before .before .before .before .before .before .before .before .before .before .pre .0 in (ready .stands, ready .built, search needs)
+number-in-requires : tie.Need-number-in-requires
+number-in-requires c κs = omega (arith, c .before .before .before .before .before .before .before .before .before .before .before .pre .2 .entries-fit)
 
 -- the check of node i
 leads : (c : tie.Start) → funcletCheck (heldIn (c .args .g .now) .graph) (funcletAt (routesIn (c .args .s .now) (c .args .y)) (c .args .nodes .now) (c .args .i)) ≡ clear
 leads c = c .pre .1 (c .args .i) (omega arith)
 
 -- the funclet of node i, by its record, its entry and its slot
-funclet : (c : tie.After-node-in) → c .node-in .result .funclet ≡ recordIn (c .before .before .before .before .before .before .before .before .before .before .before .args .nodes .now) (c .before .before .before .before .before .before .before .before .before .before .before .args .i) .funclet
+funclet : (c : tie.After-node-in) → c .node-in .result .funclet ≡ recordIn (c .before .before .before .before .before .before .before .before .before .before .args .nodes .now) (c .before .before .before .before .before .before .before .before .before .before .args .i) .funclet
 funclet c = ap (λ (x : NodeRecord). x .funclet) (c .node-in .ensures .is)
 
-entry : (c : tie.After-entry-of) → c .entry-of .result ≡ entryBlock (heldIn (c .before .before .before .before .before .before .before .before .before .before .before .before .args .g .now) .graph) (funcletAt (routesIn (c .before .before .before .before .before .before .before .before .before .before .before .before .args .s .now) (c .before .before .before .before .before .before .before .before .before .before .before .before .args .y)) (c .before .before .before .before .before .before .before .before .before .before .before .before .args .nodes .now) (c .before .before .before .before .before .before .before .before .before .before .before .before .args .i))
-entry c =
-    let a = c .before .before .before .before .before .before .before .before .before .before .before .before .args in
-    c .entry-of .ensures ∙ ap (λ (f : ℕ). entryBlock (heldIn (a .g .now) .graph) (funcletIn (routesIn (a .s .now) (a .y)) f)) (funclet (c .before))
+entry : (c : tie.After-number-in) → c .number-in .result ≡ entryBlock (heldIn (c .before .before .before .before .before .before .before .before .before .before .before .before .args .g .now) .graph) (funcletAt (routesIn (c .before .before .before .before .before .before .before .before .before .before .before .before .args .s .now) (c .before .before .before .before .before .before .before .before .before .before .before .before .args .y)) (c .before .before .before .before .before .before .before .before .before .before .before .before .args .nodes .now) (c .before .before .before .before .before .before .before .before .before .before .before .before .args .i))
+entry c = c .number-in .ensures .0 ∙ c .before .before .before .before .before .before .before .before .before .before .before .before .pre .7
 
-few : (c : tie.After-entry-of) → c .entry-of .result ≤ 1024
+by-step : (c : tie.After-number-in) → c .number-in .result ≡ entryBlock (heldIn (c .before .before .before .before .before .before .before .before .before .before .before .before .args .g .now) .graph) (funcletIn (routesIn (c .before .before .before .before .before .before .before .before .before .before .before .before .args .s .now) (c .before .before .before .before .before .before .before .before .before .before .before .before .args .y)) (c .before .before .node-in .result .funclet))
+by-step c =
+    let a = c .before .before .before .before .before .before .before .before .before .before .before .before .args in
+    entry c ∙ ap (λ (f : ℕ). entryBlock (heldIn (a .g .now) .graph) (funcletIn (routesIn (a .s .now) (a .y)) f)) (sym (funclet (c .before .before)))
+
+few : (c : tie.After-number-in) → c .number-in .result ≤ 1024
 few c =
     let a = c .before .before .before .before .before .before .before .before .before .before .before .before .args in
     omega (arith, entry c, entry-most (heldIn (a .g .now) .graph) (routesIn (a .s .now) (a .y)) _ (block-most (a .g .now)) (leads (c .before .before .before .before .before .before .before .before .before .before .before .before)))
@@ -44,8 +47,8 @@ few c =
 slot : (c : tie.After-slot-of) → c .slot-of .result ≡ slotOf (heldIn (c .before .before .before .before .before .before .before .before .before .before .before .before .before .args .g .now) .graph) (funcletAt (routesIn (c .before .before .before .before .before .before .before .before .before .before .before .before .before .args .s .now) (c .before .before .before .before .before .before .before .before .before .before .before .before .before .args .y)) (c .before .before .before .before .before .before .before .before .before .before .before .before .before .args .nodes .now) (c .before .before .before .before .before .before .before .before .before .before .before .before .before .args .i))
 slot c =
     let a = c .before .before .before .before .before .before .before .before .before .before .before .before .before .args in
-    slot-is (heldIn (a .g .now) .graph) (routesIn (a .s .now) (a .y)) _ _ _ (c .before .entry-of .ensures) (c .slot-of .ensures .0) (c .slot-of .ensures .1)
-    ∙ ap (λ (f : ℕ). slotOf (heldIn (a .g .now) .graph) (funcletIn (routesIn (a .s .now) (a .y)) f)) (funclet (c .before .before))
+    slot-is (heldIn (a .g .now) .graph) (routesIn (a .s .now) (a .y)) _ _ _ (by-step (c .before)) (c .slot-of .ensures .0) (c .slot-of .ensures .1)
+    ∙ ap (λ (f : ℕ). slotOf (heldIn (a .g .now) .graph) (funcletIn (routesIn (a .s .now) (a .y)) f)) (funclet (c .before .before .before))
 
 slot-of-requires : tie.Need-slot-of-requires
 slot-of-requires c κs = few c
@@ -54,7 +57,7 @@ place-clone-requires : tie.Need-place-clone-requires
 place-clone-requires c κs =
     let a = c .before .before .before .before .before .before .before .before .before .before .before .before .before .before .before .before .before .before .before .before .args in
     let pre = c .before .before .before .before .before .before .before .before .before .before .before .before .before .before .before .before .before .before .before .before .pre in
-    (late-lt (heldIn (a .g .now) .graph) (routesIn (a .s .now) (a .y)) (a .nodes .now) (a .firsts .now) (a .i) _ _ (slot (c .before .before .before .before .before .before .before)) (c .before .before .before .before .before .number-in .ensures .0) (pre .1) (pre .3) (c .before .before .before .before .if1 .taken), pre .2, pre .5)
+    (late-lt (heldIn (a .g .now) .graph) (routesIn (a .s .now) (a .y)) (a .nodes .now) (a .firsts .now) (a .i) _ _ (slot (c .before .before .before .before .before .before .before)) (c .before .before .before .before .before .number-in2 .ensures .0) (pre .1) (pre .3) (c .before .before .before .before .if1 .taken), pre .2, pre .5)
 
 same-length : tie.Need-same-length
 same-length c = sizes-kept (c .before .before .before .before .before .before .before .before .place-clone .ensures .0) .bases-long
@@ -76,7 +79,7 @@ returns c =
     let m = routesIn (a .s .now) (a .y) in
     let taken = c .before .before .before .before .before .before .before .before .before .before .before .before .before .if1 .taken in
     let at = slot (c .before .before .before .before .before .before .before .before .before .before .before .before .before .before .before .before) in
-    let v = c .before .before .before .before .before .before .before .before .before .before .before .before .before .before .number-in .ensures .0 in
+    let v = c .before .before .before .before .before .before .before .before .before .before .before .before .before .before .number-in2 .ensures .0 in
     let stored = c .before .before .before .before .before .before .before .before .place-clone .ensures in (
       clone-next g m (a .nodes .now) (a .i) _ _ _ _ _ _ _ _ (pre .2) (block-most (a .g .now)) (leads (c .before .before .before .before .before .before .before .before .before .before .before .before .before .before .before .before .before .before .before .before .before .before .before .before .before .before .before .before .before)) (a .base) _
           (late-none g m (a .nodes .now) (a .firsts .now) (a .i) _ _ at v (pre .1) (pre .3) taken)
@@ -89,8 +92,8 @@ returns c =
 within : (c : tie.After-slot-of) → c .slot-of .result ≤ length (heldIn (c .before .before .before .before .before .before .before .before .before .before .before .before .before .args .g .now) .graph .blocks)
 within c = rw (slot c) (slot-in (heldIn (c .before .before .before .before .before .before .before .before .before .before .before .before .before .args .g .now) .graph) _ (leads (c .before .before .before .before .before .before .before .before .before .before .before .before .before)))
 
-number-in-requires : tie.Need-number-in-requires
-number-in-requires c κs = omega (arith, within (c .before), c .before .before .before .before .before .before .before .before .before .before .before .before .before .before .pre .3 .room)
+number-in-requires-2 : tie.Need-number-in-requires-2
+number-in-requires-2 c κs = omega (arith, within (c .before), c .before .before .before .before .before .before .before .before .before .before .before .before .before .before .pre .3 .room)
 
 mul-firsts : tie.Need-mul-firsts
 mul-firsts c = omega (arith, within (c .before .before .before), block-most (c .before .before .before .before .before .before .before .before .before .before .before .before .before .before .before .before .args .g .now))
@@ -104,8 +107,8 @@ part-at-requires c κs =
     let pre = c .before .before .before .before .before .before .before .before .before .before .before .before .before .before .before .before .pre in
     let g = heldIn (a .g .now) .graph in
     let m = routesIn (a .s .now) (a .y) in
-    let lead = rw (sym (funclet (c .before .before .before .before .before))) at (leads (c .before .before .before .before .before .before .before .before .before .before .before .before .before .before .before .before)) in
-    let is = c .before .before .before .before .entry-of .ensures in
+    let lead = rw (sym (funclet (c .before .before .before .before .before .before))) at (leads (c .before .before .before .before .before .before .before .before .before .before .before .before .before .before .before .before)) in
+    let is = by-step (c .before .before .before .before) in
     (pre .0 .stands, pre .0 .roomy, pre .0 .linked, λ ne. (rw is (entry-lt g m _ ne lead), rw is (entry-built g m _ ne lead)))
 
 store-node-requires : tie.Need-store-node-requires
@@ -131,14 +134,14 @@ returns-2 c =
     let pre = c .before .before .before .before .before .before .before .before .before .before .before .before .before .before .before .before .before .before .before .before .before .before .before .before .before .before .before .before .before .before .before .before .before .before .pre in
     let g = heldIn (a .g .now) .graph in
     let m = routesIn (a .s .now) (a .y) in
-    let f = funclet (c .before .before .before .before .before .before .before .before .before .before .before .before .before .before .before .before .before .before .before .before .before .before .before) in
+    let f = funclet (c .before .before .before .before .before .before .before .before .before .before .before .before .before .before .before .before .before .before .before .before .before .before .before .before) in
     let part = c .before .before .before .before .before .before .before .before .before .before .before .before .before .before .before .before .before .part-at in
     let ret = c .before .before .before .before .before .before .before .before .before .before .before .before .before .before .before .common-of in
     let lead = rw (sym f) at (leads (c .before .before .before .before .before .before .before .before .before .before .before .before .before .before .before .before .before .before .before .before .before .before .before .before .before .before .before .before .before .before .before .before .before .before)) in
-    let has = rw f at (part-is g m _ _ _ _ lead (pre .0 .bars) (c .before .before .before .before .before .before .before .before .before .before .before .before .before .before .before .before .before .before .before .before .before .before .entry-of .ensures) (part .ensures .0) (part .ensures .1)) in
+    let has = rw f at (part-is g m _ _ _ _ lead (pre .0 .bars) (by-step (c .before .before .before .before .before .before .before .before .before .before .before .before .before .before .before .before .before .before .before .before .before .before)) (part .ensures .0) (part .ensures .1)) in
     let left = c .before .before .before .before .before .before .before .before .before .before .before .before .before .before .before .before .before .before .if1 .left in
     let at = slot (c .before .before .before .before .before .before .before .before .before .before .before .before .before .before .before .before .before .before .before .before .before) in
-    let v = c .before .before .before .before .before .before .before .before .before .before .before .before .before .before .before .before .before .before .before .number-in .ensures .0 in (
+    let v = c .before .before .before .before .before .before .before .before .before .before .before .before .before .before .before .before .before .before .before .number-in2 .ensures .0 in (
       first-next g m (a .nodes .now) (a .i) _ _ _ _ _ _ _ _ (pre .2) (a .base)
           (none-yet g m (a .nodes .now) (a .firsts .now) (a .i) _ _ at v (pre .1) (pre .3) left)
           (record {
@@ -156,9 +159,9 @@ place-node-spec =
     tie.close
     (tie.spec
     (λ c κs. search needs)
-    entry-of-requires
-    slot-of-requires
     number-in-requires
+    slot-of-requires
+    number-in-requires-2
     (λ c. search needs)
     place-clone-requires
     same-length

@@ -7,9 +7,8 @@ use Rattle.image.specs.Image.{routesIn}
 use Rattle.graph.specs.Words.{heldIn}
 use Rattle.graph.proofs.RecordLaws.{block-most}
 use Rattle.addition.specs.Blocks.{blockIn}
-use Rattle.unwind.specs.Stands.{leadingOf}
 use Rattle.unwind.specs.Nodes.{pathRecord}
-use Rattle.unwind.proofs.FuncletLaws.{leads-begins}
+use Rattle.unwind.proofs.FuncletLaws.{led-few}
 use Rattle.unwind.proofs.SideLaws.{land-propagate, land-resume, land-handler}
 use Rattle.unwind.proofs.sides.land.Statement.{statement}
 use Rattle.unwind.proofs.sides.land.Tie as tie
@@ -27,34 +26,13 @@ returns-2 c =
     (sym (land-resume (heldIn (a .g .now) .graph) (pathRecord (routesIn (a .s .now) (a .y)) (a .p)) (λ e. c .if2 .taken (here ∙ e)) (λ e. c .before .before .if1 .left (here ∙ e))), omega arith)
 
 returns-3 : tie.Need-returns-3
-unfolding blockIn
 returns-3 c =
-    let a = c .before .before .before .before .before .before .before .before .before .before .before .args in
+    let a = c .before .before .before .before .before .before .before .before .before .args in
     let g = heldIn (a .g .now) .graph in
     let p = pathRecord (routesIn (a .s .now) (a .y)) (a .p) in
-    let read = c .before .before .before .before .before .before .before .before .path-of .ensures in
-    let lead = sym (rw read at (c .before .before .before .leading-block .ensures)) ∙ ap leadingOf (c .before .b .given .1) in
-    (sym (land-handler g p (ap (λ (x : Path). x .end) (sym read) ∙ c .before .before .before .before .if2 .left) ∙ ap blockIn lead), omega (arith, leads-begins g (p .handler) _ lead .built .exists, block-most (a .g .now)))
-
-returns-4 : tie.Need-returns-4
-unfolding blockIn
-returns-4 c =
-    let a = c .before .before .before .before .before .before .before .before .before .before .args in
-    let g = heldIn (a .g .now) .graph in
-    let p = pathRecord (routesIn (a .s .now) (a .y)) (a .p) in
-    let read = c .before .before .before .before .before .before .before .path-of .ensures in
-    let lead = sym (rw read at (c .before .before .leading-block .ensures)) ∙ ap leadingOf (c .enum-told .given .1) in
-    (sym (land-handler g p (ap (λ (x : Path). x .end) (sym read) ∙ c .before .before .before .if2 .left) ∙ ap blockIn lead), omega arith)
-
-returns-5 : tie.Need-returns-5
-unfolding blockIn
-returns-5 c =
-    let a = c .before .before .before .before .before .before .before .before .before .before .args in
-    let g = heldIn (a .g .now) .graph in
-    let p = pathRecord (routesIn (a .s .now) (a .y)) (a .p) in
-    let read = c .before .before .before .before .before .before .before .path-of .ensures in
-    let lead = sym (rw read at (c .before .before .leading-block .ensures)) ∙ ap leadingOf (c .enum-told2 .given .1) in
-    (sym (land-handler g p (ap (λ (x : Path). x .end) (sym read) ∙ c .before .before .before .if2 .left) ∙ ap blockIn lead), omega arith)
+    let read = c .before .before .before .before .before .before .path-of .ensures in
+    let led = c .led-block .ensures ∙ ap blockIn (rw read at (c .before .leading-block .ensures)) in
+    (led ∙ sym (land-handler g p (ap (λ (x : Path). x .end) (sym read) ∙ c .before .before .if2 .left)), omega (arith, led, led-few g (p .handler), block-most (a .g .now)))
 
 pub land-spec : {M : Type 1} → statement M
-land-spec = tie.close (tie.spec (λ c κs. search needs) returns returns-2 (λ c κs. search needs) (λ c. search needs) (λ c. search needs) (λ c. search needs) returns-3 returns-4 returns-5)
+land-spec = tie.close (tie.spec (λ c κs. search needs) returns returns-2 (λ c κs. search needs) (λ c κs. search needs) returns-3)
