@@ -46,7 +46,7 @@ returns c =
     let test = c .before .before .before .before .before .before .loop-test .taken in
     let told = ap checkOf (c .enum-told2 .given .1) in (
       λ edges.
-      told ∙ sym (checks-stop _ (top .i) (a .n) _ test (top .inv .1 edges) (node-check (heldIn (a .g .now) .graph) (routesIn (a .s .now) (a .y)) edges (a .ends .now) (a .nodes .now) (a .n) (top .i) test ∙ sym (c .before .before .before .before .check-node .ensures .0 edges) ∙ told)),
+          told ∙ sym (checks-stop _ (top .i) (a .n) _ test (top .inv .1 edges) (node-check (heldIn (a .g .now) .graph) (routesIn (a .s .now) (a .y)) edges (a .ends .now) (a .nodes .now) (a .n) (top .i) test ∙ sym (c .before .before .before .before .check-node .ensures .0 edges) ∙ told)),
       λ e. absurd (not-clear told e),
     )
 

@@ -53,8 +53,7 @@ place-requires c κs =
     let room = start .pre .2 in
     let linked = c .before .before .before .before .before .before .before .before .before .before .before .before .link .ensures in
     let checked = c .before .before .before .before .before .before .before .before .before .before .before .before .before .before .before .before .before .before .before .before .check-nodes in
-    let told = ap checkOf (c .before .before .before .before .before .before .before .before .before .before .before .before .before .before .before .before .enum-told .given .1) in
-    (
+    let told = ap checkOf (c .before .before .before .before .before .before .before .before .before .before .before .before .before .before .before .before .enum-told .given .1) in (
       stands-of (heldIn (a .g .now)) (start .pre .0 .graphed),
       linked .1,
       linked .0,
