@@ -44,7 +44,7 @@ use Rattle.unwind.specs.Placed.{setAt, Slots, SameSizes, Placed, funclet
 use Rattle.addition.proofs.Lists.{or-left, mem-keep, mem-upto, mem-among, flat-suc, flat-le}
 use Rattle.addition.proofs.Accepted.{lead-begins}
 use Rattle.addition.proofs.Instance.{place-first, place-later, copied-later}
-use Rattle.unwind.proofs.Sets.{none-kept, Rises, part-kept, size-has, rank-has}
+use Rattle.unwind.proofs.Sets.{none-kept, Rises, part-kept, below-has, size-has, rank-has}
 use Rattle.unwind.proofs.CloneLaws.{rank-few}
 use Rattle.unwind.proofs.TrieNodes.{length-nodes, funclet-at}
 
@@ -296,11 +296,11 @@ module _ (g : Graph) (m : RouteImage) (nodes : List ℕ) (i : ℕ) (bases entrie
     alike : funcletAt m nodes r ≡ funcletAt m nodes i
     alike = same-eq (funcletAt m nodes r) (funcletAt m nodes i) same
 
-    pub clone-next : (k : ℕ) → k ≡ sizeOf w → NodePlaced i b (b + count (member w) (getD entries r 0)) w (setAt returns r) bases entries parts returns bases′ entries′ parts′ returns′
+    pub clone-next : (k : ℕ) → count (member w) (length (g .blocks)) ≤ k → k ≤ sizeOf w → NodePlaced i b (b + count (member w) (getD entries r 0)) w (setAt returns r) bases entries parts returns bases′ entries′ parts′ returns′
         → Placing g m nodes i b k bases entries parts returns bases′ entries′ parts′ returns′
-    clone-next k size p =
+    clone-next k least most p =
         record {
-          few = rw size (count-le (member w) 1024);
+          few = omega (arith, most, count-le (member w) 1024);
           sizes = sizes-kept p;
           rest = entries-rest p;
           next = λ edges ends n h is old.
@@ -311,7 +311,9 @@ module _ (g : Graph) (m : RouteImage) (nodes : List ℕ) (i : ℕ) (bases entrie
               let has : Has w (partOf g (funclets (routesOf m)) (funcletAt m nodes i)) = rw blocks-r at (old .part-has r lt) in
               let entry = entry-alike g m nodes edges ends n i r h lt alike f bases entries parts returns old in
               let ranked = entry-rank g (funclets (routesOf m)) (funcletAt m nodes i) w few leads has in
-              let sized = size-has (length (g .blocks)) few _ (part-rises g (funclets (routesOf m)) (funcletAt m nodes i)) w has in
+              let rises = part-rises g (funclets (routesOf m)) (funcletAt m nodes i) in
+              let sized = size-has (length (g .blocks)) few _ rises w has in
+              let below = below-has (length (g .blocks)) few _ rises w has in
               let copies = ap length (copied-later g (routesOf m) (nodesIn m nodes edges ends n) i is-later ∙ blocks-i) in (
                 placed-more g m nodes edges ends n i _ _ _ _ _ _ _ _ _ _ _ _ (omega (arith, s .bases-fit)) (omega (arith, s .entries-fit)) p
                     (rw is-later is)

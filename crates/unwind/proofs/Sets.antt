@@ -4,7 +4,7 @@
 --     keep-kept                    the kept ones of a rising list
 --     Rises, part-kept, keep-rises, guarded-kept     parts, what is kept of them, and guarded blocks are such lists
 --     returns-has                  the set of those that return has the kept list
---     has-lt, size-has, rank-has   a set that has such a list: as many blocks, and as many below one
+--     has-lt, below-has, size-has, rank-has   a set that has such a list: as many blocks, and as many below one
 -- Assumes nothing.
 use mathlib.Core.Path.{_≡_, refl, sym, ap, _∙_}
 use mathlib.Core.Bool.{Bool, true, false, cond, _&&_, _||_, false≢true, and-false, or-false}
@@ -173,17 +173,18 @@ module _ (n : ℕ) (few : n ≤ 1024) (l : List ℕ) (r : Rises n l) (w : List �
   pub has-lt : (b : ℕ) → member w b ≡ true → b < n
   has-lt b m = ltb-true b n (and-both (ltb b n) (r .test b) (sym (member-is b) ∙ m) .0)
 
+  pub below-has : count (member w) n ≡ length l
+  below-has = count-same (member w) (r .test) n (λ b h. member-is b ∙ rw (lt-ltb b n h)) ∙ sym (length-kept (r .test) n) ∙ ap length (sym (r .is))
+
   pub size-has : sizeOf w ≡ length l
   size-has =
       let rest : 1024 ≡ n + (1024 - n) = omega arith in
-      ap (count (member w)) rest
-      ∙ count-add (member w) n (1024 - n)
-      ∙ omega (
+      omega (
         arith,
-        count-same (member w) (r .test) n (λ b h. member-is b ∙ rw (lt-ltb b n h)),
+        ap (count (member w)) rest,
+        count-add (member w) n (1024 - n),
         count-none (λ (k : ℕ). member w (n + k)) (1024 - n) (λ k h. member-is (n + k) ∙ rw (le-ltb (n + k) n (omega arith))),
-        length-kept (r .test) n,
-        ap length (r .is),
+        below-has,
       )
 
   pub rank-has : (b : ℕ) → member w b ≡ true → count (member w) b ≡ rank b l

@@ -1,12 +1,12 @@
 // Instances in scratch: for each node of the trie the first of its copies, its entry, its blocks and those that return.
 use crate::part::part_of;
+use crate::slots::members_of;
 use crate::slots::put_set;
 use crate::slots::set_at;
 use crate::tries::store::node_in;
 use crate::tries::store::number_in;
 use graph::blockset::common_of;
 use graph::blockset::rank_in;
-use graph::blockset::size_of;
 use graph::error::AddressBuildError;
 use graph::error::Checked;
 use graph::store::Words;
@@ -28,6 +28,7 @@ ghost use Rattle.unwind.specs.Stands.{Stands};
 ghost use Rattle.unwind.specs.PartSearch.{PartFrom};
 ghost use Rattle.addition.specs.Instance.{entryBlock};
 ghost use Rattle.addition.specs.Add.{funcletCheck};
+ghost use Rattle.unwind.specs.Most.{membersOf};
 ghost use Rattle.unwind.specs.Placed.{setAt, Slots, funcletAt, Entered, Ready, Firsts, NodePlaced, Placing, PlacedAll};
 
 // Most blocks of a graph (18).
@@ -106,7 +107,8 @@ fn place_node(
     let slot = slot_of(f, entry);
     let first = number_in(firsts, slot);
     if first != 0 {
-        return place_clone(first - 1, i, base, bases, entries, parts, returns);
+        let blocks = block_count(g);
+        return place_clone(blocks, first - 1, i, base, bases, entries, parts, returns);
     }
     firsts[slot] = (i + 1) as u16;
     let part = part_at(g, head, next, barriers, f, entry);
@@ -115,8 +117,10 @@ fn place_node(
     0
 }
 
-// Node i, a later one of the funclet of node `first`: it has copies, the first of which is block `base`. How many?
+// Node i, a later one of the funclet of node `first`: it has copies, the first of which is block `base`. How many? As many as
+// the blocks of the funclet, which are below `blocks`.
 fn place_clone(
+    blocks: usize,
     first: usize,
     i: usize,
     base: usize,
@@ -125,14 +129,15 @@ fn place_clone(
     parts: &mut [u64],
     returns: &mut [u64],
 ) -> usize
-    requires { ⌜ (first < i) × Slots (i + 1) (now bases) (now entries) (now parts) (now returns) × (base ≤ 1024) ⌝ }
-    ensures { λ r. ⌜ NodePlaced i base (base + count (member (setAt (now (parts .entry)) first)) (getD (now (entries .entry)) first 0)) (setAt (now (parts .entry)) first) (setAt (now (returns .entry)) first) (now (bases .entry)) (now (entries .entry)) (now (parts .entry)) (now (returns .entry)) (now (bases .exit)) (now (entries .exit)) (now (parts .exit)) (now (returns .exit)) × (r ≡ sizeOf (setAt (now (parts .entry)) first)) ⌝ }
+    requires { ⌜ (first < i) × Slots (i + 1) (now bases) (now entries) (now parts) (now returns) × (base ≤ 1024) × (blocks ≤ 1024) ⌝ }
+    ensures { λ r. ⌜ NodePlaced i base (base + count (member (setAt (now (parts .entry)) first)) (getD (now (entries .entry)) first 0)) (setAt (now (parts .entry)) first) (setAt (now (returns .entry)) first) (now (bases .entry)) (now (entries .entry)) (now (parts .entry)) (now (returns .entry)) (now (bases .exit)) (now (entries .exit)) (now (parts .exit)) (now (returns .exit)) × (membersOf (now (parts .entry)) blocks first ≤ r) × (r ≤ sizeOf (setAt (now (parts .entry)) first)) ⌝ }
 {
     let part = set_at(parts, first);
     let ret = set_at(returns, first);
     let entry = base + rank_in(&part, number_in(entries, first));
+    let copies = members_of(parts, first, blocks);
     store_node(i, base, entry, &part, &ret, bases, entries, parts, returns);
-    size_of(&part)
+    copies
 }
 
 // The slot of the funclet that step f - 1 names, by its entry; 0 at the root of a route.

@@ -4,6 +4,7 @@ ghost use mathlib.Core.Path.{_≡_};
 ghost use Prim.Native.Nat.{_+_, _*_, _/_, _≤_, _<_};
 ghost use lib.Bits.{bitXor};
 ghost use lib.ListN.{length, getD};
+ghost use Rattle.graph.specs.BlockSet.{sizeOf};
 ghost use Rattle.unwind.specs.Gather.{inSet};
 ghost use Rattle.unwind.specs.Most.{membersOf};
 ghost use Rattle.unwind.specs.Placed.{setAt, SetPut};
@@ -46,10 +47,10 @@ pub fn in_set(sets: &[u64], i: usize, b: usize) -> bool
     false
 }
 
-// No fewer than the blocks of set i that are below `blocks`: all that its words up to there have.
+// How many blocks set i has in its words up to `blocks`: all that are below, and maybe some that are not.
 pub fn members_of(sets: &[u64], i: usize, blocks: usize) -> usize
     requires { ⌜ (16 * i + 16 ≤ length (now sets)) × (blocks ≤ 1024) ⌝ }
-    ensures { λ r. ⌜ (membersOf (now (sets .entry)) blocks i ≤ r) × (r ≤ 1024) ⌝ }
+    ensures { λ r. ⌜ (membersOf (now (sets .entry)) blocks i ≤ r) × (r ≤ 1024) × (r ≤ sizeOf (setAt (now (sets .entry)) i)) ⌝ }
 {
     let at = 16 * i;
     let words = (blocks + 63) / 64;

@@ -55,9 +55,9 @@ slot-of-requires c κs = few c
 
 place-clone-requires : tie.Need-place-clone-requires
 place-clone-requires c κs =
-    let a = c .before .before .before .before .before .before .before .before .before .before .before .before .before .before .before .before .before .before .before .before .args in
-    let pre = c .before .before .before .before .before .before .before .before .before .before .before .before .before .before .before .before .before .before .before .before .pre in
-    (late-lt (heldIn (a .g .now) .graph) (routesIn (a .s .now) (a .y)) (a .nodes .now) (a .firsts .now) (a .i) _ _ (slot (c .before .before .before .before .before .before .before)) (c .before .before .before .before .before .number-in2 .ensures .0) (pre .1) (pre .3) (c .before .before .before .before .if1 .taken), pre .2, pre .5)
+    let a = c .before .before .before .before .before .before .before .before .before .before .before .before .before .before .before .before .before .before .before .before .before .args in
+    let pre = c .before .before .before .before .before .before .before .before .before .before .before .before .before .before .before .before .before .before .before .before .before .pre in
+    (late-lt (heldIn (a .g .now) .graph) (routesIn (a .s .now) (a .y)) (a .nodes .now) (a .firsts .now) (a .i) _ _ (slot (c .before .before .before .before .before .before .before .before)) (c .before .before .before .before .before .before .number-in2 .ensures .0) (pre .1) (pre .3) (c .before .before .before .before .before .if1 .taken), pre .2, pre .5, omega (arith, c .before .before .before .before .block-count .ensures, block-most (a .g .now)))
 
 same-length : tie.Need-same-length
 same-length c = sizes-kept (c .before .before .before .before .before .before .before .before .place-clone .ensures .0) .bases-long
@@ -73,19 +73,19 @@ same-length-4 c = sizes-kept (c .before .before .before .before .before .before 
 
 returns : tie.Need-returns
 returns c =
-    let a = c .before .before .before .before .before .before .before .before .before .before .before .before .before .before .before .before .before .before .before .before .before .before .before .before .before .before .before .before .before .args in
-    let pre = c .before .before .before .before .before .before .before .before .before .before .before .before .before .before .before .before .before .before .before .before .before .before .before .before .before .before .before .before .before .pre in
+    let a = c .before .before .before .before .before .before .before .before .before .before .before .before .before .before .before .before .before .before .before .before .before .before .before .before .before .before .before .before .before .before .args in
+    let pre = c .before .before .before .before .before .before .before .before .before .before .before .before .before .before .before .before .before .before .before .before .before .before .before .before .before .before .before .before .before .before .pre in
     let g = heldIn (a .g .now) .graph in
     let m = routesIn (a .s .now) (a .y) in
-    let taken = c .before .before .before .before .before .before .before .before .before .before .before .before .before .if1 .taken in
-    let at = slot (c .before .before .before .before .before .before .before .before .before .before .before .before .before .before .before .before) in
-    let v = c .before .before .before .before .before .before .before .before .before .before .before .before .before .before .number-in2 .ensures .0 in
+    let taken = c .before .before .before .before .before .before .before .before .before .before .before .before .before .before .if1 .taken in
+    let at = slot (c .before .before .before .before .before .before .before .before .before .before .before .before .before .before .before .before .before) in
+    let v = c .before .before .before .before .before .before .before .before .before .before .before .before .before .before .before .number-in2 .ensures .0 in
     let stored = c .before .before .before .before .before .before .before .before .place-clone .ensures in (
-      clone-next g m (a .nodes .now) (a .i) _ _ _ _ _ _ _ _ (pre .2) (block-most (a .g .now)) (leads (c .before .before .before .before .before .before .before .before .before .before .before .before .before .before .before .before .before .before .before .before .before .before .before .before .before .before .before .before .before)) (a .base) _
+      clone-next g m (a .nodes .now) (a .i) _ _ _ _ _ _ _ _ (pre .2) (block-most (a .g .now)) (leads (c .before .before .before .before .before .before .before .before .before .before .before .before .before .before .before .before .before .before .before .before .before .before .before .before .before .before .before .before .before .before)) (a .base) _
           (late-none g m (a .nodes .now) (a .firsts .now) (a .i) _ _ at v (pre .1) (pre .3) taken)
           (late-lt g m (a .nodes .now) (a .firsts .now) (a .i) _ _ at v (pre .1) (pre .3) taken)
           (late-like g m (a .nodes .now) (a .firsts .now) (a .i) _ _ at v (pre .1) (pre .3) taken)
-          _ (stored .1) (stored .0),
+          _ (rw (sym (c .before .before .before .before .before .before .before .before .before .before .before .before .before .block-count .ensures)) (stored .1)) (stored .2) (stored .0),
       firsts-late g m (a .nodes .now) (a .firsts .now) (a .i) _ _ at v (pre .1) (pre .3) taken,
     )
 
@@ -162,6 +162,7 @@ place-node-spec =
     number-in-requires
     slot-of-requires
     number-in-requires-2
+    (λ c κs. search needs)
     (λ c. search needs)
     place-clone-requires
     same-length
