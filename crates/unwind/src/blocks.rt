@@ -106,19 +106,10 @@ pub fn hint_blocks(g: &Words, built: usize, hints: &mut [u16])
     }
 }
 
-// The slot of an address among n hints.
+// The slot of an address among n hints: as far along them as the mixed address is along 32 bits.
 fn hint_slot(n: usize, a: u64) -> usize {
-    let mixed = a % 0x100000000 * 0x9E3779B9;
-    if n < 64 {
-        return (mixed / 0x10000000 % 16) as usize;
-    }
-    if n < 128 {
-        return (mixed / 0x4000000 % 64) as usize;
-    }
-    if n < 1024 {
-        return (mixed / 0x2000000 % 128) as usize;
-    }
-    (mixed / 0x400000 % 1024) as usize
+    let mixed = a % 0x100000000 * 0x9E3779B9 % 0x100000000;
+    (mixed * (n as u64 % 0x100000000) / 0x100000000) as usize
 }
 
 // The built block that a starts, or why there is none: by its hint, or else by halving.

@@ -25,7 +25,8 @@ ghost use Rattle.unwind.specs.Seen.{Seen};
 ghost use Rattle.unwind.specs.Interns.{weight, groupBehind, funcletOf, Grouped, Room, Closes, Interns};
 
 // The node of a group. It calls itself for each group that its paths lead to, which has fewer steps left; the edges of the
-// calls that are not finished stand on the stack, this one's from `top` on.
+// calls that are not finished stand on the stack, this one's from `top` on. What is stored is counted in three numbers: a struct
+// that a call has just written would be read at a loss.
 pub fn intern(
     s: &[u8],
     y: RouteLayout,
@@ -42,7 +43,9 @@ pub fn intern(
     requires { ⌜ Grouped (routesIn (now s) y) (now starts) g × Stored (now nodes) (now edges) (now ends) counts × Room (now nodes) (now edges) (now ends) (now stack) counts top (suc (weight (pathsOf (routesIn (now s) y) g))) (weight (pathsOf (routesIn (now s) y) g)) (length (pathsOf (routesIn (now s) y) g)) × Lower (nodesIn (routesIn (now s) y) (now nodes) (now edges) (now ends) (counts .nodes)) × Seen (routesIn (now s) y) (now nodes) (counts .nodes) (now seen) × RoutesThere (now s) y ⌝ }
     ensures { λ r. ⌜ Interns (routesIn (now (s .entry)) y) g (now (nodes .entry)) (now (edges .entry)) (now (ends .entry)) (now (stack .entry)) counts top (now (nodes .exit)) (now (edges .exit)) (now (ends .exit)) (now (stack .exit)) r × Seen (routesIn (now (s .entry)) y) (now (nodes .exit)) (r .counts .nodes) (now (seen .exit)) ⌝ }
 {
-    let mut stored = counts;
+    let mut node_count = counts.nodes;
+    let mut edge_count = counts.edges;
+    let mut end_count = counts.ends;
     let mut n = 0;
     let mut last = NextKey::Nothing;
     loop {
@@ -58,7 +61,11 @@ pub fn intern(
                 ends,
                 stack,
                 seen,
-                stored,
+                Counts {
+                    nodes: node_count,
+                    edges: edge_count,
+                    ends: end_count,
+                },
                 top,
                 n,
             );
@@ -74,7 +81,11 @@ pub fn intern(
             ends,
             stack,
             seen,
-            stored,
+            Counts {
+                nodes: node_count,
+                edges: edge_count,
+                ends: end_count,
+            },
             top + n,
         );
         put_branch(
@@ -86,7 +97,9 @@ pub fn intern(
                 what: child.place,
             },
         );
-        stored = child.counts;
+        node_count = child.counts.nodes;
+        edge_count = child.counts.edges;
+        end_count = child.counts.ends;
         n += 1;
         last = next;
     }

@@ -39,11 +39,11 @@ abbrev intern-below : ℕ → In 7 intern-kinds.ps
 intern-below t = and 7 intern-kinds.ps (falls 7 intern-kinds.ps _<_ μ-intern t) intern.Pre
 
 abbrev intern-Inv-loop : intern-lts.InvT-loop
-intern-Inv-loop s y starts g nodes₀ edges₀ ends₀ stack₀ seen₀ top stored₀ n₀ last₀ nodes edges ends stack seen stored n last =
-    Working (routesIn s y) g nodes₀ edges₀ ends₀ stack₀ stored₀ top nodes edges ends stack stored n last × Seen (routesIn s y) nodes (stored .nodes) seen
+intern-Inv-loop s y starts g nodes₀ edges₀ ends₀ stack₀ seen₀ top node₀ edge₀ end₀ n₀ last₀ nodes edges ends stack seen node edge end n last =
+    Working (routesIn s y) g nodes₀ edges₀ ends₀ stack₀ (record { nodes = node₀; edges = edge₀; ends = end₀ }) top nodes edges ends stack (record { nodes = node; edges = edge; ends = end }) n last × Seen (routesIn s y) nodes node seen
 
 abbrev intern-μ-loop : intern-lts.MeasureT-loop
-intern-μ-loop s y starts g nodes₀ edges₀ ends₀ stack₀ seen₀ top stored₀ n₀ last₀ nodes edges ends stack seen stored n last =
+intern-μ-loop s y starts g nodes₀ edges₀ ends₀ stack₀ seen₀ top node₀ edge₀ end₀ n₀ last₀ nodes edges ends stack seen node edge end n last =
     length (left (routesIn s y) g last)
 
 -- a key that was found
@@ -121,7 +121,7 @@ intern-close-node-requires : (t : ℕ) → intern-lts.Need-close-node-requires (
 intern-close-node-requires t c κs =
     let m = routesIn (c .before .before .before .before .before .before .before .before .before .before .before .before .before .before .before .args .s .now) (c .before .before .before .before .before .before .before .before .before .before .before .before .before .before .before .args .y) in
     let next : NextOf m (c .before .before .before .before .before .before .before .before .before .before .before .before .before .before .before .args .g) (c .before .before .before .before .before .before .before .before .loop .last) Nothing = rw (c .before .before .before .before .before .enum-told .given .1) at (c .before .before .before .before .before .before .before .next-key .ensures) in
-    (c .before .before .before .before .before .before .before .before .before .before .before .before .before .before .before .pre .1 .0, c .before .before .before .before .before .before .before .before .loop .inv .0 .stored, close-room m (c .before .before .before .before .before .before .before .before .before .before .before .before .before .before .before .args .g) (c .before .before .before .before .before .before .before .before .before .before .before .before .before .before .before .args .nodes .now) (c .before .before .before .before .before .before .before .before .before .before .before .before .before .before .before .args .edges .now) (c .before .before .before .before .before .before .before .before .before .before .before .before .before .before .before .args .ends .now) (c .before .before .before .before .before .before .before .before .before .before .before .before .before .before .before .args .stack .now) (c .before .before .before .before .before .before .before .before .before .before .before .before .before .before .before .args .counts) (c .before .before .before .before .before .before .before .before .before .before .before .before .before .before .before .args .top) (c .before .before .before .before .before .before .before .before .before .before .before .before .before .before .before .pre .1 .2) (c .before .before .before .before .before .before .before .before .loop .nodes) (c .before .before .before .before .before .before .before .before .loop .edges) (c .before .before .before .before .before .before .before .before .loop .ends) (c .before .before .before .before .before .before .before .before .loop .stack) (c .before .before .before .before .before .before .before .before .loop .stored) (c .before .before .before .before .before .before .before .before .loop .n) (c .before .before .before .before .before .before .before .before .loop .last) (c .before .before .before .before .before .before .before .before .loop .inv .0) next, c .before .before .before .before .before .before .before .before .loop .inv .0 .lower, c .before .before .before .before .before .before .before .before .loop .inv .1, c .before .before .before .before .before .before .before .before .before .before .before .before .before .before .before .pre .1 .5)
+    (c .before .before .before .before .before .before .before .before .before .before .before .before .before .before .before .pre .1 .0, c .before .before .before .before .before .before .before .before .loop .inv .0 .stored, close-room m (c .before .before .before .before .before .before .before .before .before .before .before .before .before .before .before .args .g) (c .before .before .before .before .before .before .before .before .before .before .before .before .before .before .before .args .nodes .now) (c .before .before .before .before .before .before .before .before .before .before .before .before .before .before .before .args .edges .now) (c .before .before .before .before .before .before .before .before .before .before .before .before .before .before .before .args .ends .now) (c .before .before .before .before .before .before .before .before .before .before .before .before .before .before .before .args .stack .now) (c .before .before .before .before .before .before .before .before .before .before .before .before .before .before .before .args .counts) (c .before .before .before .before .before .before .before .before .before .before .before .before .before .before .before .args .top) (c .before .before .before .before .before .before .before .before .before .before .before .before .before .before .before .pre .1 .2) (c .before .before .before .before .before .before .before .before .loop .nodes) (c .before .before .before .before .before .before .before .before .loop .edges) (c .before .before .before .before .before .before .before .before .loop .ends) (c .before .before .before .before .before .before .before .before .loop .stack) _ (c .before .before .before .before .before .before .before .before .loop .n) (c .before .before .before .before .before .before .before .before .loop .last) (c .before .before .before .before .before .before .before .before .loop .inv .0) next, c .before .before .before .before .before .before .before .before .loop .inv .0 .lower, c .before .before .before .before .before .before .before .before .loop .inv .1, c .before .before .before .before .before .before .before .before .before .before .before .before .before .before .before .pre .1 .5)
 
 intern-same-length : (t : ℕ) → intern-lts.Need-same-length (
   next-key-reads.Asked,
@@ -194,7 +194,7 @@ intern-returns : (t : ℕ) → intern-lts.Need-returns (
 intern-returns t c =
     let m = routesIn (c .before .before .before .before .before .before .before .before .before .before .before .before .before .before .before .before .before .before .before .before .before .before .args .s .now) (c .before .before .before .before .before .before .before .before .before .before .before .before .before .before .before .before .before .before .before .before .before .before .args .y) in
     let next : NextOf m (c .before .before .before .before .before .before .before .before .before .before .before .before .before .before .before .before .before .before .before .before .before .before .args .g) (c .before .before .before .before .before .before .before .before .before .before .before .before .before .before .before .loop .last) Nothing = rw (c .before .before .before .before .before .before .before .before .before .before .before .before .enum-told .given .1) at (c .before .before .before .before .before .before .before .before .before .before .before .before .before .before .next-key .ensures) in
-    (work-done m (c .before .before .before .before .before .before .before .before .before .before .before .before .before .before .before .before .before .before .before .before .before .before .args .g) (c .before .before .before .before .before .before .before .before .before .before .before .before .before .before .before .before .before .before .before .before .before .before .args .nodes .now) (c .before .before .before .before .before .before .before .before .before .before .before .before .before .before .before .before .before .before .before .before .before .before .args .edges .now) (c .before .before .before .before .before .before .before .before .before .before .before .before .before .before .before .before .before .before .before .before .before .before .args .ends .now) (c .before .before .before .before .before .before .before .before .before .before .before .before .before .before .before .before .before .before .before .before .before .before .args .stack .now) (c .before .before .before .before .before .before .before .before .before .before .before .before .before .before .before .before .before .before .before .before .before .before .args .counts) (c .before .before .before .before .before .before .before .before .before .before .before .before .before .before .before .before .before .before .before .before .before .before .args .top) (c .before .before .before .before .before .before .before .before .before .before .before .before .before .before .before .before .before .before .before .before .before .before .pre .1 .2) (c .before .before .before .before .before .before .before .before .before .before .before .before .before .before .before .loop .nodes) (c .before .before .before .before .before .before .before .before .before .before .before .before .before .before .before .loop .edges) (c .before .before .before .before .before .before .before .before .before .before .before .before .before .before .before .loop .ends) (c .before .before .before .before .before .before .before .before .before .before .before .before .before .before .before .loop .stack) (c .before .before .before .before .before .before .before .before .before .before .before .before .before .before .before .loop .stored) (c .before .before .before .before .before .before .before .before .before .before .before .before .before .before .before .loop .n) (c .before .before .before .before .before .before .before .before .before .before .before .before .before .before .before .loop .last) (c .before .before .before .before .before .before .before .before .before .before .before .before .before .before .before .loop .inv .0) next _ _ _ (c .before .before .before .before .before .before .close-node .result) (c .before .before .before .before .before .before .close-node .ensures .0), c .before .before .before .before .before .before .close-node .ensures .1)
+    (work-done m (c .before .before .before .before .before .before .before .before .before .before .before .before .before .before .before .before .before .before .before .before .before .before .args .g) (c .before .before .before .before .before .before .before .before .before .before .before .before .before .before .before .before .before .before .before .before .before .before .args .nodes .now) (c .before .before .before .before .before .before .before .before .before .before .before .before .before .before .before .before .before .before .before .before .before .before .args .edges .now) (c .before .before .before .before .before .before .before .before .before .before .before .before .before .before .before .before .before .before .before .before .before .before .args .ends .now) (c .before .before .before .before .before .before .before .before .before .before .before .before .before .before .before .before .before .before .before .before .before .before .args .stack .now) (c .before .before .before .before .before .before .before .before .before .before .before .before .before .before .before .before .before .before .before .before .before .before .args .counts) (c .before .before .before .before .before .before .before .before .before .before .before .before .before .before .before .before .before .before .before .before .before .before .args .top) (c .before .before .before .before .before .before .before .before .before .before .before .before .before .before .before .before .before .before .before .before .before .before .pre .1 .2) (c .before .before .before .before .before .before .before .before .before .before .before .before .before .before .before .loop .nodes) (c .before .before .before .before .before .before .before .before .before .before .before .before .before .before .before .loop .edges) (c .before .before .before .before .before .before .before .before .before .before .before .before .before .before .before .loop .ends) (c .before .before .before .before .before .before .before .before .before .before .before .before .before .before .before .loop .stack) _ (c .before .before .before .before .before .before .before .before .before .before .before .before .before .before .before .loop .n) (c .before .before .before .before .before .before .before .before .before .before .before .before .before .before .before .loop .last) (c .before .before .before .before .before .before .before .before .before .before .before .before .before .before .before .loop .inv .0) next _ _ _ (c .before .before .before .before .before .before .close-node .result) (c .before .before .before .before .before .before .close-node .ensures .0), c .before .before .before .before .before .before .close-node .ensures .1)
 
 intern-group-behind-requires : (t : ℕ) → intern-lts.Need-group-behind-requires (
   next-key-reads.Asked,
@@ -294,8 +294,8 @@ intern-add-n : (t : ℕ) → intern-lts.Need-add-n (
   put-branch-reads.Learnt,
 ) (intern-at t) intern.Post intern-Inv-loop intern-μ-loop
 intern-add-n t c =
-    let next = found _ _ _ _ (c .before .before .before .before .before .before .before .before .before .before .before .before .before .before .before .before .before .before .before .before .before .next .given .1) (c .before .before .before .before .before .before .before .before .before .before .before .before .before .before .before .before .before .before .before .before .before .before .before .next-key .ensures) in
-    omega (arith, push-room _ _ _ _ _ _ _ _ (c .before .before .before .before .before .before .before .before .before .before .before .before .before .before .before .before .before .before .before .before .before .before .before .before .before .before .before .before .before .before .before .pre .1 .2) _ _ _ _ _ _ _ (c .before .before .before .before .before .before .before .before .before .before .before .before .before .before .before .before .before .before .before .before .before .before .before .before .loop .inv .0) _ next .0)
+    let next = found _ _ _ _ (c .before .before .before .before .before .before .before .before .before .before .before .before .before .before .before .before .before .before .before .before .next .given .1) (c .before .before .before .before .before .before .before .before .before .before .before .before .before .before .before .before .before .before .before .before .before .before .next-key .ensures) in
+    omega (arith, push-room _ _ _ _ _ _ _ _ (c .before .before .before .before .before .before .before .before .before .before .before .before .before .before .before .before .before .before .before .before .before .before .before .before .before .before .before .before .before .before .pre .1 .2) _ _ _ _ _ _ _ (c .before .before .before .before .before .before .before .before .before .before .before .before .before .before .before .before .before .before .before .before .before .before .before .loop .inv .0) _ next .0)
 
 intern-loop-less : (t : ℕ) → intern-lts.Need-loop-less (
   next-key-reads.Asked,
@@ -310,8 +310,8 @@ intern-loop-less : (t : ℕ) → intern-lts.Need-loop-less (
   put-branch-reads.Learnt,
 ) (intern-at t) intern.Post intern-Inv-loop intern-μ-loop
 intern-loop-less t c =
-    let next = found _ _ _ _ (c .before .before .before .before .before .before .before .before .before .before .before .before .before .before .before .before .before .before .before .before .before .next .given .1) (c .before .before .before .before .before .before .before .before .before .before .before .before .before .before .before .before .before .before .before .before .before .before .before .next-key .ensures) in
-    left-falls _ _ _ _ _ _ _ _ (c .before .before .before .before .before .before .before .before .before .before .before .before .before .before .before .before .before .before .before .before .before .before .before .before .before .before .before .before .before .before .before .pre .1 .2) _ _ _ _ _ _ _ (c .before .before .before .before .before .before .before .before .before .before .before .before .before .before .before .before .before .before .before .before .before .before .before .before .loop .inv .0) _ next
+    let next = found _ _ _ _ (c .before .before .before .before .before .before .before .before .before .before .before .before .before .before .before .before .before .before .before .before .next .given .1) (c .before .before .before .before .before .before .before .before .before .before .before .before .before .before .before .before .before .before .before .before .before .before .next-key .ensures) in
+    left-falls _ _ _ _ _ _ _ _ (c .before .before .before .before .before .before .before .before .before .before .before .before .before .before .before .before .before .before .before .before .before .before .before .before .before .before .before .before .before .before .pre .1 .2) _ _ _ _ _ _ _ (c .before .before .before .before .before .before .before .before .before .before .before .before .before .before .before .before .before .before .before .before .before .before .before .loop .inv .0) _ next
 
 intern-loop-again : (t : ℕ) → intern-lts.Need-loop-again (
   next-key-reads.Asked,
@@ -326,11 +326,11 @@ intern-loop-again : (t : ℕ) → intern-lts.Need-loop-again (
   put-branch-reads.Learnt,
 ) (intern-at t) intern.Post intern-Inv-loop intern-μ-loop
 intern-loop-again t c =
-    let next = found _ _ _ _ (c .before .before .before .before .before .before .before .before .before .before .before .before .before .before .before .before .before .before .before .before .before .next .given .1) (c .before .before .before .before .before .before .before .before .before .before .before .before .before .before .before .before .before .before .before .before .before .before .before .next-key .ensures) in
-    let done = rw (c .before .before .before .before .before .before .before .before .before .before .before .before .before .before .before .before .before .before .before .group-behind .ensures) at (c .before .before .before .before .before .before .before .before .before .before .before .before .before .intern .ensures .0) in (
-      work-next _ _ _ _ _ _ _ _ (c .before .before .before .before .before .before .before .before .before .before .before .before .before .before .before .before .before .before .before .before .before .before .before .before .before .before .before .before .before .before .before .pre .1 .2) _ _ _ _ _ _ _ (c .before .before .before .before .before .before .before .before .before .before .before .before .before .before .before .before .before .before .before .before .before .before .before .before .loop .inv .0) _ next _ _ _ _ _ done _ (c .before .before .before .put-branch .ensures)
-          (c .before .before .before .before .before .before .before .before .before .before .before .before .before .intern .kept .1 .1 .1 .1 .0) (c .before .before .before .before .before .before .before .before .before .before .before .before .before .intern .kept .1 .1 .1 .1 .1 .0) (c .before .before .before .before .before .before .before .before .before .before .before .before .before .intern .kept .1 .1 .1 .1 .1 .1 .0) (c .before .before .before .before .before .before .before .before .before .before .before .before .before .intern .kept .1 .1 .1 .1 .1 .1 .1 .0),
-      c .before .before .before .before .before .before .before .before .before .before .before .before .before .intern .ensures .1,
+    let next = found _ _ _ _ (c .before .before .before .before .before .before .before .before .before .before .before .before .before .before .before .before .before .before .before .before .next .given .1) (c .before .before .before .before .before .before .before .before .before .before .before .before .before .before .before .before .before .before .before .before .before .before .next-key .ensures) in
+    let done = rw (c .before .before .before .before .before .before .before .before .before .before .before .before .before .before .before .before .before .before .group-behind .ensures) at (c .before .before .before .before .before .before .before .before .before .before .before .before .intern .ensures .0) in (
+      work-next _ _ _ _ _ _ _ _ (c .before .before .before .before .before .before .before .before .before .before .before .before .before .before .before .before .before .before .before .before .before .before .before .before .before .before .before .before .before .before .pre .1 .2) _ _ _ _ _ _ _ (c .before .before .before .before .before .before .before .before .before .before .before .before .before .before .before .before .before .before .before .before .before .before .before .loop .inv .0) _ next _ _ _ _ _ done _ (c .before .before .put-branch .ensures)
+          (c .before .before .before .before .before .before .before .before .before .before .before .before .intern .kept .1 .1 .1 .1 .0) (c .before .before .before .before .before .before .before .before .before .before .before .before .intern .kept .1 .1 .1 .1 .1 .0) (c .before .before .before .before .before .before .before .before .before .before .before .before .intern .kept .1 .1 .1 .1 .1 .1 .0) (c .before .before .before .before .before .before .before .before .before .before .before .before .intern .kept .1 .1 .1 .1 .1 .1 .1 .0),
+      c .before .before .before .before .before .before .before .before .before .before .before .before .intern .ensures .1,
     )
 
 pub +intern-spec : {M : Type 1} → statement M
