@@ -1,4 +1,4 @@
-// The frames of an addition: scratch of four sizes, zeroed for each call, so that a small addition does not pay for a large one.
+// The frames of an addition: scratch of five sizes, zeroed for each call, so that a small addition does not pay for a large one.
 use crate::add::AddedRoutes;
 use crate::add::run::add_tries;
 use crate::hops::Hops;
@@ -27,7 +27,7 @@ pub fn add_checked(
     ensures { λ r. ⌜ Adds (routesIn (now (s .entry)) y) (now (g .entry)) (now (g .exit)) (now (h .entry)) (now (h .exit)) r ⌝ }
 {
     if !is_small(g) {
-        return add_full(g, built, s, y, h);
+        return add_to_any(g, built, s, y, h);
     }
     if is_few(y, 6, 6, 2) {
         return add_tiny(g, built, s, y, h);
@@ -37,6 +37,17 @@ pub fn add_checked(
     }
     if is_few(y, 64, 32, 8) {
         return add_middle(g, built, s, y, h);
+    }
+    add_to_any(g, built, s, y, h)
+}
+
+// The same where the graph may have any size.
+fn add_to_any(g: &mut Words, built: usize, s: &[u8], y: RouteLayout, h: &mut Hops) -> AddedRoutes
+    requires { ⌜ RoutesChecked (heldIn (now g)) built (routesIn (now s) y) × RoutesThere (now s) y ⌝ }
+    ensures { λ r. ⌜ Adds (routesIn (now (s .entry)) y) (now (g .entry)) (now (g .exit)) (now (h .entry)) (now (h .exit)) r ⌝ }
+{
+    if is_few(y, 128, 48, 12) {
+        return add_wide(g, built, s, y, h);
     }
     add_full(g, built, s, y, h)
 }
@@ -183,6 +194,60 @@ fn add_middle(g: &mut Words, built: usize, s: &[u8], y: RouteLayout, h: &mut Hop
     let mut guards = [0u64; 128];
     let mut landings = [0u16; 32];
     let mut exits = [0u16; 576];
+    let stored = intern_routes(
+        s,
+        y,
+        &mut starts,
+        &mut nodes,
+        &mut edges,
+        &mut ends,
+        &mut stack,
+        &mut roots,
+    );
+    add_tries(
+        g,
+        built,
+        &mut stack,
+        s,
+        y,
+        h,
+        &nodes,
+        &edges,
+        &ends,
+        &roots,
+        stored,
+        &mut head,
+        &mut next,
+        &mut bases,
+        &mut heads,
+        &mut parts,
+        &mut returns,
+        &mut guards,
+        &mut landings,
+        &mut exits,
+    )
+}
+
+// Not all that there may be, to any graph.
+fn add_wide(g: &mut Words, built: usize, s: &[u8], y: RouteLayout, h: &mut Hops) -> AddedRoutes
+    requires { ⌜ RoutesChecked (heldIn (now g)) built (routesIn (now s) y) × Few y 128 48 12 × RoutesThere (now s) y ⌝ }
+    ensures { λ r. ⌜ Adds (routesIn (now (s .entry)) y) (now (g .entry)) (now (g .exit)) (now (h .entry)) (now (h .exit)) r ⌝ }
+{
+    let mut starts = [0u16; 49];
+    let mut nodes = [0u16; 840];
+    let mut edges = [0u16; 384];
+    let mut ends = [0u16; 144];
+    let mut stack = [0u16; 384];
+    let mut roots = [0u16; 12];
+    let mut head = [0u16; 1024];
+    let mut next = [0u16; 4096];
+    let mut bases = [0u16; 140];
+    let mut heads = [0u16; 140];
+    let mut parts = [0u64; 2240];
+    let mut returns = [0u64; 2240];
+    let mut guards = [0u64; 192];
+    let mut landings = [0u16; 48];
+    let mut exits = [0u16; 1056];
     let stored = intern_routes(
         s,
         y,
