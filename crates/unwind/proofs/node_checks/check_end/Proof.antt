@@ -4,7 +4,7 @@ use borrow.Author.Needs.{needs}
 use Rattle.image.specs.declared.record.Path.{Path}
 use Rattle.image.specs.Image.{routesIn}
 use Rattle.graph.specs.Words.{heldIn}
-use Rattle.addition.specs.Add.{leadFound, leadCheck}
+use Rattle.addition.specs.Add.{leadCheck}
 use Rattle.unwind.specs.Nodes.{pathRecord}
 use Rattle.unwind.proofs.NodeChecks.{end-handler, end-other}
 use Rattle.unwind.proofs.node_checks.check_end.Statement.{statement}

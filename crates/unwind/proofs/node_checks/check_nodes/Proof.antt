@@ -5,7 +5,7 @@ use mathlib.Core.List.{List}
 use Prim.Native.Nat.{ℕ, _-_, _≤_}
 use native.Mathlib.Omega.{arith}
 use borrow.Author.Needs.{needs}
-use lib.ListN.{length, length-set}
+use lib.ListN.{length}
 use Rattle.image.specs.Refusal.{clear, checks}
 use Rattle.image.specs.Image.{routesIn}
 use Rattle.image.proofs.Checks.{checks-more, checks-stop, not-clear}
