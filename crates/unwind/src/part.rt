@@ -49,6 +49,7 @@ fn is_ordinary(kind: u64) -> bool
 }
 
 // The built blocks that start a funclet of the routes, put into an empty set: the entries of the n nodes but the roots.
+// Of the graph and the routes nothing is read; the contract speaks of them.
 pub fn funclet_entries(
     g: &Words,
     s: &[u8],

@@ -35,7 +35,7 @@ ghost use Rattle.unwind.specs.Placed.{setAt, Slots, funcletAt, Entered, 
 const MOST: usize = 1024;
 
 // The instances of the n nodes, told the entries of their funclets, by the first node of each; 18 where with their copies there
-// are too many blocks.
+// are too many blocks. Of the routes nothing is read; the contract speaks of them.
 pub fn place_nodes(
     g: &Words,
     s: &[u8],
