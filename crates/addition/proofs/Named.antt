@@ -1,6 +1,7 @@
 -- The funclets of the routes are those of the nodes.
 --     spelled-node                 a node that spells a funclet leads to one that entered it
 --     funclet-node, node-funclet   a funclet of the routes, and that of a node
+-- Assumes nothing.
 use mathlib.Core.Path.{_≡_, sym, _∙_, ap}
 use mathlib.Core.Logic.{_⊎_, inl, inr}
 use mathlib.Core.List.{List, _∷_, map, List·Memᴰ·head, List·Memᴰ·tail, List·Memᴰ·append-cases}
@@ -18,17 +19,17 @@ use Rattle.addition.proofs.Intern.{Rooted, no-more, rooted, tries-law}
 use Rattle.addition.proofs.Closure.{mem-funclets, funclets-mem}
 
 -- some node entered a
-abbrev Entered : List Node → ℕ → Type 0
-Entered z a = (i : ℕ) × (n : Node) × (at z i ≡ some n) × (n .funclet ≡ some a)
+abbrev SomeNode : List Node → ℕ → Type 0
+SomeNode z a = (i : ℕ) × (n : Node) × (at z i ≡ some n) × (n .funclet ≡ some a)
 
 no-call : (l : List ℕ) (a : ℕ) → funclet a ∈ map call l → ⊥
 no-call l a m = let e = map-mem call l m .2 in let z : _≡_ {A = ℕ} 0 1 = cc in omega arith
 
-spelled-node : (z : List Node) (a : ℕ) {n : Node} {s : List UnwindStep} {e : UnwindEnd} → Spelled z n s e → funclet a ∈ s → Entered z a
+spelled-node : (z : List Node) (a : ℕ) {n : Node} {s : List UnwindStep} {e : UnwindEnd} → Spelled z n s e → funclet a ∈ s → SomeNode z a
 spelled-node z a (stops d m p q) i = absurd (no-call (d .calls) a (rw p at i))
 spelled-node z a (goes d m c here f fun t more p) i = go (List·Memᴰ·append-cases (map call (d .calls)) (rw p at i)) (spelled-node z a more)
   where
-    go : (funclet a ∈ map call (d .calls)) ⊎ (funclet a ∈ funclet f ∷ t) → (funclet a ∈ t → Entered z a) → Entered z a
+    go : (funclet a ∈ map call (d .calls)) ⊎ (funclet a ∈ funclet f ∷ t) → (funclet a ∈ t → SomeNode z a) → SomeNode z a
     go (inl k) below = absurd (no-call (d .calls) a k)
     go (inr (List·Memᴰ·head k)) below = let same : f ≡ a = cc in (d .what, c, here, fun ∙ ap some same)
     go (inr (List·Memᴰ·tail k)) below = below k

@@ -1,7 +1,7 @@
 -- The most ways out of blocks bound the hops and their lists.
 --     Fits                         so many hops and lists at most
 --     members-less, members-next   a set has no more blocks below fewer; a word more of it
---     sum-more, product-most       one more of a sum, and a product that is small
+--     sum-more, product-most       one more of a sum, and a product with the size of a set
 --     most-hops                    all hops that routes give
 -- Assumes nothing.
 use mathlib.Core.Path.{_≡_, refl, sym, ap, _∙_}
@@ -17,8 +17,8 @@ use lib.Dec.{eqb, isEq}
 use lib.ListN.{length, getD, length-append}
 use Rattle.image.specs.Image.{RouteImage}
 use Rattle.graph.specs.Fold.{flat, count, sum}
-use Rattle.graph.specs.BlockSet.{member}
-use Rattle.graph.proofs.FoldLaws.{length-table, getD-table, decided, count-yes, count-no, count-add}
+use Rattle.graph.specs.BlockSet.{member, sizeOf}
+use Rattle.graph.proofs.FoldLaws.{length-table, getD-table, decided, count-yes, count-no, count-add, count-le}
 use Rattle.graph.proofs.BlockLaws.{size-more}
 use Rattle.addition.specs.Lists.{joined}
 use Rattle.addition.specs.Order.{sorted}
@@ -92,8 +92,10 @@ sum-next f n = ap (sum f) (add-one n)
 pub sum-more : (f : ℕ → ℕ) (n most a k b : ℕ) → f n ≡ a * k → k ≤ b → sum f n ≤ most → sum f (n + 1) ≤ most + a * b
 sum-more f n most a k b is above h = omega (arith, sum-next f n, is, mul-le-mul-left a above)
 
-pub product-most : (a b : ℕ) → a ≤ 131072 → b ≤ 1024 → a * b ≤ 134217728
-product-most a b h k = omega (arith, mul-le-mul h k)
+pub product-most : (w : List ℕ) (a b : ℕ) → a ≤ 131072 → b ≤ sizeOf w → a * b ≤ 134217728
+product-most w a b h k =
+    let most : b ≤ 1024 = omega (arith, k, count-le (member w) 1024) in
+    omega (arith, mul-le-mul h most)
 
 sum-add : (f h s : ℕ → ℕ) (n : ℕ) → ((k : ℕ) → k < n → f k + h k ≡ s k) → sum f n + sum h n ≡ sum s n
 unfolding sum

@@ -50,7 +50,7 @@ pub fn in_set(sets: &[u64], i: usize, b: usize) -> bool
 // How many blocks set i has in its words up to `blocks`: all that are below, and maybe some that are not.
 pub fn members_of(sets: &[u64], i: usize, blocks: usize) -> usize
     requires { ⌜ (16 * i + 16 ≤ length (now sets)) × (blocks ≤ 1024) ⌝ }
-    ensures { λ r. ⌜ (membersOf (now (sets .entry)) blocks i ≤ r) × (r ≤ 1024) × (r ≤ sizeOf (setAt (now (sets .entry)) i)) ⌝ }
+    ensures { λ r. ⌜ (membersOf (now (sets .entry)) blocks i ≤ r) × (r ≤ sizeOf (setAt (now (sets .entry)) i)) ⌝ }
 {
     let at = 16 * i;
     let words = (blocks + 63) / 64;

@@ -45,7 +45,7 @@ returns c =
     let part = c .before .before .before .before .before .before .before .before .before .before .before .before .before .before .before .before .before .before .before .before .before .before .before .set-at .ensures in (
       rw (c .before .before .before .before .before .before .before .before .before .before .before .before .before .before .before .before .before .rank-in .ensures, c .before .before .before .before .before .before .before .before .before .before .before .before .before .before .before .before .before .before .number-in .ensures .0, part, c .before .before .before .before .before .before .before .before .before .before .before .before .before .before .before .before .before .before .before .before .before .set-at2 .ensures) at (c .before .before .before .before .before .before .before .before .store-node .ensures),
       c .before .before .before .before .before .before .before .before .before .before .before .before .before .before .before .members-of .ensures .0,
-      c .before .before .before .before .before .before .before .before .before .before .before .before .before .before .before .members-of .ensures .2,
+      c .before .before .before .before .before .before .before .before .before .before .before .before .before .before .before .members-of .ensures .1,
     )
 
 pub place-clone-spec : {M : Type 1} → statement M

@@ -45,7 +45,7 @@ returns : tie.Need-returns Inv-loop μ-loop
 returns c =
     let a = c .before .before .args in
     let end = c .before .loop in
-    (omega (arith, end .inv .2, members-less (setAt (a .sets .now) (a .i)) (a .blocks) (64 * end .k) (omega arith)), omega arith, omega (arith, end .inv .2, members-less (setAt (a .sets .now) (a .i)) (64 * end .k) 1024 (omega arith)))
+    (omega (arith, end .inv .2, members-less (setAt (a .sets .now) (a .i)) (a .blocks) (64 * end .k) (omega arith)), omega (arith, end .inv .2, members-less (setAt (a .sets .now) (a .i)) (64 * end .k) 1024 (omega arith)))
 
 pub members-of-spec : {M : Type 1} → statement M
 members-of-spec =

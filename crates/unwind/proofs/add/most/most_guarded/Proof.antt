@@ -29,7 +29,7 @@ members-of-requires : tie.Need-members-of-requires Inv-loop μ-loop
 members-of-requires c κs = let pre = c .before .before .before .before .before .before .before .pre in (omega (arith, pre .2, c .before .before .loop-test .taken), pre .1)
 
 product : (c : tie.After-members-of Inv-loop μ-loop) → c .before .ways-of .result * c .members-of .result ≤ 134217728
-product c = product-most _ _ (c .before .ways-of .ensures .1) (c .members-of .ensures .1)
+product c = product-most _ _ _ (c .before .ways-of .ensures .1) (c .members-of .ensures .1)
 
 mul-most : tie.Need-mul-most Inv-loop μ-loop
 mul-most c = omega (arith, product c)
