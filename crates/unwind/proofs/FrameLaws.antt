@@ -1,6 +1,7 @@
 -- The scratch of an addition, from its lengths to the instances that stand in it.
 --     all-few, all-small           no routes and no graph has more
---     scratched, roomed            the lengths of a frame for no more than so many: for the tries, and where they stand
+--     framed                       a frame for no more than so many, by its lengths
+--     scratched, roomed            its room for the tries, and where they stand
 --     nodes-checked                the checks of the nodes in scratch
 --     placements, at-hand          the instances, and then the sides
 -- Assumes nothing.
@@ -32,7 +33,7 @@ use Rattle.unwind.specs.Placed.{PlacedAll}
 use Rattle.unwind.specs.Sides.{Lands, GuardsIn}
 use Rattle.addition.specs.Add.{nodeCheck}
 use Rattle.unwind.specs.Answers.{RoutesChecked}
-use Rattle.unwind.specs.Frames.{Few, Small, Room, NodesPass, Placements, AtHand}
+use Rattle.unwind.specs.Frames.{Few, Small, Frame, Room, NodesPass, Placements, AtHand}
 use Rattle.unwind.proofs.Standing.{stands-of}
 use Rattle.unwind.proofs.TrieNodes.{length-nodes}
 use Rattle.unwind.proofs.SizeChecks.{placed-in, bounded-in}
@@ -51,35 +52,76 @@ all-few s y ok =
 pub all-small : (w : List ℕ) → Small (heldIn w .graph) 1024 4096
 all-small w = record { blocks-few = block-most w; edges-few = edge-most w }
 
-module _ (s : List ℕ) (y : RouteLayout) (steps paths routes : ℕ) (few : Few y steps paths routes) where
-  pub scratched : {starts nodes edges ends stack roots : List ℕ}
-      → length starts ≡ paths + 1 → length nodes ≡ 6 * (routes + steps) → length edges ≡ 3 * steps → length ends ≡ 3 * paths → length stack ≡ 3 * steps → length roots ≡ routes
-      → Scratch (routesIn s y) starts nodes edges ends stack roots
-  scratched starts-long nodes-long edges-long ends-long stack-long roots-long =
+-- a frame, by its lengths
+pub framed : {y : RouteLayout} {g : Graph} {starts nodes edges ends stack roots head next bases heads parts returns guards landings exits : List ℕ} (steps paths routes blocks links : ℕ)
+    → Few y steps paths routes → Small g blocks links → steps ≤ 512 → paths ≤ 128 → blocks < 6 * (steps + paths)
+    → length starts ≡ paths + 1 → length nodes ≡ 6 * (routes + steps) → length edges ≡ 3 * steps → length ends ≡ 3 * paths → length stack ≡ 3 * steps → length roots ≡ routes
+    → length head ≡ blocks → length next ≡ links → head ≡ replicate (length head) 0
+    → length bases ≡ routes + steps → length heads ≡ routes + steps → length parts ≡ 16 * (routes + steps) → length returns ≡ 16 * (routes + steps)
+    → length guards ≡ 16 * routes → length landings ≡ paths → length exits ≡ 6 * (steps + paths) → exits ≡ replicate (length exits) 0
+    → Frame y g starts nodes edges ends stack roots head next bases heads parts returns guards landings exits
+framed steps paths routes blocks links few small steps-most paths-most blocks-most starts-long nodes-long edges-long ends-long stack-long roots-long head-long next-long unlinked bases-long heads-long parts-long returns-long guards-long landings-long exits-long unplaced =
+    record {
+      steps = steps;
+      paths = paths;
+      routes = routes;
+      blocks = blocks;
+      links = links;
+      few = few;
+      small = small;
+      steps-most = steps-most;
+      paths-most = paths-most;
+      blocks-most = blocks-most;
+      starts-long = starts-long;
+      nodes-long = nodes-long;
+      edges-long = edges-long;
+      ends-long = ends-long;
+      stack-long = stack-long;
+      roots-long = roots-long;
+      head-long = head-long;
+      next-long = next-long;
+      unlinked = unlinked;
+      bases-long = bases-long;
+      heads-long = heads-long;
+      parts-long = parts-long;
+      returns-long = returns-long;
+      guards-long = guards-long;
+      landings-long = landings-long;
+      exits-long = exits-long;
+      unplaced = unplaced;
+    }
+
+module _ (s : List ℕ) (y : RouteLayout) (g : Graph) {starts nodes edges ends stack roots head next bases heads parts returns guards landings exits : List ℕ} (f : Frame y g starts nodes edges ends stack roots head next bases heads parts returns guards landings exits) where
+  pub scratched : Scratch (routesIn s y) starts nodes edges ends stack roots
+  scratched =
       let steps-are = length-records stepFrom s (y .steps) in
       let paths-are = length-records pathFrom s (y .paths) in
       let routes-are = length-records routeFrom s (y .routes) in
-      record { starts-fit = omega arith; nodes-fit = omega arith; edges-fit = omega arith; ends-fit = omega arith; stack-fit = omega arith; roots-fit = omega arith }
+      record {
+        starts-fit = omega (arith, f .few .paths-few, f .starts-long);
+        nodes-fit = omega (arith, f .few .steps-few, f .few .routes-few, f .nodes-long);
+        edges-fit = omega (arith, f .few .steps-few, f .edges-long);
+        ends-fit = omega (arith, f .few .paths-few, f .ends-long);
+        stack-fit = omega (arith, f .few .steps-few, f .stack-long);
+        roots-fit = omega (arith, f .few .routes-few, f .roots-long);
+      }
 
-  module _ (g : Graph) (blocks most : ℕ) (small : Small g blocks most) (steps-most : steps ≤ 512) (paths-most : paths ≤ 128) (blocks-most : blocks < 6 * (steps + paths)) where
-    pub roomed : {nodes edges ends roots head next bases heads parts returns guards landings exits : List ℕ} {c : Counts}
-        → TriesIn (routesIn s y) nodes edges ends roots c → length nodes ≡ 6 * (routes + steps) → length edges ≡ 3 * steps → length ends ≡ 3 * paths
-        → length head ≡ blocks → length next ≡ most → head ≡ replicate (length head) 0
-        → length bases ≡ routes + steps → length heads ≡ routes + steps → length parts ≡ 16 * (routes + steps) → length returns ≡ 16 * (routes + steps)
-        → length guards ≡ 16 * routes → length landings ≡ paths → length exits ≡ 6 * (steps + paths) → exits ≡ replicate (length exits) 0
-        → Room g (routesIn s y) edges ends head next bases heads parts returns guards landings exits c
-    roomed t nodes-long edges-long ends-long head-long next-long unlinked bases-long heads-long parts-long returns-long guards-long landings-long exits-long unplaced =
-        let routes-are = length-records routeFrom s (y .routes) in
-        record {
-          links = record { blocks = omega arith; edges = omega arith };
-          unlinked = unlinked;
-          slots = record { bases-fit = omega arith; entries-fit = omega arith; parts-fit = omega arith; returns-fit = omega arith };
-          guards-fit = omega arith;
-          landings-fit = omega arith;
-          exits-fit = record { edges-few = omega arith; ends-few = omega arith; room = omega arith };
-          firsts-fit = omega arith;
-          unplaced = unplaced;
-        }
+  -- where the tries stand
+  pub roomed : {nodes′ edges′ ends′ roots′ : List ℕ} {c : Counts}
+      → TriesIn (routesIn s y) nodes′ edges′ ends′ roots′ c → length nodes′ ≡ length nodes → length edges′ ≡ length edges → length ends′ ≡ length ends
+      → Room g (routesIn s y) edges′ ends′ head next bases heads parts returns guards landings exits c
+  roomed t nodes-kept edges-kept ends-kept =
+      let routes-are = length-records routeFrom s (y .routes) in
+      record {
+        links = record { blocks = omega (arith, f .small .blocks-few, f .head-long); edges = omega (arith, f .small .edges-few, f .next-long) };
+        unlinked = f .unlinked;
+        slots = record { bases-fit = omega (arith, t .stored .nodes-fit, f .nodes-long, f .bases-long); entries-fit = omega (arith, t .stored .nodes-fit, f .nodes-long, f .heads-long); parts-fit = omega (arith, t .stored .nodes-fit, f .nodes-long, f .parts-long); returns-fit = omega (arith, t .stored .nodes-fit, f .nodes-long, f .returns-long) };
+        guards-fit = omega (arith, f .few .routes-few, f .guards-long);
+        landings-fit = omega (arith, t .stored .ends-fit, f .ends-long, f .landings-long);
+        exits-fit = record { edges-few = omega (arith, f .steps-most, f .edges-long); ends-few = omega (arith, f .paths-most, f .ends-long); room = omega (arith, f .edges-long, f .ends-long, f .exits-long) };
+        firsts-fit = omega (arith, f .small .blocks-few, f .blocks-most, f .exits-long);
+        unplaced = f .unplaced;
+      }
 
 -- ---- what stands
 

@@ -2,7 +2,7 @@
 use mathlib.Core.Path.{_≡_}
 use mathlib.Core.Bool.{true}
 use mathlib.Core.List.{List}
-use Prim.Native.Nat.{ℕ, _*_, _≤_, _<_}
+use Prim.Native.Nat.{ℕ, _+_, _*_, _≤_, _<_}
 use lib.ListN.{length, replicate}
 use Rattle.image.specs.Refusal.{clear}
 use Rattle.image.specs.Image.{RouteImage}
@@ -33,6 +33,37 @@ pub record Few (y : RouteLayout) (steps paths routes : ℕ) : Type 0 where
 pub record Small (g : Graph) (blocks edges : ℕ) : Type 0 where
   pub blocks-few : length (g .blocks) ≤ blocks
   pub edges-few : length (g .edges) ≤ edges
+
+-- THE FRAME of an addition: slices of these lengths, for no more than so many steps, paths, routes, blocks and edges; no block is
+-- linked and no node placed
+pub record Frame (y : RouteLayout) (g : Graph) (starts nodes edges ends stack roots head next bases heads parts returns guards landings exits : List ℕ) : Type 0 where
+  pub steps : ℕ
+  pub paths : ℕ
+  pub routes : ℕ
+  pub blocks : ℕ
+  pub links : ℕ
+  pub few : Few y steps paths routes
+  pub small : Small g blocks links
+  pub steps-most : steps ≤ 512
+  pub paths-most : paths ≤ 128
+  pub blocks-most : blocks < 6 * (steps + paths)
+  pub starts-long : length starts ≡ paths + 1
+  pub nodes-long : length nodes ≡ 6 * (routes + steps)
+  pub edges-long : length edges ≡ 3 * steps
+  pub ends-long : length ends ≡ 3 * paths
+  pub stack-long : length stack ≡ 3 * steps
+  pub roots-long : length roots ≡ routes
+  pub head-long : length head ≡ blocks
+  pub next-long : length next ≡ links
+  pub unlinked : head ≡ replicate (length head) 0
+  pub bases-long : length bases ≡ routes + steps
+  pub heads-long : length heads ≡ routes + steps
+  pub parts-long : length parts ≡ 16 * (routes + steps)
+  pub returns-long : length returns ≡ 16 * (routes + steps)
+  pub guards-long : length guards ≡ 16 * routes
+  pub landings-long : length landings ≡ paths
+  pub exits-long : length exits ≡ 6 * (steps + paths)
+  pub unplaced : exits ≡ replicate (length exits) 0
 
 -- THE ROOM where the tries stand: for the links of the graph, of which there are none yet, for an instance of each node, and for
 -- the exits of a block; where those go the first node of each slot stands before, of which there is none yet

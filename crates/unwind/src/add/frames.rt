@@ -1,8 +1,7 @@
 // The frames of an addition: scratch of five sizes, zeroed for each call, so that a small addition does not pay for a large one.
 use crate::add::AddedRoutes;
-use crate::add::run::add_tries;
+use crate::add::run::add_framed;
 use crate::hops::Hops;
-use crate::tries::intern_routes;
 use graph::store::Words;
 use graph::store::blocks::block_count;
 use graph::store::edges::edge_count;
@@ -86,28 +85,18 @@ fn add_tiny(g: &mut Words, built: usize, s: &[u8], y: RouteLayout, h: &mut Hops)
     let mut guards = [0u64; 32];
     let mut landings = [0u16; 6];
     let mut exits = [0u16; 72];
-    let stored = intern_routes(
+    add_framed(
+        g,
+        built,
         s,
         y,
+        h,
         &mut starts,
         &mut nodes,
         &mut edges,
         &mut ends,
         &mut stack,
         &mut roots,
-    );
-    add_tries(
-        g,
-        built,
-        &mut stack,
-        s,
-        y,
-        h,
-        &nodes,
-        &edges,
-        &ends,
-        &roots,
-        stored,
         &mut head,
         &mut next,
         &mut bases,
@@ -140,28 +129,18 @@ fn add_small(g: &mut Words, built: usize, s: &[u8], y: RouteLayout, h: &mut Hops
     let mut guards = [0u64; 64];
     let mut landings = [0u16; 16];
     let mut exits = [0u16; 288];
-    let stored = intern_routes(
+    add_framed(
+        g,
+        built,
         s,
         y,
+        h,
         &mut starts,
         &mut nodes,
         &mut edges,
         &mut ends,
         &mut stack,
         &mut roots,
-    );
-    add_tries(
-        g,
-        built,
-        &mut stack,
-        s,
-        y,
-        h,
-        &nodes,
-        &edges,
-        &ends,
-        &roots,
-        stored,
         &mut head,
         &mut next,
         &mut bases,
@@ -194,28 +173,18 @@ fn add_middle(g: &mut Words, built: usize, s: &[u8], y: RouteLayout, h: &mut Hop
     let mut guards = [0u64; 128];
     let mut landings = [0u16; 32];
     let mut exits = [0u16; 576];
-    let stored = intern_routes(
+    add_framed(
+        g,
+        built,
         s,
         y,
+        h,
         &mut starts,
         &mut nodes,
         &mut edges,
         &mut ends,
         &mut stack,
         &mut roots,
-    );
-    add_tries(
-        g,
-        built,
-        &mut stack,
-        s,
-        y,
-        h,
-        &nodes,
-        &edges,
-        &ends,
-        &roots,
-        stored,
         &mut head,
         &mut next,
         &mut bases,
@@ -248,28 +217,18 @@ fn add_wide(g: &mut Words, built: usize, s: &[u8], y: RouteLayout, h: &mut Hops)
     let mut guards = [0u64; 192];
     let mut landings = [0u16; 48];
     let mut exits = [0u16; 1056];
-    let stored = intern_routes(
+    add_framed(
+        g,
+        built,
         s,
         y,
+        h,
         &mut starts,
         &mut nodes,
         &mut edges,
         &mut ends,
         &mut stack,
         &mut roots,
-    );
-    add_tries(
-        g,
-        built,
-        &mut stack,
-        s,
-        y,
-        h,
-        &nodes,
-        &edges,
-        &ends,
-        &roots,
-        stored,
         &mut head,
         &mut next,
         &mut bases,
@@ -302,28 +261,18 @@ fn add_full(g: &mut Words, built: usize, s: &[u8], y: RouteLayout, h: &mut Hops)
     let mut guards = [0u64; 512];
     let mut landings = [0u16; 128];
     let mut exits = [0u16; 3840];
-    let stored = intern_routes(
+    add_framed(
+        g,
+        built,
         s,
         y,
+        h,
         &mut starts,
         &mut nodes,
         &mut edges,
         &mut ends,
         &mut stack,
         &mut roots,
-    );
-    add_tries(
-        g,
-        built,
-        &mut stack,
-        s,
-        y,
-        h,
-        &nodes,
-        &edges,
-        &ends,
-        &roots,
-        stored,
         &mut head,
         &mut next,
         &mut bases,

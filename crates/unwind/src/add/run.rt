@@ -1,4 +1,4 @@
-// An addition in scratch that is lent, where the tries stand: the instances, the sizes, and then the stores.
+// An addition in scratch that is lent: the tries, the instances, the sizes, and then the stores.
 use crate::add::AddedRoutes;
 use crate::add::store::add_placed;
 use crate::blocks::hint_blocks;
@@ -9,6 +9,7 @@ use crate::part::returning_blocks;
 use crate::place::place_nodes;
 use crate::sides::guard_routes;
 use crate::sides::land_ends;
+use crate::tries::intern_routes;
 use crate::tries::store::Counts;
 use graph::error::Checked;
 use graph::reach::link;
@@ -28,10 +29,61 @@ ghost use Rattle.unwind.specs.Routed.{TriesIn};
 ghost use Rattle.unwind.specs.Placed.{Slots, funcletAt, Named, Entered, Firsts, PlacedAll};
 ghost use Rattle.addition.specs.Add.{funcletCheck};
 ghost use Rattle.unwind.specs.Answers.{Adds, Sized, RoutesChecked};
-ghost use Rattle.unwind.specs.Frames.{Room, Placements};
+ghost use Rattle.unwind.specs.Frames.{Frame, Room, Placements};
+
+// In a frame that has room: the tries, and all that is made of them.
+pub fn add_framed(
+    g: &mut Words,
+    built: usize,
+    s: &[u8],
+    y: RouteLayout,
+    h: &mut Hops,
+    starts: &mut [u16],
+    nodes: &mut [u16],
+    edges: &mut [u16],
+    ends: &mut [u16],
+    stack: &mut [u16],
+    roots: &mut [u16],
+    head: &mut [u16],
+    next: &mut [u16],
+    bases: &mut [u16],
+    heads: &mut [u16],
+    parts: &mut [u64],
+    returns: &mut [u64],
+    guards: &mut [u64],
+    landings: &mut [u16],
+    exits: &mut [u16],
+) -> AddedRoutes
+    requires { ⌜ RoutesChecked (heldIn (now g)) built (routesIn (now s) y) × RoutesThere (now s) y × Frame y (heldIn (now g) .graph) (now starts) (now nodes) (now edges) (now ends) (now stack) (now roots) (now head) (now next) (now bases) (now heads) (now parts) (now returns) (now guards) (now landings) (now exits) ⌝ }
+    ensures { λ r. ⌜ Adds (routesIn (now (s .entry)) y) (now (g .entry)) (now (g .exit)) (now (h .entry)) (now (h .exit)) r ⌝ }
+{
+    let stored = intern_routes(s, y, starts, nodes, edges, ends, stack, roots);
+    add_tries(
+        g,
+        built,
+        stack,
+        s,
+        y,
+        h,
+        nodes,
+        edges,
+        ends,
+        roots,
+        stored,
+        head,
+        next,
+        bases,
+        heads,
+        parts,
+        returns,
+        guards,
+        landings,
+        exits,
+    )
+}
 
 // Tries that stand: the checks of their nodes, and then the instances.
-pub fn add_tries(
+fn add_tries(
     g: &mut Words,
     built: usize,
     hints: &mut [u16],

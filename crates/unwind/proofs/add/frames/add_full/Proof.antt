@@ -1,25 +1,15 @@
 -- The lengths are those of a frame for all steps, paths and routes that there may be. Assumes nothing.
 use mathlib.Core.Path.{refl}
 use native.Mathlib.Omega.{arith}
-use Rattle.graph.specs.Words.{heldIn}
-use Rattle.unwind.proofs.FrameLaws.{all-few, all-small, scratched, roomed}
+use Rattle.unwind.proofs.FrameLaws.{all-few, all-small, framed}
 use borrow.Author.Needs.{needs}
 use Rattle.unwind.proofs.add.frames.add_full.Statement.{statement}
 use Rattle.unwind.proofs.add.frames.add_full.Tie as tie
 
-intern-routes-requires : tie.Need-intern-routes-requires
-intern-routes-requires c κs =
-    let start = c .before .before .before .before .before .before .before in
-    let a = start .args in
-    (start .pre .0 .accepted, scratched (a .s .now) (a .y) 512 128 32 (all-few (a .s .now) (a .y) (start .pre .0 .accepted)) refl refl refl refl refl refl, search needs)
-
-add-tries-requires : tie.Need-add-tries-requires
-add-tries-requires c κs =
-    let start = c .before .before .before .before .before .before .before .before .before .before .before .before .before .before .before .before .before .before .before .before .before .before .before .before .before .before .before .before .before .before in
-    let a = start .args in
-    let tries = c .before .before .before .before .before .before .before .before .before .before .before .before .before .before .before .before .before .before .before .before .before .before .intern-routes in
-    let kept = tries .kept .1 .1 .1 in
-    (start .pre .0, tries .ensures, roomed (a .s .now) (a .y) 512 128 32 (all-few (a .s .now) (a .y) (start .pre .0 .accepted)) (heldIn (a .g .now) .graph) 1024 4096 (all-small (a .g .now)) (omega arith) (omega arith) (omega arith) (tries .ensures) (kept .0) (kept .1 .0) (kept .1 .1 .0) refl refl refl refl refl refl refl refl refl refl refl, search needs)
+add-framed-requires : tie.Need-add-framed-requires
+add-framed-requires c κs =
+    let start = c .before .before .before .before .before .before .before .before .before .before .before .before .before .before .before .before .before .before in
+    (start .pre .0, search needs, framed 512 128 32 1024 4096 (all-few (start .args .s .now) (start .args .y) (start .pre .0 .accepted)) (all-small (start .args .g .now)) (omega arith) (omega arith) (omega arith) refl refl refl refl refl refl refl refl refl refl refl refl refl refl refl refl refl)
 
 pub add-full-spec : {M : Type 1} → statement M
 add-full-spec =
@@ -31,7 +21,6 @@ add-full-spec =
     (λ c. search needs)
     (λ c. search needs)
     (λ c. search needs)
-    intern-routes-requires
     (λ c. search needs)
     (λ c. search needs)
     (λ c. search needs)
@@ -41,10 +30,5 @@ add-full-spec =
     (λ c. search needs)
     (λ c. search needs)
     (λ c. search needs)
-    (λ c. search needs)
-    (λ c. search needs)
-    (λ c. search needs)
-    (λ c. search needs)
-    (λ c. search needs)
-    add-tries-requires
+    add-framed-requires
     (λ c. search needs))

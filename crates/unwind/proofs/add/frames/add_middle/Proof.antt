@@ -1,25 +1,15 @@
 -- The lengths are those of a frame for 64 steps, 32 paths and 8 routes. Assumes nothing.
 use mathlib.Core.Path.{refl}
 use native.Mathlib.Omega.{arith}
-use Rattle.graph.specs.Words.{heldIn}
-use Rattle.unwind.proofs.FrameLaws.{scratched, roomed}
+use Rattle.unwind.proofs.FrameLaws.{framed}
 use borrow.Author.Needs.{needs}
 use Rattle.unwind.proofs.add.frames.add_middle.Statement.{statement}
 use Rattle.unwind.proofs.add.frames.add_middle.Tie as tie
 
-intern-routes-requires : tie.Need-intern-routes-requires
-intern-routes-requires c κs =
-    let start = c .before .before .before .before .before .before .before in
-    let a = start .args in
-    (start .pre .0 .accepted, scratched (a .s .now) (a .y) 64 32 8 (start .pre .1) refl refl refl refl refl refl, search needs)
-
-add-tries-requires : tie.Need-add-tries-requires
-add-tries-requires c κs =
-    let start = c .before .before .before .before .before .before .before .before .before .before .before .before .before .before .before .before .before .before .before .before .before .before .before .before .before .before .before .before .before .before in
-    let a = start .args in
-    let tries = c .before .before .before .before .before .before .before .before .before .before .before .before .before .before .before .before .before .before .before .before .before .before .intern-routes in
-    let kept = tries .kept .1 .1 .1 in
-    (start .pre .0, tries .ensures, roomed (a .s .now) (a .y) 64 32 8 (start .pre .1) (heldIn (a .g .now) .graph) 64 256 (start .pre .2) (omega arith) (omega arith) (omega arith) (tries .ensures) (kept .0) (kept .1 .0) (kept .1 .1 .0) refl refl refl refl refl refl refl refl refl refl refl, search needs)
+add-framed-requires : tie.Need-add-framed-requires
+add-framed-requires c κs =
+    let start = c .before .before .before .before .before .before .before .before .before .before .before .before .before .before .before .before .before .before in
+    (start .pre .0, search needs, framed 64 32 8 64 256 (start .pre .1) (start .pre .2) (omega arith) (omega arith) (omega arith) refl refl refl refl refl refl refl refl refl refl refl refl refl refl refl refl refl)
 
 pub add-middle-spec : {M : Type 1} → statement M
 add-middle-spec =
@@ -31,7 +21,6 @@ add-middle-spec =
     (λ c. search needs)
     (λ c. search needs)
     (λ c. search needs)
-    intern-routes-requires
     (λ c. search needs)
     (λ c. search needs)
     (λ c. search needs)
@@ -41,10 +30,5 @@ add-middle-spec =
     (λ c. search needs)
     (λ c. search needs)
     (λ c. search needs)
-    (λ c. search needs)
-    (λ c. search needs)
-    (λ c. search needs)
-    (λ c. search needs)
-    (λ c. search needs)
-    add-tries-requires
+    add-framed-requires
     (λ c. search needs))
