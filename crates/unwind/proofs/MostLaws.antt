@@ -2,6 +2,7 @@
 --     Fits                         so many hops and lists at most
 --     members-less, members-next   a set has no more blocks below fewer; a word more of it
 --     sum-more, product-most       one more of a sum, and a product with the size of a set
+--     sum-most                     a sum of products with the sizes of sets, by how many there are
 --     most-hops                    all hops that routes give
 -- Assumes nothing.
 use mathlib.Core.Path.{_≡_, refl, sym, ap, _∙_}
@@ -96,6 +97,12 @@ pub product-most : (w : List ℕ) (a b : ℕ) → a ≤ 131072 → b ≤ sizeOf 
 product-most w a b h k =
     let most : b ≤ 1024 = omega (arith, k, count-le (member w) 1024) in
     omega (arith, mul-le-mul h most)
+
+-- n products, each of m or less and of how many of b blocks a set has
+pub sum-most : (w : ℕ → ℕ) (f : ℕ → ℕ → Bool) (m b n : ℕ) → ((k : ℕ) → k < n → w k ≤ m) → sum (λ k. w k * count (f k) b) n ≤ n * m * b
+unfolding sum
+sum-most w f m b zero each = omega arith
+sum-most w f m b (suc n) each = omega (arith, sum-most w f m b n (λ k h. each k (omega arith)), mul-le-mul (each n (omega arith)) (count-le (f n) b))
 
 sum-add : (f h s : ℕ → ℕ) (n : ℕ) → ((k : ℕ) → k < n → f k + h k ≡ s k) → sum f n + sum h n ≡ sum s n
 unfolding sum

@@ -1,5 +1,7 @@
 // The most ways out of blocks that routes can give: there are no more hops, lists of hops or route edges.
+use crate::hops::HOP_MOST;
 use crate::slots::members_of;
+use crate::tries::store::Counts;
 use crate::tries::store::node_in;
 use crate::tries::store::number_in;
 ghost use mathlib.Core.Path.{_≡_};
@@ -7,19 +9,25 @@ ghost use Prim.Native.Nat.{ℕ, _+_, _*_, _≤_, _<_};
 ghost use lib.ListN.{length, getD};
 ghost use Rattle.unwind.specs.Most.{waysOf, guardedWays, returnedWays};
 
-// Of each route out of the blocks that it guards, and of each node out of those from which it returns.
+// Of each route out of the blocks that it guards, and of each node out of those from which it returns. Where all edges and ends
+// out of all blocks, for each of them, are few, no set is counted.
 pub fn most_ways(
     nodes: &[u16],
     roots: &[u16],
     guards: &[u64],
     routes: usize,
     returns: &[u64],
-    n: usize,
+    stored: Counts,
     blocks: usize,
 ) -> usize
-    requires { ⌜ (routes ≤ 1024) × (n ≤ 1024) × (blocks ≤ 1024) × (16 * routes ≤ length (now guards)) × (16 * n ≤ length (now returns)) × ((r : ℕ) → r < routes → 6 * getD (now roots) r 0 + 6 ≤ length (now nodes)) × (routes ≤ length (now roots)) × (6 * n ≤ length (now nodes)) ⌝ }
-    ensures { λ r. ⌜ guardedWays (now (nodes .entry)) (now (roots .entry)) (now (guards .entry)) blocks routes + returnedWays (now (nodes .entry)) (now (returns .entry)) blocks n ≤ r ⌝ }
+    requires { ⌜ (routes ≤ 1024) × (stored .nodes ≤ 1024) × (stored .edges ≤ 512) × (stored .ends ≤ 128) × (blocks ≤ 1024) × (16 * routes ≤ length (now guards)) × (16 * stored .nodes ≤ length (now returns)) × ((r : ℕ) → r < routes → getD (now roots) r 0 < stored .nodes) × (routes ≤ length (now roots)) × (6 * stored .nodes ≤ length (now nodes)) × ((i : ℕ) → i < stored .nodes → waysOf (now nodes) i ≤ stored .edges + stored .ends) ⌝ }
+    ensures { λ r. ⌜ guardedWays (now (nodes .entry)) (now (roots .entry)) (now (guards .entry)) blocks routes + returnedWays (now (nodes .entry)) (now (returns .entry)) blocks (stored .nodes) ≤ r ⌝ }
 {
+    let n = stored.nodes;
+    let rough = (routes + n) * (stored.edges + stored.ends) * blocks;
+    if rough <= HOP_MOST {
+        return rough;
+    }
     most_guarded(nodes, roots, guards, routes, blocks) + most_returned(nodes, returns, n, blocks)
 }
 

@@ -134,7 +134,7 @@ fn check_sizes(
         guards,
         y.routes.count as usize,
         returns,
-        stored.nodes,
+        stored,
         block_count(g),
     );
     let bound = Sizes {
