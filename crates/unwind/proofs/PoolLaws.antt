@@ -3,7 +3,7 @@
 --     pool-length, pooled-most     there are no more entries than edges and ends
 --     node-room                    room for a node's
 --     adds-none, adds-some, adds-record, adds-next, adds-both     nothing, a node's, one more, and more behind others
---     set-in, set-past, set-outside, set-none      a set among many
+--     set-in, set-none             a set among many
 --     route-in, route-out, node-in, node-out       whose are gathered
 --     node-own, node-copy, node-off    of a node with the original blocks, of one with copies, and of one that does not return
 use mathlib.Core.Path.{_≡_, sym, _∙_, ap, subst}
@@ -174,10 +174,7 @@ module _ (l : List ℕ) (i b : ℕ) where
   zero-word : (w : ℕ) → w ≡ 0 → false ≡ eqb (w / 2 ^ (b % 64) % 2) 1
   zero-word w e = rw (e, zero-div (2 ^ (b % 64)))
 
-  pub set-past : b < 1024 → length l ≤ 16 * i + b / 64 → false ≡ inSet l i b
-  set-past h k = zero-word (getD l (16 * i + b / 64) 0) (List·getD-eq-default l 0 k) ∙ set-in h
-
-  pub set-outside : 1024 ≤ b → false ≡ inSet l i b
+  set-outside : 1024 ≤ b → false ≡ inSet l i b
   unfolding member
   set-outside h = zero-word (getD (take 16 (drop (16 * i) l)) (b / 64) 0) (List·getD-eq-default (take 16 (drop (16 * i) l)) 0 (rw (length-take 16 (drop (16 * i) l)) (omega arith)))
 

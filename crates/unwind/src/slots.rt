@@ -35,16 +35,11 @@ pub fn put_set(sets: &mut [u64], i: usize, w: &[u64; 16])
 
 // Whether set i has block b.
 pub fn in_set(sets: &[u64], i: usize, b: usize) -> bool
-    requires { ⌜ i < 65536 ⌝ }
+    requires { ⌜ (16 * i + 16 ≤ length (now sets)) × (b < 1024) ⌝ }
     ensures { λ r. ⌜ r ≡ inSet (now (sets .entry)) i b ⌝ }
 {
-    if b < 1024 {
-        let k = 16 * i + b / 64;
-        if k < sets.len() {
-            return (sets[k] >> (b % 64)) % 2 == 1;
-        }
-    }
-    false
+    let k = 16 * i + b / 64;
+    (sets[k] >> (b % 64)) % 2 == 1
 }
 
 // How many blocks set i has in its words up to `blocks`: all that are below, and maybe some that are not.
@@ -63,11 +58,9 @@ pub fn members_of(sets: &[u64], i: usize, blocks: usize) -> usize
 
 // The places of word j whose bit differs from the next.
 pub fn turns_at(sets: &[u64], j: usize) -> u64
+    requires { ⌜ j < length (now sets) ⌝ }
     ensures { λ t. ⌜ t ≡ bitXor (getD (now (sets .entry)) j 0) (getD (now (sets .entry)) j 0 / 2) ⌝ }
 {
-    if j < sets.len() {
-        let w = sets[j];
-        return w ^ (w >> 1);
-    }
-    0
+    let w = sets[j];
+    w ^ (w >> 1)
 }

@@ -6,7 +6,7 @@ use graph::blockset::has_in;
 use graph::blockset::sixteen;
 ghost use mathlib.Core.Path.{_≡_};
 ghost use mathlib.Core.Bool.{true};
-ghost use Prim.Native.Nat.{_≤_, _<_};
+ghost use Prim.Native.Nat.{_*_, _≤_, _<_};
 ghost use lib.ListN.{length};
 ghost use Rattle.unwind.specs.Alike.{Moves, Steady, Turning, GoesOn};
 
@@ -55,7 +55,7 @@ pub fn mark_turns(
     blocks: usize,
     turns: &mut [u64; 16],
 )
-    requires { ⌜ (routes ≤ 65536) × (nodes ≤ 65536) × (blocks ≤ 1024) ⌝ }
+    requires { ⌜ (16 * routes ≤ length (now guards)) × (16 * nodes ≤ length (now returns)) × (blocks ≤ 1024) ⌝ }
     ensures { λ _. ⌜ Turning (now (guards .entry)) routes (now (returns .entry)) nodes blocks (now (turns .exit)) ⌝ }
 {
     sixteen(turns);
@@ -69,7 +69,7 @@ pub fn mark_turns(
 
 // The places of word k at which one of the n sets has one of two blocks in a row alone.
 fn sets_turn(sets: &[u64], n: usize, k: usize) -> u64
-    requires { ⌜ (n ≤ 65536) × (k < 16) ⌝ }
+    requires { ⌜ (16 * n ≤ length (now sets)) × (k < 16) ⌝ }
     ensures { λ t. ⌜ Steady (now (sets .entry)) n k t ⌝ }
 {
     let mut t = 0;

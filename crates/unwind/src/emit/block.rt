@@ -4,7 +4,7 @@ use crate::slots::in_set;
 use crate::tries::store::Counts;
 use crate::tries::store::number_in;
 use image::section::RouteLayout;
-ghost use Prim.Native.Nat.{_+_, _*_, _/_, _≤_, _<_};
+ghost use Prim.Native.Nat.{ℕ, _+_, _*_, _/_, _≤_, _<_};
 ghost use lib.ListN.{length, getD};
 ghost use Rattle.image.specs.Image.{routesIn};
 ghost use Rattle.image.specs.Accepted.{AcceptedRoutes};
@@ -35,7 +35,7 @@ pub fn gather_block(
     b: usize,
     exits: &mut [u16],
 ) -> usize
-    requires { ⌜ AcceptedRoutes (routesIn (now s) y) × TriesIn (routesIn (now s) y) (now nodes) (now edges) (now ends) (now roots) stored × (b < 65536) × (2 * (length (now edges) + length (now ends)) ≤ length (now exits)) × Originals (now bases) (now returns) (now originals) (stored .nodes) (b / 64) listed × RoutesThere (now s) y × (stored .nodes ≤ length (now heads)) × (stored .ends ≤ length (now landings)) × (stored .nodes ≤ length (now originals)) ⌝ }
+    requires { ⌜ AcceptedRoutes (routesIn (now s) y) × TriesIn (routesIn (now s) y) (now nodes) (now edges) (now ends) (now roots) stored × (b < 1024) × (2 * (length (now edges) + length (now ends)) ≤ length (now exits)) × Originals (now bases) (now returns) (now originals) (stored .nodes) (b / 64) listed × RoutesThere (now s) y × (stored .nodes ≤ length (now heads)) × (stored .ends ≤ length (now landings)) × (stored .nodes ≤ length (now originals)) × (16 * length (routesIn (now s) y .routes) ≤ length (now guards)) × (16 * stored .nodes ≤ length (now returns)) ⌝ }
     ensures { λ r. ⌜ BlockHeld (routesIn (now (s .entry)) y) b (blockRecords (routesIn (now (s .entry)) y) b (now (nodes .entry)) (now (edges .entry)) (now (ends .entry)) (now (heads .entry)) (now (landings .entry)) (now (roots .entry)) (now (guards .entry)) (now (bases .entry)) (now (returns .entry)) stored) (now (edges .entry)) (now (ends .entry)) (now (exits .entry)) (now (exits .exit)) r ⌝ }
 {
     let count = y.routes.count as usize;
@@ -87,7 +87,7 @@ fn gather_routes(
     exits: &mut [u16],
     held: usize,
 ) -> usize
-    requires { ⌜ Pooled (routesIn (now s) y) b (now edges) (now ends) (now heads) (now landings) (now exits) held × (b < 65536) × (count < 65536) × AllFit (now nodes) (now edges) (now ends) (λ r. getD (now roots) r 0) count × RoutesThere (now s) y × AllThere (now nodes) (now edges) (now heads) (now landings) (λ r. getD (now roots) r 0) count × (count ≤ length (now roots)) ⌝ }
+    requires { ⌜ Pooled (routesIn (now s) y) b (now edges) (now ends) (now heads) (now landings) (now exits) held × (b < 1024) × (16 * count ≤ length (now guards)) × AllFit (now nodes) (now edges) (now ends) (λ r. getD (now roots) r 0) count × RoutesThere (now s) y × AllThere (now nodes) (now edges) (now heads) (now landings) (λ r. getD (now roots) r 0) count × (count ≤ length (now roots)) ⌝ }
     ensures { λ r. ⌜ Adds (routesIn (now (s .entry)) y) b (now (edges .entry)) (now (ends .entry)) (now (heads .entry)) (now (landings .entry)) (now (exits .entry)) held (flat (routeRecords (routesIn (now (s .entry)) y) b (now (edges .entry)) (now (ends .entry)) (now (heads .entry)) (now (landings .entry)) (now (nodes .entry)) (now (roots .entry)) (now (guards .entry))) count) (now (exits .exit)) r ⌝ }
 {
     let mut n = held;
@@ -127,7 +127,7 @@ fn gather_route(
     exits: &mut [u16],
     held: usize,
 ) -> usize
-    requires { ⌜ Pooled (routesIn (now s) y) b (now edges) (now ends) (now heads) (now landings) (now exits) held × (b < 65536) × (r < 65536) × NodeFits (now edges) (now ends) (recordIn (now nodes) (getD (now roots) r 0)) × RoutesThere (now s) y × NodeThere (now nodes) (now edges) (now heads) (now landings) (getD (now roots) r 0) × (r < length (now roots)) ⌝ }
+    requires { ⌜ Pooled (routesIn (now s) y) b (now edges) (now ends) (now heads) (now landings) (now exits) held × (b < 1024) × (16 * r + 16 ≤ length (now guards)) × NodeFits (now edges) (now ends) (recordIn (now nodes) (getD (now roots) r 0)) × RoutesThere (now s) y × NodeThere (now nodes) (now edges) (now heads) (now landings) (getD (now roots) r 0) × (r < length (now roots)) ⌝ }
     ensures { λ n. ⌜ Adds (routesIn (now (s .entry)) y) b (now (edges .entry)) (now (ends .entry)) (now (heads .entry)) (now (landings .entry)) (now (exits .entry)) held (routeRecords (routesIn (now (s .entry)) y) b (now (edges .entry)) (now (ends .entry)) (now (heads .entry)) (now (landings .entry)) (now (nodes .entry)) (now (roots .entry)) (now (guards .entry)) r) (now (exits .exit)) n ⌝ }
 {
     if in_set(guards, r, b) {
@@ -153,7 +153,7 @@ fn gather_nodes(
     exits: &mut [u16],
     held: usize,
 ) -> usize
-    requires { ⌜ Pooled (routesIn (now s) y) b (now edges) (now ends) (now heads) (now landings) (now exits) held × (b < 65536) × AllFit (now nodes) (now edges) (now ends) (λ k. getD (now originals) k 0) count × RoutesThere (now s) y × AllThere (now nodes) (now edges) (now heads) (now landings) (λ k. getD (now originals) k 0) count × (count ≤ length (now originals)) ⌝ }
+    requires { ⌜ Pooled (routesIn (now s) y) b (now edges) (now ends) (now heads) (now landings) (now exits) held × (b < 1024) × AllFit (now nodes) (now edges) (now ends) (λ k. getD (now originals) k 0) count × RoutesThere (now s) y × AllThere (now nodes) (now edges) (now heads) (now landings) (λ k. getD (now originals) k 0) count × (count ≤ length (now originals)) × ((k : ℕ) → k < count → 16 * getD (now originals) k 0 + 16 ≤ length (now returns)) ⌝ }
     ensures { λ r. ⌜ Adds (routesIn (now (s .entry)) y) b (now (edges .entry)) (now (ends .entry)) (now (heads .entry)) (now (landings .entry)) (now (exits .entry)) held (flat (λ k. returnRecords (routesIn (now (s .entry)) y) b (now (edges .entry)) (now (ends .entry)) (now (heads .entry)) (now (landings .entry)) (now (nodes .entry)) (now (returns .entry)) (getD (now (originals .entry)) k 0)) count) (now (exits .exit)) r ⌝ }
 {
     let mut n = held;
@@ -192,7 +192,7 @@ fn gather_returned(
     exits: &mut [u16],
     held: usize,
 ) -> usize
-    requires { ⌜ Pooled (routesIn (now s) y) b (now edges) (now ends) (now heads) (now landings) (now exits) held × (b < 65536) × (i < 65536) × NodeFits (now edges) (now ends) (recordIn (now nodes) i) × RoutesThere (now s) y × NodeThere (now nodes) (now edges) (now heads) (now landings) i ⌝ }
+    requires { ⌜ Pooled (routesIn (now s) y) b (now edges) (now ends) (now heads) (now landings) (now exits) held × (b < 1024) × (16 * i + 16 ≤ length (now returns)) × NodeFits (now edges) (now ends) (recordIn (now nodes) i) × RoutesThere (now s) y × NodeThere (now nodes) (now edges) (now heads) (now landings) i ⌝ }
     ensures { λ r. ⌜ Adds (routesIn (now (s .entry)) y) b (now (edges .entry)) (now (ends .entry)) (now (heads .entry)) (now (landings .entry)) (now (exits .entry)) held (returnRecords (routesIn (now (s .entry)) y) b (now (edges .entry)) (now (ends .entry)) (now (heads .entry)) (now (landings .entry)) (now (nodes .entry)) (now (returns .entry)) i) (now (exits .exit)) r ⌝ }
 {
     if in_set(returns, i, b) {

@@ -20,7 +20,7 @@ gather-routes-requires c κs =
     let t = start .pre .1 in (
       pooled-none (routesIn (a .s .now) (a .y)) (a .b) (a .edges .now) (a .ends .now) (a .heads .now) (a .landings .now) (a .exits .now) (start .pre .3),
       start .pre .2,
-      omega (arith, count, start .pre .0 .routes-most),
+      omega (arith, count, start .pre .9),
       record { fits = λ r h. stored-fits (a .nodes .now) (a .edges .now) (a .ends .now) (a .stored) (t .stored) .fits (getD (a .roots .now) r 0) (t .roots-in r (omega (arith, count, h))) },
       search needs,
       record { there = λ r h. node-there (routesIn (a .s .now) (a .y)) (a .nodes .now) (a .edges .now) (a .ends .now) (a .roots .now) (a .stored) t (a .heads .now) (a .landings .now) (start .pre .6) (start .pre .7) (getD (a .roots .now) r 0) (t .roots-in r (omega (arith, count, h))) },
@@ -38,6 +38,7 @@ gather-nodes-requires c κs =
       search needs,
       record { there = λ k h. node-there (routesIn (a .s .now) (a .y)) (a .nodes .now) (a .edges .now) (a .ends .now) (a .roots .now) (a .stored) t (a .heads .now) (a .landings .now) (start .pre .6) (start .pre .7) (getD (a .originals .now) k 0) (start .pre .4 .within k h) },
       omega (arith, start .pre .4 .few, start .pre .8),
+      λ k h. omega (arith, start .pre .4 .within k h, start .pre .10),
     )
 
 returns : tie.Need-returns

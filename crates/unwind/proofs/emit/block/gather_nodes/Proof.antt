@@ -36,7 +36,7 @@ gather-returned-requires c κs =
     let here = ap (recordIn (a .nodes .now)) (sym (read .0)) in
     let fits = subst (λ (x : NodeRecord). NodeFits (a .edges .now) (a .ends .now) x) here (start .pre .2 .fits (top .k) (omega (arith, c .before .before .loop-test .taken))) in
     let there = subst (NodeThere (a .nodes .now) (a .edges .now) (a .heads .now) (a .landings .now)) (sym (read .0)) (start .pre .4 .there (top .k) (omega (arith, c .before .before .loop-test .taken))) in
-    (top .inv .1 .pooled, start .pre .1, read .1, fits, search needs, there)
+    (top .inv .1 .pooled, start .pre .1, omega (arith, read .0, start .pre .6 (top .k) (omega (arith, c .before .before .loop-test .taken))), fits, search needs, there)
 
 loop-again : tie.Need-loop-again Inv-loop μ-loop
 loop-again c =

@@ -1,5 +1,6 @@
 -- `gather_returned` meets its contract: it returns from b, or it does not. Assumes nothing.
 use mathlib.Core.Path.{sym, _∙_}
+use native.Mathlib.Omega.{arith}
 use Rattle.image.specs.Image.{routesIn}
 use Rattle.unwind.specs.Nodes.{recordIn}
 use Rattle.unwind.proofs.PoolLaws.{node-room, adds-none, adds-some, adds-record, node-in, node-out}
@@ -11,7 +12,7 @@ gather-node-requires : tie.Need-gather-node-requires
 gather-node-requires c κs =
     let start = c .before .before .before .before .before .before .before .before .before .before .before in
     let a = start .args in
-    (start .pre .0 .ordered, start .pre .1, node-room (routesIn (a .s .now) (a .y)) (a .b) (a .edges .now) (a .ends .now) (a .heads .now) (a .landings .now) (a .exits .now) (a .held) (recordIn (a .nodes .now) (a .i)) (start .pre .0) (start .pre .3), search needs, start .pre .3, start .pre .5)
+    (start .pre .0 .ordered, omega (arith, start .pre .1), node-room (routesIn (a .s .now) (a .y)) (a .b) (a .edges .now) (a .ends .now) (a .heads .now) (a .landings .now) (a .exits .now) (a .held) (recordIn (a .nodes .now) (a .i)) (start .pre .0) (start .pre .3), search needs, start .pre .3, start .pre .5)
 
 same-length : tie.Need-same-length
 same-length c = c .before .before .gather-node .ensures .long

@@ -1,5 +1,6 @@
 -- `gather_route` meets its contract: it guards b, or it does not. Assumes nothing.
 use mathlib.Core.Path.{sym, ap, _∙_, subst}
+use native.Mathlib.Omega.{arith}
 use Rattle.image.specs.Image.{routesIn}
 use Rattle.unwind.specs.declared.tries.store.NodeRecord.{NodeRecord}
 use Rattle.unwind.specs.Nodes.{recordIn, NodeFits}
@@ -16,7 +17,7 @@ gather-node-requires c κs =
     let here = ap (recordIn (a .nodes .now)) (sym (c .before .number-in .ensures .0)) in
     let fits = subst (λ (x : NodeRecord). NodeFits (a .edges .now) (a .ends .now) x) here (start .pre .3) in
     let there = subst (NodeThere (a .nodes .now) (a .edges .now) (a .heads .now) (a .landings .now)) (sym (c .before .number-in .ensures .0)) (start .pre .5) in
-    (start .pre .0 .ordered, start .pre .1, node-room (routesIn (a .s .now) (a .y)) (a .b) (a .edges .now) (a .ends .now) (a .heads .now) (a .landings .now) (a .exits .now) (a .held) (recordIn (a .nodes .now) (c .before .number-in .result)) (start .pre .0) fits, search needs, fits, there)
+    (start .pre .0 .ordered, omega (arith, start .pre .1), node-room (routesIn (a .s .now) (a .y)) (a .b) (a .edges .now) (a .ends .now) (a .heads .now) (a .landings .now) (a .exits .now) (a .held) (recordIn (a .nodes .now) (c .before .number-in .result)) (start .pre .0) fits, search needs, fits, there)
 
 same-length : tie.Need-same-length
 same-length c = c .before .before .gather-node .ensures .long

@@ -53,7 +53,7 @@ original-nodes-requires c κs =
 mark-turns-requires : tie.Need-mark-turns-requires Inv-loop μ-loop
 mark-turns-requires c κs =
     let start = c .before .before .before .before .before .before .before .before .before .before .before .before .before .before .before .before in
-    (omega (arith, length-records routeFrom (start .args .s .now) (start .args .y .routes), start .pre .0 .routes-most), omega (arith, start .pre .1 .nodes-most), start .pre .2)
+    (omega (arith, length-records routeFrom (start .args .s .now) (start .args .y .routes), start .pre .6 .guards-fit), start .pre .6 .returns-fit, start .pre .2)
 
 -- the nodes of the block's word are listed, now or for the last block
 listed : (c : tie.Joined2 Inv-loop μ-loop) → let a = c .before .before .before .before .before .before .before .before .before .before .before .before .before .before .before .before .before .before .before .before .before .before .before .before .args in (length (c .if2 .originals) ≡ 544) × Originals (a .bases .now) (a .returns .now) (c .if2 .originals) (a .stored .nodes) (c .before .before .before .before .b .given .0 .0 / 64) (c .if2 .listed)
@@ -101,7 +101,7 @@ gather-block-requires c κs =
     let start = c .before .before .before .before .before .before .before .before .before .before .before .before .before .before .before .before .before .before .before .before .before .before .before .before .before .before .before .before .before in
     let top = c .before .before .before .before .before .before .before .before .before .before .before .before .before .loop in
     let low = rw (c .before .before .before .before .before .before .before .before .before .b .given .1) at (c .before .before .before .before .before .before .before .before .before .before .before .lowest-in .ensures) in
-    (start .pre .0, start .pre .1, omega (arith, low .0), omega (arith, start .pre .3 .room, top .inv .0), listed (c .before .before .before .before .before) .1, search needs, start .pre .8, start .pre .9, omega (arith, start .pre .1 .nodes-most, listed (c .before .before .before .before .before) .0))
+    (start .pre .0, start .pre .1, low .0, omega (arith, start .pre .3 .room, top .inv .0), listed (c .before .before .before .before .before) .1, search needs, start .pre .8, start .pre .9, omega (arith, start .pre .1 .nodes-most, listed (c .before .before .before .before .before) .0), start .pre .6 .guards-fit, start .pre .6 .returns-fit)
 
 loop-less : tie.Need-loop-less Inv-loop μ-loop
 loop-less c =
