@@ -10,6 +10,7 @@
 --     joins-none, joins-more, joins-skip     one set more
 --     returns-own, returns-not     the set of a node, if it has the original blocks
 --     busy-joined                  the blocks that have a way out
+--     routes-quiet                 no route gives a way out of a block that none guards
 --     busy-quiet, busy-below       no hop goes out of the others, and they stood
 --     originals-none, originals-more, originals-skip     the nodes on the original blocks, one after the other
 --     originals-records            they give what all nodes give
@@ -17,7 +18,7 @@
 -- Assumes nothing.
 use mathlib.Core.Path.{_≡_, refl, sym, ap, _∙_, subst}
 use mathlib.Core.Logic.{_⊎_, inl, inr, ⊎-elim}
-use mathlib.Core.Bool.{Bool, true, false, cond, _||_, or-false, false≢true}
+use mathlib.Core.Bool.{Bool, true, false, cond, _||_, or-comm, or-false, false≢true}
 use mathlib.Core.List.{List, [], _++_, append-nil}
 use Prim.Native.Nat.{ℕ, zero, suc, _+_, _*_, _/_, _≤_, _<_}
 use native.Mathlib.Nat.{not-suc-le-zero}
@@ -282,8 +283,9 @@ module _ (f : ℕ → ℕ → Bool) where
     joins-skip lacks =
         record { has = λ b. p .has b ∙ sym (or-false (some (λ i. f i b) n)) ∙ ap (λ (t : Bool). some (λ i. f i b) n || t) (sym (lacks b)) ∙ ap (some (λ i. f i b)) (sym (add-one n)) }
 
-pub busy-joined : (guards : List ℕ) (routes : ℕ) (bases returns : List ℕ) (n : ℕ) {u v w : List ℕ} → Joins (λ r b. inSet guards r b) routes u → Joins (originalReturns bases returns) n v → Union u v w → length w ≡ 16 → Busy guards routes bases returns n w
-busy-joined guards routes bases returns n p q both long = record { long = long; has = λ b. both b ∙ (λ t. p .has b t || q .has b t) }
+pub busy-joined : (guards : List ℕ) (routes : ℕ) (bases returns : List ℕ) (n : ℕ) {u v w : List ℕ} → Joins (λ r b. inSet guards r b) routes u → Joins (originalReturns bases returns) n v → Union v u w → length w ≡ 16 → Busy guards routes bases returns n w
+busy-joined guards routes bases returns n {u} {v} p q both long =
+    record { long = long; has = λ b. both b ∙ or-comm (member v b) (member u b) ∙ (λ t. p .has b t || q .has b t) }
 
 module _ (bases returns : List ℕ) (i : ℕ) where
   pub returns-own : getD bases i 0 ≡ 0 → 16 * i + 16 ≤ length returns → (b : ℕ) → originalReturns bases returns i b ≡ member (setAt returns i) b
@@ -302,15 +304,16 @@ either : (x y : Bool) → (x || y) ≡ true → (x ≡ true) ⊎ (y ≡ true)
 either true y e = inl refl
 either false y e = inr e
 
+pub routes-quiet : (m : RouteImage) (b : ℕ) (nodes edges ends heads landings roots guards : List ℕ) (routes : ℕ) → some (λ r. inSet guards r b) routes ≡ false → flat (routeRecords m b edges ends heads landings nodes roots guards) routes ≡ []
+unfolding routeRecords
+routes-quiet m b nodes edges ends heads landings roots guards routes none =
+    flat-none (routeRecords m b edges ends heads landings nodes roots guards) routes
+    (λ r h. ap (λ (t : Bool). cond t (recordExits m b edges ends heads landings (recordIn nodes (getD roots r 0))) []) (some-none (λ k. inSet guards k b) routes none r h))
+
 module _ (m : RouteImage) (nodes edges ends heads landings roots guards bases returns : List ℕ) (c : Counts) (routes : ℕ) (is : length (m .routes) ≡ routes) (w : List ℕ) (busy : Busy guards routes bases returns (c .nodes) w) where
   module _ (b : ℕ) (out : member w b ≡ false) where
     none-of : (some (λ r. inSet guards r b) routes ≡ false) × (some (λ i. originalReturns bases returns i b) (c .nodes) ≡ false)
     none-of = neither _ _ (sym (busy .has b) ∙ out)
-
-    route-quiet : (r : ℕ) → r < length (m .routes) → routeRecords m b edges ends heads landings nodes roots guards r ≡ []
-    unfolding routeRecords
-    route-quiet r h =
-        ap (λ (t : Bool). cond t (recordExits m b edges ends heads landings (recordIn nodes (getD roots r 0))) []) (some-none (λ r. inSet guards r b) routes (none-of .0) r (omega (arith, h, is)))
 
     node-quiet : (i : ℕ) → i < c .nodes → nodeRecords m b edges ends heads landings nodes bases returns i ≡ []
     unfolding nodeRecords originalReturns
@@ -320,7 +323,7 @@ module _ (m : RouteImage) (nodes edges ends heads landings roots guards bases re
     records-quiet : blockRecords m b nodes edges ends heads landings roots guards bases returns c ≡ []
     unfolding blockRecords
     records-quiet =
-        (λ t. flat-none (routeRecords m b edges ends heads landings nodes roots guards) (length (m .routes)) route-quiet t
+        (λ t. (ap (flat (routeRecords m b edges ends heads landings nodes roots guards)) is ∙ routes-quiet m b nodes edges ends heads landings roots guards routes (none-of .0)) t
         ++ flat-none (nodeRecords m b edges ends heads landings nodes bases returns) (c .nodes) node-quiet t)
 
     pub busy-quiet : blockHops m nodes edges ends heads landings roots guards bases returns c b ≡ []

@@ -3,6 +3,7 @@ use crate::emit::gather::gather_node;
 use crate::slots::in_set;
 use crate::tries::store::Counts;
 use crate::tries::store::number_in;
+use graph::blockset::has_in;
 use image::section::RouteLayout;
 ghost use Prim.Native.Nat.{ℕ, _+_, _*_, _/_, _≤_, _<_};
 ghost use lib.ListN.{length, getD};
@@ -11,12 +12,13 @@ ghost use Rattle.image.specs.Accepted.{AcceptedRoutes};
 ghost use Rattle.image.specs.There.{RoutesThere};
 ghost use Rattle.graph.specs.Fold.{flat};
 ghost use Rattle.unwind.specs.Nodes.{recordIn, NodeFits, AllFit};
-ghost use Rattle.unwind.specs.Gather.{NodeThere, AllThere, routeRecords, returnRecords, Pooled, Adds};
+ghost use Rattle.unwind.specs.Gather.{inSet, NodeThere, AllThere, routeRecords, returnRecords, Pooled, Adds};
 ghost use Rattle.unwind.specs.Routed.{TriesIn};
 ghost use Rattle.unwind.specs.Lent.{blockRecords, BlockHeld};
-ghost use Rattle.unwind.specs.Members.{Originals};
+ghost use Rattle.unwind.specs.Members.{Joins, Originals};
 
-// All of them, and how many there are. `originals` are the nodes on the original blocks that return from a block of its word.
+// All of them, and how many there are. `guarded` are the blocks that a route guards, and `originals` the nodes on the original
+// blocks that return from a block of its word.
 pub fn gather_block(
     s: &[u8],
     y: RouteLayout,
@@ -27,6 +29,7 @@ pub fn gather_block(
     landings: &[u16],
     roots: &[u16],
     guards: &[u64],
+    guarded: &[u64; 16],
     bases: &[u16],
     returns: &[u64],
     originals: &[u16],
@@ -35,7 +38,7 @@ pub fn gather_block(
     b: usize,
     exits: &mut [u16],
 ) -> usize
-    requires { ⌜ AcceptedRoutes (routesIn (now s) y) × TriesIn (routesIn (now s) y) (now nodes) (now edges) (now ends) (now roots) stored × (b < 1024) × (2 * (length (now edges) + length (now ends)) ≤ length (now exits)) × Originals (now bases) (now returns) (now originals) (stored .nodes) (b / 64) listed × RoutesThere (now s) y × (stored .nodes ≤ length (now heads)) × (stored .ends ≤ length (now landings)) × (stored .nodes ≤ length (now originals)) × (16 * length (routesIn (now s) y .routes) ≤ length (now guards)) × (16 * stored .nodes ≤ length (now returns)) ⌝ }
+    requires { ⌜ AcceptedRoutes (routesIn (now s) y) × TriesIn (routesIn (now s) y) (now nodes) (now edges) (now ends) (now roots) stored × (b < 1024) × (2 * (length (now edges) + length (now ends)) ≤ length (now exits)) × Originals (now bases) (now returns) (now originals) (stored .nodes) (b / 64) listed × RoutesThere (now s) y × (stored .nodes ≤ length (now heads)) × (stored .ends ≤ length (now landings)) × (stored .nodes ≤ length (now originals)) × (16 * length (routesIn (now s) y .routes) ≤ length (now guards)) × (16 * stored .nodes ≤ length (now returns)) × Joins (λ r k. inSet (now guards) r k) (y .routes .count) (now guarded) ⌝ }
     ensures { λ r. ⌜ BlockHeld (routesIn (now (s .entry)) y) b (blockRecords (routesIn (now (s .entry)) y) b (now (nodes .entry)) (now (edges .entry)) (now (ends .entry)) (now (heads .entry)) (now (landings .entry)) (now (roots .entry)) (now (guards .entry)) (now (bases .entry)) (now (returns .entry)) stored) (now (edges .entry)) (now (ends .entry)) (now (exits .entry)) (now (exits .exit)) r ⌝ }
 {
     let count = y.routes.count as usize;
@@ -49,6 +52,7 @@ pub fn gather_block(
         landings,
         roots,
         guards,
+        guarded,
         count,
         b,
         exits,
@@ -71,7 +75,7 @@ pub fn gather_block(
     )
 }
 
-// Those of the routes.
+// Those of the routes: none, if none of them guards b.
 fn gather_routes(
     s: &[u8],
     y: RouteLayout,
@@ -82,14 +86,18 @@ fn gather_routes(
     landings: &[u16],
     roots: &[u16],
     guards: &[u64],
+    guarded: &[u64; 16],
     count: usize,
     b: usize,
     exits: &mut [u16],
     held: usize,
 ) -> usize
-    requires { ⌜ Pooled (routesIn (now s) y) b (now edges) (now ends) (now heads) (now landings) (now exits) held × (b < 1024) × (16 * count ≤ length (now guards)) × AllFit (now nodes) (now edges) (now ends) (λ r. getD (now roots) r 0) count × RoutesThere (now s) y × AllThere (now nodes) (now edges) (now heads) (now landings) (λ r. getD (now roots) r 0) count × (count ≤ length (now roots)) ⌝ }
+    requires { ⌜ Pooled (routesIn (now s) y) b (now edges) (now ends) (now heads) (now landings) (now exits) held × (b < 1024) × (16 * count ≤ length (now guards)) × AllFit (now nodes) (now edges) (now ends) (λ r. getD (now roots) r 0) count × RoutesThere (now s) y × AllThere (now nodes) (now edges) (now heads) (now landings) (λ r. getD (now roots) r 0) count × (count ≤ length (now roots)) × Joins (λ r k. inSet (now guards) r k) count (now guarded) ⌝ }
     ensures { λ r. ⌜ Adds (routesIn (now (s .entry)) y) b (now (edges .entry)) (now (ends .entry)) (now (heads .entry)) (now (landings .entry)) (now (exits .entry)) held (flat (routeRecords (routesIn (now (s .entry)) y) b (now (edges .entry)) (now (ends .entry)) (now (heads .entry)) (now (landings .entry)) (now (nodes .entry)) (now (roots .entry)) (now (guards .entry))) count) (now (exits .exit)) r ⌝ }
 {
+    if !has_in(guarded, b) {
+        return held;
+    }
     let mut n = held;
     for r in 0..count {
         n = gather_route(

@@ -3,31 +3,14 @@ use crate::slots::set_at;
 use crate::tries::store::number_in;
 use graph::blockset::add_all;
 use graph::blockset::sixteen;
-ghost use Prim.Native.Nat.{_*_, _≤_, _<_};
+ghost use mathlib.Core.List.{List};
+ghost use Prim.Native.Nat.{ℕ, _*_, _≤_, _<_};
 ghost use lib.ListN.{length};
 ghost use Rattle.unwind.specs.Gather.{inSet};
 ghost use Rattle.unwind.specs.Members.{originalReturns, Joins, Busy, Originals};
 
-// Those that one of the routes guards, or that one of the first n nodes returns from, on the original blocks.
-pub fn busy_blocks(
-    guards: &[u64],
-    routes: usize,
-    bases: &[u16],
-    returns: &[u64],
-    n: usize,
-) -> [u64; 16]
-    requires { ⌜ (16 * routes ≤ length (now guards)) × (16 * n ≤ length (now returns)) × (n ≤ length (now bases)) ⌝ }
-    ensures { λ w. ⌜ Busy (now (guards .entry)) routes (now (bases .entry)) (now (returns .entry)) n w ⌝ }
-{
-    let mut busy = guarded_blocks(guards, routes);
-    let returned = returned_blocks(bases, returns, n);
-    add_all(&mut busy, &returned);
-    sixteen(&busy);
-    busy
-}
-
 // Those that one of the routes guards.
-fn guarded_blocks(guards: &[u64], routes: usize) -> [u64; 16]
+pub fn guarded_blocks(guards: &[u64], routes: usize) -> [u64; 16]
     requires { ⌜ 16 * routes ≤ length (now guards) ⌝ }
     ensures { λ w. ⌜ Joins (λ r b. inSet (now (guards .entry)) r b) routes w ⌝ }
 {
@@ -37,6 +20,17 @@ fn guarded_blocks(guards: &[u64], routes: usize) -> [u64; 16]
         add_all(&mut all, &set);
     }
     all
+}
+
+// Those that are guarded, or that one of the first n nodes returns from, on the original blocks.
+pub fn busy_blocks(guarded: &[u64; 16], bases: &[u16], returns: &[u64], n: usize) -> [u64; 16]
+    requires { ⌜ (16 * n ≤ length (now returns)) × (n ≤ length (now bases)) ⌝ }
+    ensures { λ w. ⌜ ((guards : List ℕ) (routes : ℕ) → Joins (λ r b. inSet guards r b) routes (now (guarded .entry)) → Busy guards routes (now (bases .entry)) (now (returns .entry)) n w) ⌝ }
+{
+    let mut busy = returned_blocks(bases, returns, n);
+    add_all(&mut busy, guarded);
+    sixteen(&busy);
+    busy
 }
 
 // Those that one of the first n nodes returns from, on the original blocks.

@@ -4,6 +4,7 @@ use crate::emit::alike::is_worth;
 use crate::emit::alike::mark_turns;
 use crate::emit::block::gather_block;
 use crate::emit::busy::busy_blocks;
+use crate::emit::busy::guarded_blocks;
 use crate::emit::busy::original_nodes;
 use crate::emit::entries::LEAVE;
 use crate::tries::store::Counts;
@@ -56,7 +57,8 @@ pub fn count_blocks(
     ensures { λ r. ⌜ SumSize (flat (blockHops (routesIn (now (s .entry)) y) (now (nodes .entry)) (now (edges .entry)) (now (ends .entry)) (now (heads .entry)) (now (landings .entry)) (now (roots .entry)) (now (guards .entry)) (now (bases .entry)) (now (returns .entry)) stored) blocks) (now (exits .entry)) (now (exits .exit)) r ⌝ }
 {
     let routes = y.routes.count as usize;
-    let mut left = busy_blocks(guards, routes, bases, returns, stored.nodes);
+    let guarded = guarded_blocks(guards, routes);
+    let mut left = busy_blocks(&guarded, bases, returns, stored.nodes);
     let mut sizes = Sizes {
         hops: 0,
         lists: 0,
@@ -90,6 +92,7 @@ pub fn count_blocks(
                 landings,
                 roots,
                 guards,
+                &guarded,
                 bases,
                 returns,
                 &originals,

@@ -5,6 +5,7 @@ use crate::emit::alike::mark_turns;
 use crate::emit::append::add_exits;
 use crate::emit::block::gather_block;
 use crate::emit::busy::busy_blocks;
+use crate::emit::busy::guarded_blocks;
 use crate::emit::busy::original_nodes;
 use crate::hops::Hops;
 use crate::tries::store::Counts;
@@ -46,7 +47,8 @@ pub fn add_blocks(
     ensures { λ _. ⌜ HopsHeld (routesIn (now (s .entry)) y) blocks (now (h .entry)) (now (h .exit)) (flat (blockHops (routesIn (now (s .entry)) y) (now (nodes .entry)) (now (edges .entry)) (now (ends .entry)) (now (heads .entry)) (now (landings .entry)) (now (roots .entry)) (now (guards .entry)) (now (bases .entry)) (now (returns .entry)) stored) blocks) × (length (now (exits .exit)) ≡ length (now (exits .entry))) ⌝ }
 {
     let routes = y.routes.count as usize;
-    let mut left = busy_blocks(guards, routes, bases, returns, stored.nodes);
+    let guarded = guarded_blocks(guards, routes);
+    let mut left = busy_blocks(&guarded, bases, returns, stored.nodes);
     let worth = is_worth(stored.nodes, landings, stored.ends);
     let mut turns = [0u64; 16];
     if worth {
@@ -75,6 +77,7 @@ pub fn add_blocks(
                 landings,
                 roots,
                 guards,
+                &guarded,
                 bases,
                 returns,
                 &originals,

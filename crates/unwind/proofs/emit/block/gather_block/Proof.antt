@@ -25,6 +25,7 @@ gather-routes-requires c κs =
       search needs,
       record { there = λ r h. node-there (routesIn (a .s .now) (a .y)) (a .nodes .now) (a .edges .now) (a .ends .now) (a .roots .now) (a .stored) t (a .heads .now) (a .landings .now) (start .pre .6) (start .pre .7) (getD (a .roots .now) r 0) (t .roots-in r (omega (arith, count, h))) },
       omega (arith, count, roots-fit (routesIn (a .s .now) (a .y)) (a .nodes .now) (a .edges .now) (a .ends .now) (a .roots .now) (a .stored) t),
+      start .pre .11,
     )
 
 gather-nodes-requires : tie.Need-gather-nodes-requires

@@ -6,8 +6,8 @@ use Rattle.unwind.proofs.emit.busy.busy_blocks.Tie as tie
 
 returns : tie.Need-returns
 returns c =
-    let a = c .before .before .before .before .before .before .before .before .before .before .args in
-    busy-joined (a .guards .now) (a .routes) (a .bases .now) (a .returns .now) (a .n) (c .before .before .before .before .before .before .guarded-blocks .ensures) (c .before .before .before .before .before .returned-blocks .ensures) (c .before .before .add-all .ensures) (c .sixteen .ensures)
+    let a = c .before .before .before .before .before .before .before .args in
+    λ guards routes joined. busy-joined guards routes (a .bases .now) (a .returns .now) (a .n) joined (c .before .before .before .before .returned-blocks .ensures) (c .before .before .add-all .ensures) (c .sixteen .ensures)
 
 pub busy-blocks-spec : {M : Type 1} → statement M
-busy-blocks-spec = tie.close (tie.spec (λ c κs. search needs) (λ c κs. search needs) (λ c κs. search needs) (λ c κs. search needs) returns)
+busy-blocks-spec = tie.close (tie.spec (λ c κs. search needs) (λ c κs. search needs) (λ c κs. search needs) returns)

@@ -14,7 +14,7 @@ use Rattle.image.proofs.Tables.{length-records}
 use Rattle.graph.specs.BlockSet.{sizeOf}
 use Rattle.graph.proofs.BlockLaws.{size-excluding}
 use Rattle.unwind.specs.Lent.{blockRecords, BlockHeld, blockHops}
-use Rattle.unwind.specs.Members.{Originals}
+use Rattle.unwind.specs.Members.{Busy, Originals}
 use Rattle.unwind.proofs.AlikeLaws.{held-on}
 use Rattle.unwind.proofs.LentLaws.{block-size}
 use Rattle.unwind.proofs.MemberLaws.{walked-below, SetCounting, counting-start, counting-few, counting-next, counting-end, busy-quiet, busy-below}
@@ -22,7 +22,7 @@ use Rattle.unwind.proofs.emit.count.count_blocks.Statement.{statement}
 use Rattle.unwind.proofs.emit.count.count_blocks.Tie as tie
 
 abbrev Inv-loop : tie.InvT-loop
-Inv-loop s y nodes edges ends heads landings roots guards bases returns stored blocks exits₀ routes left₀ sizes₀ worth turns originals₀ listed₀ last₀ n₀ exits left sizes originals listed last n =
+Inv-loop s y nodes edges ends heads landings roots guards bases returns stored blocks exits₀ routes guarded left₀ sizes₀ worth turns originals₀ listed₀ last₀ n₀ exits left sizes originals listed last n =
     (length exits ≡ length exits₀)
     × SetCounting (blockHops (routesIn s y) nodes edges ends heads landings roots guards bases returns stored) left₀ blocks left sizes
     × (last ≤ 1024)
@@ -31,31 +31,37 @@ Inv-loop s y nodes edges ends heads landings roots guards bases returns stored b
     × (last < 1024 → Originals bases returns originals (stored .nodes) (last / 64) listed)
 
 abbrev μ-loop : tie.MeasureT-loop
-μ-loop s y nodes edges ends heads landings roots guards bases returns stored blocks exits₀ routes left₀ sizes₀ worth turns originals₀ listed₀ last₀ n₀ exits left sizes originals listed last n = sizeOf left
+μ-loop s y nodes edges ends heads landings roots guards bases returns stored blocks exits₀ routes guarded left₀ sizes₀ worth turns originals₀ listed₀ last₀ n₀ exits left sizes originals listed last n = sizeOf left
+
+guarded-blocks-requires : tie.Need-guarded-blocks-requires Inv-loop μ-loop
+guarded-blocks-requires c κs =
+    let start = c .before .before .before .before .before .before .before .before .before .before .before .before in
+    omega (arith, length-records routeFrom (start .args .s .now) (start .args .y .routes), start .pre .4 .guards-fit)
 
 busy-blocks-requires : tie.Need-busy-blocks-requires Inv-loop μ-loop
-busy-blocks-requires c κs =
-    let start = c .before .before .before .before .before .before .before .before .before .before .before .before in
-    let count = length-records routeFrom (start .args .s .now) (start .args .y .routes) in
-    (omega (arith, count, start .pre .4 .guards-fit), start .pre .4 .returns-fit, start .pre .8)
+busy-blocks-requires c κs = let start = c .before .before .before .before .before .before .before .before .before .before .before .before .before .before in (start .pre .4 .returns-fit, start .pre .8)
+
+-- the blocks to go over are those that have a way out
+busy : (c : tie.After-busy-blocks Inv-loop μ-loop) → let a = c .before .before .before .before .before .before .before .before .before .before .before .before .before .before .before .args in Busy (a .guards .now) (a .y .routes .count) (a .bases .now) (a .returns .now) (a .stored .nodes) (c .busy-blocks .result)
+busy c = c .busy-blocks .ensures _ _ (c .before .before .guarded-blocks .ensures)
 
 slice-aggregate-original-nodes : tie.Need-slice-aggregate-original-nodes Inv-loop μ-loop
 slice-aggregate-original-nodes c = sym (c .before .before .before .before .before .before .before .before .before .loop .inv .4)
 
 original-nodes-requires : tie.Need-original-nodes-requires Inv-loop μ-loop
 original-nodes-requires c κs =
-    let start = c .before .before .before .before .before .before .before .before .before .before .before .before .before .before .before .before .before .before .before .before .before .before .before .before .before in
+    let start = c .before .before .before .before .before .before .before .before .before .before .before .before .before .before .before .before .before .before .before .before .before .before .before .before .before .before .before in
     let low = rw (c .before .before .before .before .before .b .given .1) at (c .before .before .before .before .before .before .before .lowest-in .ensures) in
     let most = start .pre .1 .nodes-most in
     (omega (arith, most, c .before .before .before .before .before .before .before .before .before .loop .inv .4), most, start .pre .4 .returns-fit, omega (arith, low .0), start .pre .8)
 
 mark-turns-requires : tie.Need-mark-turns-requires Inv-loop μ-loop
 mark-turns-requires c κs =
-    let start = c .before .before .before .before .before .before .before .before .before .before .before .before .before .before .before .before in
+    let start = c .before .before .before .before .before .before .before .before .before .before .before .before .before .before .before .before .before .before in
     (omega (arith, length-records routeFrom (start .args .s .now) (start .args .y .routes), start .pre .4 .guards-fit), start .pre .4 .returns-fit, start .pre .2)
 
 -- the nodes of the block's word are listed, now or for the last block
-listed : (c : tie.Joined2 Inv-loop μ-loop) → let a = c .before .before .before .before .before .before .before .before .before .before .before .before .before .before .before .before .before .before .before .before .before .before .before .before .args in (length (c .if2 .originals) ≡ 544) × Originals (a .bases .now) (a .returns .now) (c .if2 .originals) (a .stored .nodes) (c .before .before .before .before .b .given .0 .0 / 64) (c .if2 .listed)
+listed : (c : tie.Joined2 Inv-loop μ-loop) → let a = c .before .before .before .before .before .before .before .before .before .before .before .before .before .before .before .before .before .before .before .before .before .before .before .before .before .before .args in (length (c .if2 .originals) ≡ 544) × Originals (a .bases .now) (a .returns .now) (c .if2 .originals) (a .stored .nodes) (c .before .before .before .before .b .given .0 .0 / 64) (c .if2 .listed)
 listed c =
     let top = c .before .before .before .before .before .before .before .before .loop in
     let low = rw (c .before .before .before .before .b .given .1) at (c .before .before .before .before .before .before .lowest-in .ensures) in
@@ -65,12 +71,12 @@ listed c =
     (c .if2 .came)
 
 -- what stands in scratch is gathered of this block, or of the last and the same
-gathered : (c : tie.Joined3 Inv-loop μ-loop) → let a = c .before .before .before .before .before .before .before .before .before .before .before .before .before .before .before .before .before .before .before .before .before .before .before .before .before .before .before .args in let m = routesIn (a .s .now) (a .y) in BlockHeld m (c .before .before .before .before .before .before .before .b .given .0 .0) (blockRecords m (c .before .before .before .before .before .before .before .b .given .0 .0) (a .nodes .now) (a .edges .now) (a .ends .now) (a .heads .now) (a .landings .now) (a .roots .now) (a .guards .now) (a .bases .now) (a .returns .now) (a .stored)) (a .edges .now) (a .ends .now) (c .before .before .before .before .before .before .before .before .before .before .before .loop .exits) (c .if3 .exits) (c .if3 .n)
+gathered : (c : tie.Joined3 Inv-loop μ-loop) → let a = c .before .before .before .before .before .before .before .before .before .before .before .before .before .before .before .before .before .before .before .before .before .before .before .before .before .before .before .before .before .args in let m = routesIn (a .s .now) (a .y) in BlockHeld m (c .before .before .before .before .before .before .before .b .given .0 .0) (blockRecords m (c .before .before .before .before .before .before .before .b .given .0 .0) (a .nodes .now) (a .edges .now) (a .ends .now) (a .heads .now) (a .landings .now) (a .roots .now) (a .guards .now) (a .bases .now) (a .returns .now) (a .stored)) (a .edges .now) (a .ends .now) (c .before .before .before .before .before .before .before .before .before .before .before .loop .exits) (c .if3 .exits) (c .if3 .n)
 gathered c =
     ⊎-elim
-    (λ w. rw (w .6, w .7) (w .3 .ensures))
+    (λ w. rw (w .7, w .8) (w .4 .ensures))
     (λ w.
-    let start = c .before .before .before .before .before .before .before .before .before .before .before .before .before .before .before .before .before .before .before .before .before .before .before .before .before .before .before in
+    let start = c .before .before .before .before .before .before .before .before .before .before .before .before .before .before .before .before .before .before .before .before .before .before .before .before .before .before .before .before .before in
     let a = start .args in
     let m = routesIn (a .s .now) (a .y) in
     let top = c .before .before .before .before .before .before .before .before .before .before .before .loop in
@@ -93,14 +99,14 @@ goes-on-requires : tie.Need-goes-on-requires Inv-loop μ-loop
 goes-on-requires c κs = c .before .before .before .before .before .before .before .before .before .loop .inv .2
 
 slice-aggregate-gather-block : tie.Need-slice-aggregate-gather-block Inv-loop μ-loop
-slice-aggregate-gather-block c = sym (listed (c .before .before .before .before) .0)
+slice-aggregate-gather-block c = sym (listed (c .before .before .before .before .before) .0)
 
 gather-block-requires : tie.Need-gather-block-requires Inv-loop μ-loop
 gather-block-requires c κs =
-    let start = c .before .before .before .before .before .before .before .before .before .before .before .before .before .before .before .before .before .before .before .before .before .before .before .before .before .before .before .before .before in
-    let top = c .before .before .before .before .before .before .before .before .before .before .before .before .before .loop in
-    let low = rw (c .before .before .before .before .before .before .before .before .before .b .given .1) at (c .before .before .before .before .before .before .before .before .before .before .before .lowest-in .ensures) in
-    (start .pre .0, start .pre .1, low .0, omega (arith, start .pre .3 .room, top .inv .0), listed (c .before .before .before .before .before) .1, search needs, start .pre .6, start .pre .7, omega (arith, start .pre .1 .nodes-most, listed (c .before .before .before .before .before) .0), start .pre .4 .guards-fit, start .pre .4 .returns-fit)
+    let start = c .before .before .before .before .before .before .before .before .before .before .before .before .before .before .before .before .before .before .before .before .before .before .before .before .before .before .before .before .before .before .before .before in
+    let top = c .before .before .before .before .before .before .before .before .before .before .before .before .before .before .loop in
+    let low = rw (c .before .before .before .before .before .before .before .before .before .before .b .given .1) at (c .before .before .before .before .before .before .before .before .before .before .before .before .lowest-in .ensures) in
+    (start .pre .0, start .pre .1, low .0, omega (arith, start .pre .3 .room, top .inv .0), listed (c .before .before .before .before .before .before) .1, search needs, start .pre .6, start .pre .7, omega (arith, start .pre .1 .nodes-most, listed (c .before .before .before .before .before .before) .0), start .pre .4 .guards-fit, start .pre .4 .returns-fit, c .before .before .before .before .before .before .before .before .before .before .before .before .before .before .before .before .before .before .before .guarded-blocks .ensures)
 
 loop-less : tie.Need-loop-less Inv-loop μ-loop
 loop-less c =
@@ -110,12 +116,12 @@ loop-less c =
 
 loop-holds : tie.Need-loop-holds Inv-loop μ-loop
 loop-holds c =
-    let start = c .before .before .before .before .before .before .before .before .before .before .before .before .before .before .before in
+    let start = c .before .before .before .before .before .before .before .before .before .before .before .before .before .before .before .before .before in
     let a = start .args in
     let m = routesIn (a .s .now) (a .y) in
-    let busy = c .before .before .busy-blocks in (
+    let from = c .before .before in (
       refl,
-      counting-start (blockHops m (a .nodes .now) (a .edges .now) (a .ends .now) (a .heads .now) (a .landings .now) (a .roots .now) (a .guards .now) (a .bases .now) (a .returns .now) (a .stored)) (busy .result) (a .blocks) (busy .ensures .long) (busy-below m (a .nodes .now) (a .edges .now) (a .ends .now) (a .heads .now) (a .landings .now) (a .roots .now) (a .guards .now) (a .bases .now) (a .returns .now) (a .stored) (a .y .routes .count) (length-records routeFrom (a .s .now) (a .y .routes)) (busy .result) (busy .ensures) (a .blocks) (start .pre .4)),
+      counting-start (blockHops m (a .nodes .now) (a .edges .now) (a .ends .now) (a .heads .now) (a .landings .now) (a .roots .now) (a .guards .now) (a .bases .now) (a .returns .now) (a .stored)) (from .busy-blocks .result) (a .blocks) (busy from .long) (busy-below m (a .nodes .now) (a .edges .now) (a .ends .now) (a .heads .now) (a .landings .now) (a .roots .now) (a .guards .now) (a .bases .now) (a .returns .now) (a .stored) (a .y .routes .count) (length-records routeFrom (a .s .now) (a .y .routes)) (from .busy-blocks .result) (busy from) (a .blocks) (start .pre .4)),
       omega arith,
       λ h. absurd (omega arith),
       refl,
@@ -124,22 +130,22 @@ loop-holds c =
 
 returns : tie.Need-returns Inv-loop μ-loop
 returns c =
-    let start = c .before .before .before .before .before .before .before .before .before .before .before .before .before .before .before .before .before .before .before .before in
+    let start = c .before .before .before .before .before .before .before .before .before .before .before .before .before .before .before .before .before .before .before .before .before .before in
     let a = start .args in
     let m = routesIn (a .s .now) (a .y) in
-    let busy = c .before .before .before .before .before .before .before .busy-blocks in
+    let from = c .before .before .before .before .before .before .before in
     let top = c .before .before .before .before .loop in
-    counting-end (blockHops m (a .nodes .now) (a .edges .now) (a .ends .now) (a .heads .now) (a .landings .now) (a .roots .now) (a .guards .now) (a .bases .now) (a .returns .now) (a .stored)) (busy .result) (busy-quiet m (a .nodes .now) (a .edges .now) (a .ends .now) (a .heads .now) (a .landings .now) (a .roots .now) (a .guards .now) (a .bases .now) (a .returns .now) (a .stored) (a .y .routes .count) (length-records routeFrom (a .s .now) (a .y .routes)) (busy .result) (busy .ensures)) (top .inv .1) (rw (c .enum-told .given .1) at (c .before .before .lowest-in .ensures)) (start .pre .2) (a .exits .now) (top .exits) (top .inv .0)
+    counting-end (blockHops m (a .nodes .now) (a .edges .now) (a .ends .now) (a .heads .now) (a .landings .now) (a .roots .now) (a .guards .now) (a .bases .now) (a .returns .now) (a .stored)) (from .busy-blocks .result) (busy-quiet m (a .nodes .now) (a .edges .now) (a .ends .now) (a .heads .now) (a .landings .now) (a .roots .now) (a .guards .now) (a .bases .now) (a .returns .now) (a .stored) (a .y .routes .count) (length-records routeFrom (a .s .now) (a .y .routes)) (from .busy-blocks .result) (busy from)) (top .inv .1) (rw (c .enum-told .given .1) at (c .before .before .lowest-in .ensures)) (start .pre .2) (a .exits .now) (top .exits) (top .inv .0)
 
 sizes-of-requires : tie.Need-sizes-of-requires Inv-loop μ-loop
 sizes-of-requires c κs =
-    let start = c .before .before .before .before .before .before .before .before .before .before .before .before .before .before .before .before .before .before .before .before .before .before .before .before .before .before .before .before in
+    let start = c .before .before .before .before .before .before .before .before .before .before .before .before .before .before .before .before .before .before .before .before .before .before .before .before .before .before .before .before .before .before in
     let held = gathered (c .before) in
     (held .holds .ordered .fit, omega (arith, held .most, start .pre .3 .edges-few, start .pre .3 .ends-few))
 
 sizes-both-requires : tie.Need-sizes-both-requires Inv-loop μ-loop
 sizes-both-requires c κs =
-    let start = c .before .before .before .before .before .before .before .before .before .before .before .before .before .before .before .before .before .before .before .before .before .before .before .before .before .before .before .before .before in
+    let start = c .before .before .before .before .before .before .before .before .before .before .before .before .before .before .before .before .before .before .before .before .before .before .before .before .before .before .before .before .before .before .before in
     let was = counting-few (c .before .before .before .before .before .before .before .before .before .before .before .before .before .loop .inv .1) (start .pre .2) in
     let held = gathered (c .before .before) in
     let more = c .sizes-of .ensures in
@@ -148,10 +154,10 @@ sizes-both-requires c κs =
 
 loop-again : tie.Need-loop-again Inv-loop μ-loop
 loop-again c =
-    let start = c .before .before .before .before .before .before .before .before .before .before .before .before .before .before .before .before .before .before .before .before .before .before .before .before .before .before .before .before .before .before in
+    let start = c .before .before .before .before .before .before .before .before .before .before .before .before .before .before .before .before .before .before .before .before .before .before .before .before .before .before .before .before .before .before .before .before in
     let a = start .args in
     let m = routesIn (a .s .now) (a .y) in
-    let busy = c .before .before .before .before .before .before .before .before .before .before .before .before .before .before .before .before .before .busy-blocks in
+    let from = c .before .before .before .before .before .before .before .before .before .before .before .before .before .before .before .before .before in
     let top = c .before .before .before .before .before .before .before .before .before .before .before .before .before .before .loop in
     let low = rw (c .before .before .before .before .before .before .before .before .before .before .b .given .1) at (c .before .before .before .before .before .before .before .before .before .before .before .before .lowest-in .ensures) in
     let held = gathered (c .before .before .before) in
@@ -160,7 +166,7 @@ loop-again c =
     let size = block-size m _ (a .nodes .now) (a .edges .now) (a .ends .now) (a .heads .now) (a .landings .now) (a .roots .now) (a .guards .now) (a .bases .now) (a .returns .now) (a .stored) (held .holds) more in
     rw (c .before .before .before .before .before .before .before .take-from .ensures, c .sizes-both .ensures) (
       held .long ∙ top .inv .0,
-      counting-next (blockHops m (a .nodes .now) (a .edges .now) (a .ends .now) (a .heads .now) (a .landings .now) (a .roots .now) (a .guards .now) (a .bases .now) (a .returns .now) (a .stored)) (busy .result) (busy-quiet m (a .nodes .now) (a .edges .now) (a .ends .now) (a .heads .now) (a .landings .now) (a .roots .now) (a .guards .now) (a .bases .now) (a .returns .now) (a .stored) (a .y .routes .count) (length-records routeFrom (a .s .now) (a .y .routes)) (busy .result) (busy .ensures)) (top .inv .1) _ low (c .before .sizes-of .result) size (omega (arith, more .hops-most, few)) (omega (arith, more .lists-most, few)) (omega (arith, more .blocks-most, few)),
+      counting-next (blockHops m (a .nodes .now) (a .edges .now) (a .ends .now) (a .heads .now) (a .landings .now) (a .roots .now) (a .guards .now) (a .bases .now) (a .returns .now) (a .stored)) (from .busy-blocks .result) (busy-quiet m (a .nodes .now) (a .edges .now) (a .ends .now) (a .heads .now) (a .landings .now) (a .roots .now) (a .guards .now) (a .bases .now) (a .returns .now) (a .stored) (a .y .routes .count) (length-records routeFrom (a .s .now) (a .y .routes)) (from .busy-blocks .result) (busy from)) (top .inv .1) _ low (c .before .sizes-of .result) size (omega (arith, more .hops-most, few)) (omega (arith, more .lists-most, few)) (omega (arith, more .blocks-most, few)),
       omega (arith, low .0),
       λ h. record { long = refl; holds = held .holds; most = held .most },
       listed (c .before .before .before .before .before .before) .0,
@@ -174,6 +180,7 @@ count-blocks-spec =
     Inv-loop
     μ-loop
     (λ c. search needs)
+    guarded-blocks-requires
     busy-blocks-requires
     (λ c κs. search needs)
     mark-turns-requires
