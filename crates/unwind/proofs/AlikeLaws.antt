@@ -1,17 +1,18 @@
 -- Blocks in a row with the same ways out.
 --     steady-none, steady-more     the sets, one by one
+--     steady-returns               what parts and the blocks that return have in common
 --     Marked, marks-none, marks-more, marks-turning    the words, one by one
 --     held-on                      what holds the ways out of one block holds those of the next
 use mathlib.Core.Path.{_≡_, refl, sym, ap, _∙_, subst}
 use mathlib.Core.Bool.{Bool, true, false, cond, _&&_}
 use mathlib.Core.List.{List, [], _++_, map, map-append, Memᴰ·cast}
-use Prim.Native.Nat.{ℕ, zero, suc, _+_, _*_, _/_, _%_, _^_, _≤_, _<_}
+use Prim.Native.Nat.{ℕ, zero, suc, _+_, _*_, _/_, _%_, _^_, _≤_, _<_, min}
 use native.Mathlib.Nat.{not-suc-le-zero}
 use native.Mathlib.Numerals.{add-one}
 use native.Mathlib.Decide.{ℕ-discrete}
 use native.Mathlib.Omega.{arith}
 use borrow.Author.Tests.{eqb-false}
-use lib.Bits.{bitOr, bitXor, differ}
+use lib.Bits.{bitAnd, bitOr, bitXor, differ, and-step, and-shr}
 use lib.Dec.{eqb}
 use lib.ListN.{length, getD, set}
 use lib.Seq.{getD-set-same, getD-set-other}
@@ -30,12 +31,14 @@ use Rattle.unwind.specs.Routed.{TriesIn}
 use Rattle.unwind.specs.Sources.{Exit, compareExits}
 use Rattle.unwind.specs.Entries.{exitIn, exitsIn}
 use Rattle.unwind.specs.Gather.{exitTo, edgeExits, endNumber, endExits, recordExits, inSet, routeRecords, nodeRecords}
+use Rattle.unwind.specs.Placed.{returnsIn}
 use Rattle.unwind.specs.Lent.{blockRecords, Holds}
 use Rattle.unwind.specs.Alike.{Moves, Steady, Turning, GoesOn}
 use Rattle.unwind.proofs.Rising.{rising-is, total-exits}
 use Rattle.unwind.proofs.EntryLaws.{table-rising}
 use Rattle.unwind.proofs.GatherLaws.{number-lands}
 use Rattle.unwind.proofs.PoolLaws.{set-in}
+use Rattle.unwind.proofs.ReturnLaws.{returns-word}
 use Rattle.unwind.proofs.Leaving.{map-flat}
 use Rattle.unwind.proofs.LentLaws.{map-table}
 
@@ -64,6 +67,14 @@ turn-none x j e =
     ∙ differ-none (bit x j) (bit (x / 2) j) (sym (bit-xor x (x / 2) j) ∙ sym (bit-shift (bitXor x (x / 2)) j) ∙ e)
     ∙ bit-half x j
     ∙ sym (bit-shift x (suc j)))
+
+and-digit : (x y j : ℕ) → bitAnd x y / 2 ^ j % 2 ≡ min (x / 2 ^ j % 2) (y / 2 ^ j % 2)
+and-digit x y j =
+    let last : bitAnd (x / 2 ^ j) (y / 2 ^ j) % 2 ≡ min (x / 2 ^ j % 2) (y / 2 ^ j % 2) = omega (arith, and-step (x / 2 ^ j) (y / 2 ^ j)) in
+    ap (λ (n : ℕ). n % 2) (and-shr x y j) ∙ last
+
+both-none : (x y j : ℕ) → x / 2 ^ j % 2 ≡ x / 2 ^ (j + 1) % 2 → y / 2 ^ j % 2 ≡ y / 2 ^ (j + 1) % 2 → bitAnd x y / 2 ^ j % 2 ≡ bitAnd x y / 2 ^ (j + 1) % 2
+both-none x y j p q = and-digit x y j ∙ (λ u. min (p u) (q u)) ∙ sym (and-digit x y (j + 1))
 
 no-mark : (t : List ℕ) (b : ℕ) → member t b ≡ false → getD t (b / 64) 0 / 2 ^ (b % 64) % 2 ≡ 0
 unfolding member
@@ -102,6 +113,16 @@ module _ (sets : List ℕ) where
       ∙ ap (λ (x : ℕ). eqb x 1) (p .same i (b % 64) h (no-mark t b out))
       ∙ (λ u. eqb (getD sets (16 * i + sym word u) 0 / 2 ^ sym place u % 2) 1)
       ∙ set-in sets i (b + 1) (omega arith)
+
+-- where neither the parts turn nor the blocks that return do, what they have in common does not
+pub steady-returns : (parts returners : List ℕ) (n k t : ℕ) {w : ℕ} → k < 16 → w ≡ bitXor (getD returners k 0) (getD returners k 0 / 2) → Steady parts n k t → Steady (returnsIn parts returners) n k (bitOr t w)
+steady-returns parts returners n k t {w} low is p =
+    record {
+      same = λ i j h e.
+          let none = or-none t w j e in
+          rw (returns-word parts returners i k low)
+          (both-none (getD parts (16 * i + k) 0) (getD returners k 0) j (p .same i j h (none .0)) (turn-none (getD returners k 0) j (ap (λ (x : ℕ). x / 2 ^ j % 2) (sym is) ∙ none .1)));
+    }
 
 -- ---- words
 

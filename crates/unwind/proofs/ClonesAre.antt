@@ -39,7 +39,7 @@ unfolding joined
 joined-same f g [] same = refl
 joined-same f g (x ∷ l) same = ap₂ (λ (a b : List _). a ++ b) (same x (List·Memᴰ·head refl)) (joined-same f g l (λ y m. same y (List·Memᴰ·tail m)))
 
-module _ (g : Graph) (few : length (g .blocks) ≤ 1024) (some′ : 0 < length (g .blocks)) (rs : List UnwindRoute) (z : List Node) (bases entries parts returns : List ℕ) (n : ℕ) (p : Placed g (funclets rs) z bases entries parts returns n) where
+module _ (g : Graph) (few : length (g .blocks) ≤ 1024) (some′ : 0 < length (g .blocks)) (rs : List UnwindRoute) (z : List Node) (bases entries parts : List ℕ) (n : ℕ) (p : Placed g (funclets rs) z bases entries parts n) where
   abbrev fs : List ℕ
   fs = funclets rs
 

@@ -25,17 +25,23 @@ use Rattle.graph.specs.Search.{Linked, Roomy}
 use Rattle.graph.specs.WellFormed.{isBlock}
 use Rattle.graph.proofs.RecordLaws.{block-most, edge-most}
 use Rattle.unwind.specs.declared.tries.store.Counts.{Counts}
-use Rattle.unwind.specs.Stands.{Stands}
+use Rattle.addition.specs.Lists.{keep}
+use Rattle.addition.specs.Part.{funclets, returning}
+use Rattle.unwind.specs.Stands.{Stands, Has}
 use Rattle.addition.specs.Trie.{Node, nodeAt, tries}
 use Rattle.unwind.specs.Nodes.{nodesIn}
 use Rattle.unwind.specs.Routed.{Scratch, TriesIn}
-use Rattle.unwind.specs.Placed.{PlacedAll}
+use Rattle.addition.specs.Instance.{blocksOf}
+use Rattle.unwind.specs.PartSearch.{Returners}
+use Rattle.unwind.specs.Placed.{setAt, returnsIn, PlacedAll}
 use Rattle.unwind.specs.Sides.{Lands, GuardsIn}
 use Rattle.addition.specs.Add.{nodeCheck}
 use Rattle.unwind.specs.Answers.{RoutesChecked}
 use Rattle.unwind.specs.Frames.{Few, Small, Frame, Room, NodesPass, Placements, AtHand}
 use Rattle.unwind.proofs.Standing.{stands-of}
 use Rattle.unwind.proofs.TrieNodes.{length-nodes}
+use Rattle.unwind.proofs.ClonesAre.{sets-in}
+use Rattle.unwind.proofs.ReturnLaws.{returns-long, returns-kept}
 use Rattle.unwind.proofs.SizeChecks.{placed-in, bounded-in}
 
 -- ---- lengths
@@ -53,14 +59,14 @@ pub all-small : (w : List ℕ) → Small (heldIn w .graph) 1024 4096
 all-small w = record { blocks-few = block-most w; edges-few = edge-most w }
 
 -- a frame, by its lengths
-pub framed : {y : RouteLayout} {g : Graph} {starts nodes edges ends stack roots head next bases heads parts returns guards landings exits : List ℕ} (steps paths routes blocks links : ℕ)
+pub framed : {y : RouteLayout} {g : Graph} {starts nodes edges ends stack roots head next bases heads parts guards landings exits : List ℕ} (steps paths routes blocks links : ℕ)
     → Few y steps paths routes → Small g blocks links → steps ≤ 512 → paths ≤ 128 → blocks < 6 * (steps + paths)
     → length starts ≡ paths + 1 → length nodes ≡ 6 * (routes + steps) → length edges ≡ 3 * steps → length ends ≡ 3 * paths → length stack ≡ 3 * steps → length roots ≡ routes
     → length head ≡ blocks → length next ≡ links → head ≡ replicate (length head) 0
-    → length bases ≡ routes + steps → length heads ≡ routes + steps → length parts ≡ 16 * (routes + steps) → length returns ≡ 16 * (routes + steps)
+    → length bases ≡ routes + steps → length heads ≡ routes + steps → length parts ≡ 16 * (routes + steps)
     → length guards ≡ 16 * routes → length landings ≡ paths → length exits ≡ 6 * (steps + paths) → exits ≡ replicate (length exits) 0
-    → Frame y g starts nodes edges ends stack roots head next bases heads parts returns guards landings exits
-framed steps paths routes blocks links few small steps-most paths-most blocks-most starts-long nodes-long edges-long ends-long stack-long roots-long head-long next-long unlinked bases-long heads-long parts-long returns-long guards-long landings-long exits-long unplaced =
+    → Frame y g starts nodes edges ends stack roots head next bases heads parts guards landings exits
+framed steps paths routes blocks links few small steps-most paths-most blocks-most starts-long nodes-long edges-long ends-long stack-long roots-long head-long next-long unlinked bases-long heads-long parts-long guards-long landings-long exits-long unplaced =
     record {
       steps = steps;
       paths = paths;
@@ -84,14 +90,13 @@ framed steps paths routes blocks links few small steps-most paths-most blocks-mo
       bases-long = bases-long;
       heads-long = heads-long;
       parts-long = parts-long;
-      returns-long = returns-long;
       guards-long = guards-long;
       landings-long = landings-long;
       exits-long = exits-long;
       unplaced = unplaced;
     }
 
-module _ (s : List ℕ) (y : RouteLayout) (g : Graph) {starts nodes edges ends stack roots head next bases heads parts returns guards landings exits : List ℕ} (f : Frame y g starts nodes edges ends stack roots head next bases heads parts returns guards landings exits) where
+module _ (s : List ℕ) (y : RouteLayout) (g : Graph) {starts nodes edges ends stack roots head next bases heads parts guards landings exits : List ℕ} (f : Frame y g starts nodes edges ends stack roots head next bases heads parts guards landings exits) where
   pub scratched : Scratch (routesIn s y) starts nodes edges ends stack roots
   scratched =
       let steps-are = length-records stepFrom s (y .steps) in
@@ -109,13 +114,13 @@ module _ (s : List ℕ) (y : RouteLayout) (g : Graph) {starts nodes edges ends s
   -- where the tries stand
   pub roomed : {nodes′ edges′ ends′ roots′ : List ℕ} {c : Counts}
       → TriesIn (routesIn s y) nodes′ edges′ ends′ roots′ c → length nodes′ ≡ length nodes → length edges′ ≡ length edges → length ends′ ≡ length ends
-      → Room g (routesIn s y) edges′ ends′ head next bases heads parts returns guards landings exits c
+      → Room g (routesIn s y) edges′ ends′ head next bases heads parts guards landings exits c
   roomed t nodes-kept edges-kept ends-kept =
       let routes-are = length-records routeFrom s (y .routes) in
       record {
         links = record { blocks = omega (arith, f .small .blocks-few, f .head-long); edges = omega (arith, f .small .edges-few, f .next-long) };
         unlinked = f .unlinked;
-        slots = record { bases-fit = omega (arith, t .stored .nodes-fit, f .nodes-long, f .bases-long); entries-fit = omega (arith, t .stored .nodes-fit, f .nodes-long, f .heads-long); parts-fit = omega (arith, t .stored .nodes-fit, f .nodes-long, f .parts-long); returns-fit = omega (arith, t .stored .nodes-fit, f .nodes-long, f .returns-long) };
+        slots = record { bases-fit = omega (arith, t .stored .nodes-fit, f .nodes-long, f .bases-long); entries-fit = omega (arith, t .stored .nodes-fit, f .nodes-long, f .heads-long); parts-fit = omega (arith, t .stored .nodes-fit, f .nodes-long, f .parts-long) };
         guards-fit = omega (arith, f .few .routes-few, f .guards-long);
         landings-fit = omega (arith, t .stored .ends-fit, f .ends-long, f .landings-long);
         exits-fit = record { edges-few = omega (arith, f .steps-most, f .edges-long); ends-few = omega (arith, f .paths-most, f .ends-long); room = omega (arith, f .edges-long, f .ends-long, f .exits-long) };
@@ -141,10 +146,10 @@ module _ (h : Held) (n : ℕ) (m : RouteImage) (checked : RoutesChecked h n m) (
         ∙ ap (checks (λ i. nodeCheck g (nodeAt z i))) (sym (length-nodes m nodes edges ends (c .nodes)))
         ∙ ap (λ (z : List Node). checks (λ i. nodeCheck g (nodeAt z i)) (length z)) (t .nodes-are)
 
-    pub placements : {head next bases heads parts returns guards landings exits head′ next′ bases′ heads′ parts′ returns′ exits′ : List ℕ}
-        → Room g m edges ends head next bases heads parts returns guards landings exits c
-        → NodesPass g (routesOf m) → Linked g head′ next′ 0 → Roomy g head′ next′ → PlacedAll g m nodes (c .nodes) bases′ heads′ parts′ returns′ clear → length exits′ ≡ length exits
-        → Placements g m nodes edges ends roots head′ next′ bases′ heads′ parts′ returns′ guards landings exits′ c
+    pub placements : {head next bases heads parts guards landings exits head′ next′ bases′ heads′ parts′ exits′ : List ℕ}
+        → Room g m edges ends head next bases heads parts guards landings exits c
+        → NodesPass g (routesOf m) → Linked g head′ next′ 0 → Roomy g head′ next′ → PlacedAll g m nodes (c .nodes) bases′ heads′ parts′ clear → length exits′ ≡ length exits
+        → Placements g m nodes edges ends roots head′ next′ bases′ heads′ parts′ guards landings exits′ c
     placements room passed linked links p exits-long =
         record {
           trie = t;
@@ -152,24 +157,33 @@ module _ (h : Held) (n : ℕ) (m : RouteImage) (checked : RoutesChecked h n m) (
           links = links;
           linked = linked;
           slots = p .slots;
-          placed = placed-in g m nodes edges ends roots _ _ _ _ c t p;
-          bounded = bounded-in g m nodes edges ends roots _ _ _ _ c t p (blocks-some (stands-of h (checked .graphed)));
+          placed = placed-in g m nodes edges ends roots _ _ _ c t p;
+          bounded = bounded-in g m nodes edges ends roots _ _ _ c t p (blocks-some (stands-of h (checked .graphed)));
           guards-fit = room .guards-fit;
           landings-fit = room .landings-fit;
           exits-fit = record { edges-few = room .exits-fit .edges-few; ends-few = room .exits-fit .ends-few; room = rw exits-long (room .exits-fit .room) };
         }
 
-  pub at-hand : {head next bases heads parts returns guards landings exits guards′ landings′ : List ℕ}
-      → Placements g m nodes edges ends roots head next bases heads parts returns guards landings exits c
-      → GuardsIn g m guards′ (length (m .routes)) → length guards′ ≡ length guards → Lands g m ends landings′ (c .ends) → length landings′ ≡ length landings
-      → AtHand h m nodes edges ends roots head next bases heads parts returns guards′ landings′ exits c
-  at-hand p guarded long landed landings-long =
-      record {
-        graphed = checked .graphed;
-        accepted = checked .accepted;
-        checked = p .checked;
-        instances = record { trie = p .trie; slots = p .slots; placed = p .placed; guards-fit = omega arith; guarded = guarded; landed = landed; bounded = p .bounded; landings-fit = omega (arith, p .landings-fit) };
-        links = p .links;
-        linked = p .linked;
-        exits-fit = p .exits-fit;
-      }
+  -- the sets of the blocks from which nodes return
+  module _ {head next bases heads parts guards landings exits : List ℕ} (p : Placements g m nodes edges ends roots head next bases heads parts guards landings exits c) (returners : List ℕ) (returned : Returners g returners) where
+    abbrev z : List Node
+    z = tries (routesOf m) .nodes
+
+    returns-are : (i : ℕ) → i < c .nodes → Has (setAt (returnsIn parts returners) i) (keep (returning g) (blocksOf g (funclets (routesOf m)) z i))
+    returns-are i lt =
+        let sets = sets-in g (omega (arith, p .bounded .few)) (p .bounded .some) (routesOf m) z bases heads parts (c .nodes) (p .placed) (p .slots .parts-fit) in
+        returns-kept parts returners g (blocksOf g (funclets (routesOf m)) z i) i returned (λ b. sets .stand i b lt) (p .placed .part-has i lt)
+
+    pub at-hand : {guards′ landings′ : List ℕ}
+        → GuardsIn g m guards′ (length (m .routes)) → length guards′ ≡ length guards → Lands g m ends landings′ (c .ends) → length landings′ ≡ length landings
+        → AtHand h m nodes edges ends roots head next bases heads parts (returnsIn parts returners) guards′ landings′ exits c
+    at-hand guarded long landed landings-long =
+        record {
+          graphed = checked .graphed;
+          accepted = checked .accepted;
+          checked = p .checked;
+          instances = record { trie = p .trie; slots = p .slots; placed = p .placed; returns-fit = rw (returns-long parts returners) (p .slots .parts-fit); returns-has = returns-are; guards-fit = omega arith; guarded = guarded; landed = landed; bounded = p .bounded; landings-fit = omega (arith, p .landings-fit) };
+          links = p .links;
+          linked = p .linked;
+          exits-fit = p .exits-fit;
+        }

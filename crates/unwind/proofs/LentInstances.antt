@@ -203,7 +203,7 @@ module _ (g : Graph) (m : RouteImage) (nodes edges ends roots bases heads parts 
       record {
         guards-are = λ r b h. in-set guards (length (m .routes)) r b (x .guards-fit) h ∙ x .guarded .has r h b;
         bases-are = λ i h. x .placed .base-is i h;
-        returns-are = λ i b h. in-set returns (c .nodes) i b (x .slots .returns-fit) h ∙ x .placed .returns-has i h b;
+        returns-are = λ i b h. in-set returns (c .nodes) i b (x .returns-fit) h ∙ x .returns-has i h b;
       }
 
   pub parts-in : PartsIn g m parts c
@@ -217,10 +217,10 @@ module _ (g : Graph) (m : RouteImage) (nodes edges ends roots bases heads parts 
   place-in i o h own =
       ⊎-elim
       (λ l.
-      rw (ne-eqb (getD bases i 0) 0 (copying g few (x .bounded .some) rs trie bases heads parts returns (c .nodes) (x .placed) i h l))
-      (placed-at g few (x .bounded .some) rs trie bases heads parts returns (c .nodes) (x .placed) i h l o (x .placed .part-has i h o ∙ mem-among own)))
+      rw (ne-eqb (getD bases i 0) 0 (copying g few (x .bounded .some) rs trie bases heads parts (c .nodes) (x .placed) i h l))
+      (placed-at g few (x .bounded .some) rs trie bases heads parts (c .nodes) (x .placed) i h l o (x .placed .part-has i h o ∙ mem-among own)))
       (λ l.
-      rw (eq-eqb (getD bases i 0) 0 (original g few (x .bounded .some) rs trie bases heads parts returns (c .nodes) (x .placed) i h l))
+      rw (eq-eqb (getD bases i 0) 0 (original g few (x .bounded .some) rs trie bases heads parts (c .nodes) (x .placed) i h l))
       (sym (place-first g rs trie i o l)))
       (first-or-later g rs trie i)
 
@@ -246,7 +246,7 @@ module _ (g : Graph) (m : RouteImage) (nodes edges ends roots bases heads parts 
       let from : List ℕ = keep (returning g) (blocksOf g funclets′ trie i) in
       let route : recordIn nodes i .route ≡ nodeAt trie i .route = ap (λ (n : Node). n .route) (sym (node-is g m nodes edges ends roots heads landings guards bases returns c (x .trie) leads-in i h)) in
       ap (joined (λ o. recordWays m nodes edges ends heads landings (recordIn nodes i .route) (placeIn bases parts i o) (recordIn nodes i)))
-      (list-has (length (g .blocks)) from (setAt returns i) few (keep-rises (length (g .blocks)) (blocksOf g funclets′ trie i) (returning g) (rises i)) (x .placed .returns-has i h))
+      (list-has (length (g .blocks)) from (setAt returns i) few (keep-rises (length (g .blocks)) (blocksOf g funclets′ trie i) (returning g) (rises i)) (x .returns-has i h))
       ∙ joined-same _ (λ o. waysFrom g rs (recordIn nodes i .route) (place g funclets′ trie i o) (nodeAt trie i)) from
       (λ o k.
       let own = keep-mem (returning g) (blocksOf g funclets′ trie i) k .0 in

@@ -59,4 +59,5 @@ pub mod StoreLaws
 pub mod AnswerLaws
 pub mod FrameLaws
 pub mod MemberLaws
+pub mod ReturnLaws
 pub mod AlikeLaws

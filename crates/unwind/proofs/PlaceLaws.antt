@@ -30,10 +30,10 @@ use Rattle.graph.specs.BlockSet as set
 use Rattle.graph.specs.WellFormed.{isBuilt}
 use Rattle.graph.proofs.FoldLaws.{length-table, some-same, some-at, count-le}
 use Rattle.graph.proofs.BlockLaws.{member-none}
-use Rattle.addition.specs.Lists.{keep, upto, rank}
+use Rattle.addition.specs.Lists.{upto, rank}
 use Rattle.addition.specs.Blocks.{blockIn, blockOf, leading}
 use Rattle.unwind.specs.Stands.{Has}
-use Rattle.addition.specs.Part.{funclets, round, rounds, part, returning}
+use Rattle.addition.specs.Part.{funclets, round, rounds, part}
 use Rattle.unwind.specs.PartSearch.{Barriers, PartFrom}
 use Rattle.addition.specs.Trie.{Node, sameFunclet}
 use Rattle.unwind.specs.Nodes.{stepIn, funcletIn, nodesIn}
@@ -145,42 +145,39 @@ rank-most parts i b = rank-few (setAt parts i) (length-table (λ k. getD parts (
 
 -- ---- one node more
 
-pub sizes-none : (bases entries parts returns : List ℕ) → SameSizes bases entries parts returns bases entries parts returns
-sizes-none bases entries parts returns = record { bases-long = refl; entries-long = refl; parts-long = refl; returns-long = refl }
+pub sizes-none : (bases entries parts : List ℕ) → SameSizes bases entries parts bases entries parts
+sizes-none bases entries parts = record { bases-long = refl; entries-long = refl; parts-long = refl }
 
-pub sizes-then : {a b c d a′ b′ c′ d′ a″ b″ c″ d″ : List ℕ} → SameSizes a b c d a′ b′ c′ d′ → SameSizes a′ b′ c′ d′ a″ b″ c″ d″ → SameSizes a b c d a″ b″ c″ d″
+pub sizes-then : {a b c a′ b′ c′ a″ b″ c″ : List ℕ} → SameSizes a b c a′ b′ c′ → SameSizes a′ b′ c′ a″ b″ c″ → SameSizes a b c a″ b″ c″
 sizes-then x y =
-    record { bases-long = y .bases-long ∙ x .bases-long; entries-long = y .entries-long ∙ x .entries-long; parts-long = y .parts-long ∙ x .parts-long; returns-long = y .returns-long ∙ x .returns-long }
+    record { bases-long = y .bases-long ∙ x .bases-long; entries-long = y .entries-long ∙ x .entries-long; parts-long = y .parts-long ∙ x .parts-long }
 
-pub slots-same : {a b c d a′ b′ c′ d′ : List ℕ} (n : ℕ) → SameSizes a b c d a′ b′ c′ d′ → Slots n a b c d → Slots n a′ b′ c′ d′
+pub slots-same : {a b c a′ b′ c′ : List ℕ} (n : ℕ) → SameSizes a b c a′ b′ c′ → Slots n a b c → Slots n a′ b′ c′
 slots-same n x s =
     record {
       bases-fit = rw (x .bases-long) (s .bases-fit);
       entries-fit = rw (x .entries-long) (s .entries-fit);
       parts-fit = rw (x .parts-long) (s .parts-fit);
-      returns-fit = rw (x .returns-long) (s .returns-fit);
     }
 
-pub slots-less : {a b c d : List ℕ} (n k : ℕ) → k ≤ n → Slots n a b c d → Slots k a b c d
+pub slots-less : {a b c : List ℕ} (n k : ℕ) → k ≤ n → Slots n a b c → Slots k a b c
 slots-less n k h s =
     record {
       bases-fit = omega (arith, s .bases-fit);
       entries-fit = omega (arith, s .entries-fit);
       parts-fit = omega (arith, s .parts-fit);
-      returns-fit = omega (arith, s .returns-fit);
     }
 
-pub sizes-kept : {i b e : ℕ} {w r bases entries parts returns bases′ entries′ parts′ returns′ : List ℕ} → NodePlaced i b e w r bases entries parts returns bases′ entries′ parts′ returns′
-    → SameSizes bases entries parts returns bases′ entries′ parts′ returns′
+pub sizes-kept : {i b e : ℕ} {w bases entries parts bases′ entries′ parts′ : List ℕ} → NodePlaced i b e w bases entries parts bases′ entries′ parts′
+    → SameSizes bases entries parts bases′ entries′ parts′
 sizes-kept {i} {b} {e} {bases = bases} {entries = entries} p =
     record {
       bases-long = ap length (p .bases-set) ∙ length-set bases i b;
       entries-long = ap length (p .entries-set) ∙ length-set entries i e;
       parts-long = p .part-put .long;
-      returns-long = p .returns-put .long;
     }
 
-entries-rest : {i b e : ℕ} {w r bases entries parts returns bases′ entries′ parts′ returns′ : List ℕ} → NodePlaced i b e w r bases entries parts returns bases′ entries′ parts′ returns′
+entries-rest : {i b e : ℕ} {w bases entries parts bases′ entries′ parts′ : List ℕ} → NodePlaced i b e w bases entries parts bases′ entries′ parts′
     → (j : ℕ) → i < j → getD entries′ j 0 ≡ getD entries j 0
 entries-rest {i} {b} {e} {entries = entries} p j h = rw (p .entries-set) (getD-set-other entries i j e 0 (λ same. omega arith))
 
@@ -207,11 +204,11 @@ module _ (g : Graph) (m : RouteImage) (nodes edges ends : List ℕ) (n : ℕ) wh
   unfolding copied
   copied-first i e = rw e
 
-  placed-more : (i b e : ℕ) (w r bases entries parts returns bases′ entries′ parts′ returns′ : List ℕ) → i < length bases → i < length entries
-      → NodePlaced i b e w r bases entries parts returns bases′ entries′ parts′ returns′
-      → b ≡ cond (later g fs′ z i) (base g fs′ z i) 0 → e ≡ entryOf g fs′ z i → Has w (blocksOf g fs′ z i) → Has r (keep (returning g) (blocksOf g fs′ z i))
-      → Placed g fs′ z bases entries parts returns i → Placed g fs′ z bases′ entries′ parts′ returns′ (i + 1)
-  placed-more i b e w r bases entries parts returns bases′ entries′ parts′ returns′ hb he p is-b is-e has-w has-r old =
+  placed-more : (i b e : ℕ) (w bases entries parts bases′ entries′ parts′ : List ℕ) → i < length bases → i < length entries
+      → NodePlaced i b e w bases entries parts bases′ entries′ parts′
+      → b ≡ cond (later g fs′ z i) (base g fs′ z i) 0 → e ≡ entryOf g fs′ z i → Has w (blocksOf g fs′ z i)
+      → Placed g fs′ z bases entries parts i → Placed g fs′ z bases′ entries′ parts′ (i + 1)
+  placed-more i b e w bases entries parts bases′ entries′ parts′ hb he p is-b is-e has-w old =
       record {
         base-is = λ j h.
             rw (p .bases-set)
@@ -230,11 +227,6 @@ module _ (g : Graph) (m : RouteImage) (nodes edges ends : List ℕ) (n : ℕ) wh
               | yes same ↦ rw (same, p .part-put .here) has-w
               | no ne ↦ rw (p .part-put .others j ne) (old .part-has j (omega arith))
             ];
-        returns-has = λ j h.
-            elim (ℕ-discrete j i) [
-              | yes same ↦ rw (same, p .returns-put .here) has-r
-              | no ne ↦ rw (p .returns-put .others j ne) (old .returns-has j (omega arith))
-            ];
       }
 
   entry-original : (i : ℕ) → i < n → later g fs′ z i ≡ false → entryBlock g (funcletAt m nodes i) ≡ entryOf g fs′ z i
@@ -247,8 +239,8 @@ module _ (g : Graph) (m : RouteImage) (nodes edges ends : List ℕ) (n : ℕ) wh
 
   -- the first node with the funclet of node i
   module _ (i j : ℕ) (h : i < n) (lt : j < i) (alike : funcletAt m nodes j ≡ funcletAt m nodes i) (none-before : any (like m nodes i) j ≡ false) where
-    entry-alike : (bases entries parts returns : List ℕ) → Placed g fs′ z bases entries parts returns i → getD entries j 0 ≡ entryBlock g (funcletAt m nodes i)
-    entry-alike bases entries parts returns old =
+    entry-alike : (bases entries parts : List ℕ) → Placed g fs′ z bases entries parts i → getD entries j 0 ≡ entryBlock g (funcletAt m nodes i)
+    entry-alike bases entries parts old =
         let hj : j < n = omega arith in
         let first = later-at j hj ∙ some-same _ (like m nodes i) j (λ k q. ap (sameFunclet (funcletAt m nodes k)) alike) ∙ none-before in
         old .entry-is j lt ∙ sym (entry-original j hj first) ∙ ap (entryBlock g) alike
@@ -265,16 +257,14 @@ module _ (g : Graph) (m : RouteImage) (nodes edges ends : List ℕ) (n : ℕ) wh
 -- ---- the first node of a funclet, and a later one
 
 -- node i is the first of its funclet, and is stored so
-pub record FirstPlaced (g : Graph) (m : RouteImage) (nodes : List ℕ) (i : ℕ) (bases entries parts returns bases′ entries′ parts′ returns′ : List ℕ) : Type 0 where
+pub record FirstPlaced (g : Graph) (m : RouteImage) (nodes : List ℕ) (i : ℕ) (bases entries parts bases′ entries′ parts′ : List ℕ) : Type 0 where
   pub part : List ℕ
-  pub ret : List ℕ
   pub part-has : Has part (partOf g (funclets (routesOf m)) (funcletAt m nodes i))
-  pub returns-has : Has ret (keep (returning g) (partOf g (funclets (routesOf m)) (funcletAt m nodes i)))
-  pub placed : NodePlaced i 0 (entryBlock g (funcletAt m nodes i)) part ret bases entries parts returns bases′ entries′ parts′ returns′
+  pub placed : NodePlaced i 0 (entryBlock g (funcletAt m nodes i)) part bases entries parts bases′ entries′ parts′
 
-module _ (g : Graph) (m : RouteImage) (nodes : List ℕ) (i : ℕ) (bases entries parts returns bases′ entries′ parts′ returns′ : List ℕ) (s : Slots (i + 1) bases entries parts returns) where
-  pub first-next : (b : ℕ) → any (like m nodes i) i ≡ false → FirstPlaced g m nodes i bases entries parts returns bases′ entries′ parts′ returns′
-      → Placing g m nodes i b 0 bases entries parts returns bases′ entries′ parts′ returns′
+module _ (g : Graph) (m : RouteImage) (nodes : List ℕ) (i : ℕ) (bases entries parts bases′ entries′ parts′ : List ℕ) (s : Slots (i + 1) bases entries parts) where
+  pub first-next : (b : ℕ) → any (like m nodes i) i ≡ false → FirstPlaced g m nodes i bases entries parts bases′ entries′ parts′
+      → Placing g m nodes i b 0 bases entries parts bases′ entries′ parts′
   first-next b f p =
       record {
         few = omega arith;
@@ -284,7 +274,7 @@ module _ (g : Graph) (m : RouteImage) (nodes : List ℕ) (i : ℕ) (bases entrie
             let first = later-at g m nodes edges ends n i h ∙ f in
             let blocks = blocks-at g m nodes edges ends n i h in
             let size = ap length (copied-first g m nodes edges ends n i first) in (
-              placed-more g m nodes edges ends n i _ _ _ _ _ _ _ _ _ _ _ _ (omega (arith, s .bases-fit)) (omega (arith, s .entries-fit)) (p .placed) (rw first) (entry-original g m nodes edges ends n i h first) (rw blocks (p .part-has)) (rw blocks (p .returns-has)) old,
+              placed-more g m nodes edges ends n i _ _ _ _ _ _ _ _ _ (omega (arith, s .bases-fit)) (omega (arith, s .entries-fit)) (p .placed) (rw first) (entry-original g m nodes edges ends n i h first) (rw blocks (p .part-has)) old,
               omega (arith, base-next g m nodes edges ends n i),
             );
       }
@@ -296,8 +286,8 @@ module _ (g : Graph) (m : RouteImage) (nodes : List ℕ) (i : ℕ) (bases entrie
     alike : funcletAt m nodes r ≡ funcletAt m nodes i
     alike = same-eq (funcletAt m nodes r) (funcletAt m nodes i) same
 
-    pub clone-next : (k : ℕ) → count (member w) (length (g .blocks)) ≤ k → k ≤ sizeOf w → NodePlaced i b (b + count (member w) (getD entries r 0)) w (setAt returns r) bases entries parts returns bases′ entries′ parts′ returns′
-        → Placing g m nodes i b k bases entries parts returns bases′ entries′ parts′ returns′
+    pub clone-next : (k : ℕ) → count (member w) (length (g .blocks)) ≤ k → k ≤ sizeOf w → NodePlaced i b (b + count (member w) (getD entries r 0)) w bases entries parts bases′ entries′ parts′
+        → Placing g m nodes i b k bases entries parts bases′ entries′ parts′
     clone-next k least most p =
         record {
           few = omega (arith, most, count-le (member w) 1024);
@@ -309,17 +299,16 @@ module _ (g : Graph) (m : RouteImage) (nodes : List ℕ) (i : ℕ) (bases entrie
               let blocks-r = blocks-at g m nodes edges ends n r hr ∙ ap (partOf g (funclets (routesOf m))) alike in
               let blocks-i = blocks-at g m nodes edges ends n i h in
               let has : Has w (partOf g (funclets (routesOf m)) (funcletAt m nodes i)) = rw blocks-r at (old .part-has r lt) in
-              let entry = entry-alike g m nodes edges ends n i r h lt alike f bases entries parts returns old in
+              let entry = entry-alike g m nodes edges ends n i r h lt alike f bases entries parts old in
               let ranked = entry-rank g (funclets (routesOf m)) (funcletAt m nodes i) w few leads has in
               let rises = part-rises g (funclets (routesOf m)) (funcletAt m nodes i) in
               let sized = size-has (length (g .blocks)) few _ rises w has in
               let below = below-has (length (g .blocks)) few _ rises w has in
               let copies = ap length (copied-later g (routesOf m) (nodesIn m nodes edges ends n) i is-later ∙ blocks-i) in (
-                placed-more g m nodes edges ends n i _ _ _ _ _ _ _ _ _ _ _ _ (omega (arith, s .bases-fit)) (omega (arith, s .entries-fit)) p
+                placed-more g m nodes edges ends n i _ _ _ _ _ _ _ _ _ (omega (arith, s .bases-fit)) (omega (arith, s .entries-fit)) p
                     (rw is-later is)
                     (rw (entry, ranked) (ap (λ (x : ℕ). x + rank (entryBlock g (funcletAt m nodes i)) (partOf g (funclets (routesOf m)) (funcletAt m nodes i))) is ∙ sym (entry-copy g m nodes edges ends n i h is-later)))
                     (rw blocks-i has)
-                    (rw blocks-i (rw blocks-r at (old .returns-has r lt)))
                     old,
                 omega (arith, base-next g m nodes edges ends n i),
               );
@@ -328,37 +317,37 @@ module _ (g : Graph) (m : RouteImage) (nodes : List ℕ) (i : ℕ) (bases entrie
 -- ---- all nodes
 
 -- those before node i are placed, and the next copy is block b
-pub record PlacedTo (g : Graph) (m : RouteImage) (nodes : List ℕ) (n : ℕ) (bases entries parts returns : List ℕ) (i b : ℕ) : Type 0 where
+pub record PlacedTo (g : Graph) (m : RouteImage) (nodes : List ℕ) (n : ℕ) (bases entries parts : List ℕ) (i b : ℕ) : Type 0 where
   pub at : (edges ends : List ℕ) → b ≡ base g (funclets (routesOf m)) (nodesIn m nodes edges ends n) i
-  pub those : (edges ends : List ℕ) → Placed g (funclets (routesOf m)) (nodesIn m nodes edges ends n) bases entries parts returns i
+  pub those : (edges ends : List ℕ) → Placed g (funclets (routesOf m)) (nodesIn m nodes edges ends n) bases entries parts i
 
-module _ (g : Graph) (m : RouteImage) (nodes : List ℕ) (n : ℕ) (bases entries parts returns : List ℕ) where
-  pub placed-none : PlacedTo g m nodes n bases entries parts returns 0 (length (g .blocks))
+module _ (g : Graph) (m : RouteImage) (nodes : List ℕ) (n : ℕ) (bases entries parts : List ℕ) where
+  pub placed-none : PlacedTo g m nodes n bases entries parts 0 (length (g .blocks))
   unfolding base flat
   placed-none =
       record {
         at = λ edges ends. omega arith;
-        those = λ edges ends. record { base-is = λ i h. absurd (not-suc-le-zero h); entry-is = λ i h. absurd (not-suc-le-zero h); part-has = λ i h. absurd (not-suc-le-zero h); returns-has = λ i h. absurd (not-suc-le-zero h) };
+        those = λ edges ends. record { base-is = λ i h. absurd (not-suc-le-zero h); entry-is = λ i h. absurd (not-suc-le-zero h); part-has = λ i h. absurd (not-suc-le-zero h) };
       }
 
-  pub placed-next : (i b r : ℕ) (bases′ entries′ parts′ returns′ : List ℕ) → i < n → PlacedTo g m nodes n bases entries parts returns i b
-      → Placing g m nodes i b r bases entries parts returns bases′ entries′ parts′ returns′ → PlacedTo g m nodes n bases′ entries′ parts′ returns′ (i + 1) (b + r)
-  placed-next i b r bases′ entries′ parts′ returns′ h p q =
+  pub placed-next : (i b r : ℕ) (bases′ entries′ parts′ : List ℕ) → i < n → PlacedTo g m nodes n bases entries parts i b
+      → Placing g m nodes i b r bases entries parts bases′ entries′ parts′ → PlacedTo g m nodes n bases′ entries′ parts′ (i + 1) (b + r)
+  placed-next i b r bases′ entries′ parts′ h p q =
       record {
         at = λ edges ends. q .next edges ends n h (p .at edges ends) (p .those edges ends) .1;
         those = λ edges ends. q .next edges ends n h (p .at edges ends) (p .those edges ends) .0;
       }
 
-  module _ (s : Slots n bases entries parts returns) (i b : ℕ) (p : PlacedTo g m nodes n bases entries parts returns i b) where
-    pub placed-end : i ≡ n → b ≤ 1024 → PlacedAll g m nodes n bases entries parts returns clear
+  module _ (s : Slots n bases entries parts) (i b : ℕ) (p : PlacedTo g m nodes n bases entries parts i b) where
+    pub placed-end : i ≡ n → b ≤ 1024 → PlacedAll g m nodes n bases entries parts clear
     placed-end all most =
         record {
           slots = s;
           check = λ edges ends. sym (ap (λ (t : Bool). unless t (refusal 18 0 0)) (le-leb (length (g .blocks) + length (cloneBlocks g (funclets (routesOf m)) (nodesIn m nodes edges ends n))) 1024 (omega (arith, clones-length g m nodes edges ends n, p .at edges ends, ap (base g (funclets (routesOf m)) (nodesIn m nodes edges ends n)) all))));
-          placed = λ edges ends e. subst (λ (k : ℕ). Placed g (funclets (routesOf m)) (nodesIn m nodes edges ends n) bases entries parts returns k) all (p .those edges ends);
+          placed = λ edges ends e. subst (λ (k : ℕ). Placed g (funclets (routesOf m)) (nodesIn m nodes edges ends n) bases entries parts k) all (p .those edges ends);
         }
 
-    pub placed-over : i ≤ n → 1024 < b → PlacedAll g m nodes n bases entries parts returns (refused (refusal 18 0 0))
+    pub placed-over : i ≤ n → 1024 < b → PlacedAll g m nodes n bases entries parts (refused (refusal 18 0 0))
     placed-over h over =
         record {
           slots = s;

@@ -124,22 +124,22 @@ module _ (g : Graph) (rs : List UnwindRoute) where
 stops : (a b d : Check) (r : Refusal) → a ≡ Check.refused r → (a then b then d) ≡ Check.refused r
 stops a b d r e = rw e
 
-module _ (g : Graph) (m : RouteImage) (nodes edges ends roots bases heads parts returns : List ℕ) (c : Counts) (t : TriesIn m nodes edges ends roots c) where
+module _ (g : Graph) (m : RouteImage) (nodes edges ends roots bases heads parts : List ℕ) (c : Counts) (t : TriesIn m nodes edges ends roots c) where
   abbrev all : List Node
   all = tries (routesOf m) .nodes
 
-  few-check : (k : Check) → PlacedAll g m nodes (c .nodes) bases heads parts returns k → k ≡ unless (leb (length (g .blocks) + length (cloneBlocks g (funclets (routesOf m)) all)) 1024) (refusal 18 0 0)
+  few-check : (k : Check) → PlacedAll g m nodes (c .nodes) bases heads parts k → k ≡ unless (leb (length (g .blocks) + length (cloneBlocks g (funclets (routesOf m)) all)) 1024) (refusal 18 0 0)
   few-check k p = p .check edges ends ∙ ap (λ (z : List Node). unless (leb (length (g .blocks) + length (cloneBlocks g (funclets (routesOf m)) z)) 1024) (refusal 18 0 0)) (t .nodes-are)
 
-  pub blocks-stop : (k : Check) (r : Refusal) → k ≡ Check.refused r → PlacedAll g m nodes (c .nodes) bases heads parts returns k → sizeCheck (addition g (routesOf m)) ≡ k
+  pub blocks-stop : (k : Check) (r : Refusal) → k ≡ Check.refused r → PlacedAll g m nodes (c .nodes) bases heads parts k → sizeCheck (addition g (routesOf m)) ≡ k
   unfolding sizeCheck
   blocks-stop k r e p =
       stops _ _ _ r (ap (λ (n : ℕ). unless (leb n 1024) (refusal 18 0 0)) (blocks-long g (routesOf m)) ∙ sym (few-check k p) ∙ e)
       ∙ sym e
 
-  module _ (p : PlacedAll g m nodes (c .nodes) bases heads parts returns clear) where
-    pub placed-in : Placed g (funclets (routesOf m)) all bases heads parts returns (c .nodes)
-    placed-in = subst (λ (z : List Node). Placed g (funclets (routesOf m)) z bases heads parts returns (c .nodes)) (t .nodes-are) (p .placed edges ends refl)
+  module _ (p : PlacedAll g m nodes (c .nodes) bases heads parts clear) where
+    pub placed-in : Placed g (funclets (routesOf m)) all bases heads parts (c .nodes)
+    placed-in = subst (λ (z : List Node). Placed g (funclets (routesOf m)) z bases heads parts (c .nodes)) (t .nodes-are) (p .placed edges ends refl)
 
     pub placed-few : length (g .blocks) + length (cloneBlocks g (funclets (routesOf m)) all) ≤ 1024
     placed-few = leb-true _ 1024 (unless-clear _ (refusal 18 0 0) (sym (few-check clear p)))

@@ -145,7 +145,7 @@ module _ (w : List ℕ) (m : RouteImage) {nodes edges ends roots head next bases
         exits-fit = record { edges-few = x .exits-fit .edges-few; ends-few = x .exits-fit .ends-few; room = omega (arith, x .exits-fit .room, long) };
       }
 
-  pub all-lent : AcceptedRoutes m × TriesIn m nodes edges ends roots c × Leads g m ends heads landings c × Sides g m guards bases returns c × PartsIn g m parts c × BasesFew bases (c .nodes) × Bounded g rs × Roomy edges ends exits × (16 * c .nodes ≤ length parts) × (16 * c .nodes ≤ length returns) × (16 * length (m .routes) ≤ length guards)
+  pub all-lent : AcceptedRoutes m × TriesIn m nodes edges ends roots c × Leads g m ends heads landings c × Sides g m guards bases returns c × PartsIn g m parts c × BasesFew bases (c .nodes) × Bounded g rs × Roomy edges ends exits × (16 * c .nodes ≤ length parts) × (16 * length (m .routes) ≤ length guards)
   all-lent =
       let i = x .instances in (
         x .accepted,
@@ -157,7 +157,6 @@ module _ (w : List ℕ) (m : RouteImage) {nodes edges ends roots head next bases
         i .bounded,
         x .exits-fit,
         i .slots .parts-fit,
-        i .slots .returns-fit,
         i .guards-fit,
       )
 
@@ -168,16 +167,16 @@ module _ (w : List ℕ) (m : RouteImage) {nodes edges ends roots head next bases
   few = omega (arith, x .instances .bounded .few)
 
   sets-here : SetsIn g parts (c .nodes)
-  sets-here = sets-in g few (x .instances .bounded .some) rs z bases heads parts returns (c .nodes) (x .instances .placed) (x .instances .slots .parts-fit)
+  sets-here = sets-in g few (x .instances .bounded .some) rs z bases heads parts (c .nodes) (x .instances .placed) (x .instances .slots .parts-fit)
 
   pub links-lent : Ends g × links.Roomy g head next × Linked g head next 0 × (c .nodes ≤ 1024) × (16 * c .nodes ≤ length parts) × SetsIn g parts (c .nodes) × (c .nodes ≤ length bases)
   links-lent = (stands-of (heldIn w) (x .graphed) .ends, x .links, x .linked, omega (arith, x .instances .trie .nodes-most), x .instances .slots .parts-fit, sets-here, x .instances .slots .bases-fit)
 
   edges-copied : edgeCopies g bases parts (c .nodes) ≡ newEdges
-  edges-copied = edges-are g few (x .instances .bounded .some) rs z bases heads parts returns (c .nodes) (x .instances .placed) all-nodes
+  edges-copied = edges-are g few (x .instances .bounded .some) rs z bases heads parts (c .nodes) (x .instances .placed) all-nodes
 
   blocks-copied : blockCopies g bases parts (c .nodes) ≡ newBlocks
-  blocks-copied = blocks-are g few (x .instances .bounded .some) rs z bases heads parts returns (c .nodes) (x .instances .placed) all-nodes
+  blocks-copied = blocks-are g few (x .instances .bounded .some) rs z bases heads parts (c .nodes) (x .instances .placed) all-nodes
 
   blocks-fit : length (g .blocks) + length newBlocks ≤ 1024
   unfolding cloneBlocks
@@ -211,7 +210,7 @@ module _ (w : List ℕ) (m : RouteImage) {nodes edges ends roots head next bases
   most-check k most cloned above fit =
       let all = all-lent in
       let total = total-hops g m nodes edges ends roots heads landings guards bases parts returns c (all .1) (all .2) (all .3) (all .4) (omega (arith, all .6 .few)) (all .6 .some) in
-      let fits : Fits (hopsOf (ways g rs)) _ = subst (λ (hs : List Hop). Fits hs (guardedWays nodes roots guards (length (g .blocks)) (length (m .routes)) + returnedWays nodes returns (length (g .blocks)) (c .nodes))) total (most-hops m nodes edges ends heads landings roots guards bases parts returns c (all .10) (all .9) (length (g .blocks))) in
+      let fits : Fits (hopsOf (ways g rs)) _ = subst (λ (hs : List Hop). Fits hs (guardedWays nodes roots guards (length (g .blocks)) (length (m .routes)) + returnedWays nodes returns (length (g .blocks)) (c .nodes))) total (most-hops m nodes edges ends heads landings roots guards bases parts returns c (all .9) (x .instances .returns-fit) (length (g .blocks))) in
       let sz : Sizes = record { hops = length (hopsOf (ways g rs)); lists = length (joined (λ h. h .calls) (hopsOf (ways g rs))); blocks = length (keep (λ h. toBlock (h .end)) (hopsOf (ways g rs))) } in
       let few = counts-clear (length (g .edges) + k + most) (record { hops = most; lists = most; blocks = most }) fit in
       let blocks = keep-most (λ (h : Hop). toBlock (h .end)) (hopsOf (ways g rs)) in

@@ -36,7 +36,7 @@ pub record Small (g : Graph) (blocks edges : ℕ) : Type 0 where
 
 -- THE FRAME of an addition: slices of these lengths, for no more than so many steps, paths, routes, blocks and edges; no block is
 -- linked and no node placed
-pub record Frame (y : RouteLayout) (g : Graph) (starts nodes edges ends stack roots head next bases heads parts returns guards landings exits : List ℕ) : Type 0 where
+pub record Frame (y : RouteLayout) (g : Graph) (starts nodes edges ends stack roots head next bases heads parts guards landings exits : List ℕ) : Type 0 where
   pub steps : ℕ
   pub paths : ℕ
   pub routes : ℕ
@@ -59,7 +59,6 @@ pub record Frame (y : RouteLayout) (g : Graph) (starts nodes edges ends stack ro
   pub bases-long : length bases ≡ routes + steps
   pub heads-long : length heads ≡ routes + steps
   pub parts-long : length parts ≡ 16 * (routes + steps)
-  pub returns-long : length returns ≡ 16 * (routes + steps)
   pub guards-long : length guards ≡ 16 * routes
   pub landings-long : length landings ≡ paths
   pub exits-long : length exits ≡ 6 * (steps + paths)
@@ -67,10 +66,10 @@ pub record Frame (y : RouteLayout) (g : Graph) (starts nodes edges ends stack ro
 
 -- THE ROOM where the tries stand: for the links of the graph, of which there are none yet, for an instance of each node, and for
 -- the exits of a block; where those go the first node of each slot stands before, of which there is none yet
-pub record Room (g : Graph) (m : RouteImage) (edges ends head next bases heads parts returns guards landings exits : List ℕ) (c : Counts) : Type 0 where
+pub record Room (g : Graph) (m : RouteImage) (edges ends head next bases heads parts guards landings exits : List ℕ) (c : Counts) : Type 0 where
   pub links : Roomy g head next
   pub unlinked : head ≡ replicate (length head) 0
-  pub slots : Slots (c .nodes) bases heads parts returns
+  pub slots : Slots (c .nodes) bases heads parts
   pub guards-fit : 16 * length (m .routes) ≤ length guards
   pub landings-fit : c .ends ≤ length landings
   pub exits-fit : lent.Roomy edges ends exits
@@ -82,13 +81,13 @@ abbrev pub NodesPass : Graph → List UnwindRoute → Type 0
 NodesPass g rs = checks (λ i. nodeCheck g (nodeAt (tries rs .nodes) i)) (length (tries rs .nodes)) ≡ clear
 
 -- instances that stand, and the room that is left then
-pub record Placements (g : Graph) (m : RouteImage) (nodes edges ends roots head next bases heads parts returns guards landings exits : List ℕ) (c : Counts) : Type 0 where
+pub record Placements (g : Graph) (m : RouteImage) (nodes edges ends roots head next bases heads parts guards landings exits : List ℕ) (c : Counts) : Type 0 where
   pub trie : TriesIn m nodes edges ends roots c
   pub checked : NodesPass g (routesOf m)
   pub links : Roomy g head next
   pub linked : Linked g head next 0
-  pub slots : Slots (c .nodes) bases heads parts returns
-  pub placed : Placed g (funclets (routesOf m)) (tries (routesOf m) .nodes) bases heads parts returns (c .nodes)
+  pub slots : Slots (c .nodes) bases heads parts
+  pub placed : Placed g (funclets (routesOf m)) (tries (routesOf m) .nodes) bases heads parts (c .nodes)
   pub bounded : Bounded g (routesOf m)
   pub guards-fit : 16 * length (m .routes) ≤ length guards
   pub landings-fit : c .ends ≤ length landings

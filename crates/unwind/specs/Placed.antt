@@ -3,7 +3,8 @@ use mathlib.Core.Path.{_≡_}
 use mathlib.Core.Bool.{Bool, cond}
 use mathlib.Core.List.{List}
 use mathlib.Core.Option.{Option, none, some}
-use Prim.Native.Nat.{ℕ, _+_, _*_, _≤_, _<_}
+use Prim.Native.Nat.{ℕ, _+_, _*_, _%_, _≤_, _<_}
+use lib.Bits.{bitAnd}
 use lib.Dec.{leb}
 use lib.ListN.{length, getD, set}
 use Rattle.image.specs.Refusal.{Check, clear, refusal, unless}
@@ -11,11 +12,10 @@ use Rattle.image.specs.Image.{RouteImage, table}
 use Rattle.image.specs.Deal.{routesOf}
 use Rattle.graph.specs.Graph.{Graph}
 use Rattle.graph.specs.Search.{Linked, Roomy}
-use Rattle.addition.specs.Lists.{keep}
 use Rattle.addition.specs.Blocks.{blockOf}
 use Rattle.unwind.specs.Stands.{Stands, Has}
-use Rattle.addition.specs.Part.{funclets, returning}
-use Rattle.unwind.specs.PartSearch.{Barriers, Returners}
+use Rattle.addition.specs.Part.{funclets}
+use Rattle.unwind.specs.PartSearch.{Barriers}
 use Rattle.addition.specs.Trie.{Node, sameFunclet}
 use Rattle.unwind.specs.Nodes.{recordIn, funcletIn, nodesIn}
 use Rattle.addition.specs.Instance.{entryBlock, blocksOf, later, base, entryOf, cloneBlocks}
@@ -25,6 +25,10 @@ use Rattle.addition.specs.Walk.{_∈_}
 unfoldable pub setAt : List ℕ → ℕ → List ℕ
 setAt l i = table (λ k. getD l (16 * i + k) 0) 16
 
+-- the sets of the blocks from which the nodes return: of each of `parts` the blocks that return
+unfoldable pub returnsIn : List ℕ → List ℕ → List ℕ
+returnsIn parts returners = table (λ j. bitAnd (getD parts j 0) (getD returners (j % 16) 0)) (length parts)
+
 -- set i is w, and all others are as they were
 pub record SetPut (l : List ℕ) (i : ℕ) (w l′ : List ℕ) : Type 0 where
   pub long : length l′ ≡ length l
@@ -32,26 +36,23 @@ pub record SetPut (l : List ℕ) (i : ℕ) (w l′ : List ℕ) : Type 0 where
   pub others : (j : ℕ) → (j ≡ i → ⊥) → setAt l′ j ≡ setAt l j
 
 -- there is room for n nodes
-pub record Slots (n : ℕ) (bases entries parts returns : List ℕ) : Type 0 where
+pub record Slots (n : ℕ) (bases entries parts : List ℕ) : Type 0 where
   pub bases-fit : n ≤ length bases
   pub entries-fit : n ≤ length entries
   pub parts-fit : 16 * n ≤ length parts
-  pub returns-fit : 16 * n ≤ length returns
 
 -- and there is as much as before
-pub record SameSizes (bases entries parts returns bases′ entries′ parts′ returns′ : List ℕ) : Type 0 where
+pub record SameSizes (bases entries parts bases′ entries′ parts′ : List ℕ) : Type 0 where
   pub bases-long : length bases′ ≡ length bases
   pub entries-long : length entries′ ≡ length entries
   pub parts-long : length parts′ ≡ length parts
-  pub returns-long : length returns′ ≡ length returns
 
 -- THE INSTANCES of the first n nodes: the first copy's number, or 0 where the node uses the original blocks; the entry; the
--- original blocks, and those of them that return
-pub record Placed (g : Graph) (fs : List ℕ) (z : List Node) (bases entries parts returns : List ℕ) (n : ℕ) : Type 0 where
+-- original blocks
+pub record Placed (g : Graph) (fs : List ℕ) (z : List Node) (bases entries parts : List ℕ) (n : ℕ) : Type 0 where
   pub base-is : (i : ℕ) → i < n → getD bases i 0 ≡ cond (later g fs z i) (base g fs z i) 0
   pub entry-is : (i : ℕ) → i < n → getD entries i 0 ≡ entryOf g fs z i
   pub part-has : (i : ℕ) → i < n → Has (setAt parts i) (blocksOf g fs z i)
-  pub returns-has : (i : ℕ) → i < n → Has (setAt returns i) (keep (returning g) (blocksOf g fs z i))
 
 -- ---- what is asked and answered of one node
 
@@ -71,13 +72,12 @@ pub record Named (m : RouteImage) (nodes : List ℕ) (n : ℕ) : Type 0 where
   pub each : (i a : ℕ) → i < n → funcletAt m nodes i ≡ some a → a ∈ funclets (routesOf m)
   pub all : (a : ℕ) → a ∈ funclets (routesOf m) → (i : ℕ) × (i < n) × (funcletAt m nodes i ≡ some a)
 
--- what is at hand: the graph's links, the entries of funclets, and the blocks that return
-pub record Ready (g : Graph) (m : RouteImage) (head next barriers returners : List ℕ) : Type 0 where
+-- what is at hand: the graph's links, and the entries of funclets
+pub record Ready (g : Graph) (m : RouteImage) (head next barriers : List ℕ) : Type 0 where
   pub stands : Stands g
   pub roomy : Roomy g head next
   pub linked : Linked g head next 0
   pub bars : Barriers g (routesOf m) barriers
-  pub returns : Returners g returners
 
 -- the slot of a funclet: 0 for the root of a route, and else one more than the block that it begins with
 unfoldable pub slotOf : Graph → Option ℕ → ℕ
@@ -92,24 +92,23 @@ pub record Firsts (g : Graph) (m : RouteImage) (nodes firsts : List ℕ) (n : �
   pub none-before : (i : ℕ) → i < n → (0 < getD firsts (slotOf g (funcletAt m nodes i)) 0) × (getD firsts (slotOf g (funcletAt m nodes i)) 0 ≤ i + 1)
 
 -- node i is stored so
-pub record NodePlaced (i b e : ℕ) (w r bases entries parts returns bases′ entries′ parts′ returns′ : List ℕ) : Type 0 where
+pub record NodePlaced (i b e : ℕ) (w bases entries parts bases′ entries′ parts′ : List ℕ) : Type 0 where
   pub bases-set : bases′ ≡ set bases i b
   pub entries-set : entries′ ≡ set entries i e
   pub part-put : SetPut parts i w parts′
-  pub returns-put : SetPut returns i r returns′
 
 -- one more instance, which copies r blocks, the first as block b; the entries behind it are as they were
-pub record Placing (g : Graph) (m : RouteImage) (nodes : List ℕ) (i b r : ℕ) (bases entries parts returns bases′ entries′ parts′ returns′ : List ℕ) : Type 0 where
+pub record Placing (g : Graph) (m : RouteImage) (nodes : List ℕ) (i b r : ℕ) (bases entries parts bases′ entries′ parts′ : List ℕ) : Type 0 where
   pub few : r ≤ 1024
-  pub sizes : SameSizes bases entries parts returns bases′ entries′ parts′ returns′
+  pub sizes : SameSizes bases entries parts bases′ entries′ parts′
   pub rest : (j : ℕ) → i < j → getD entries′ j 0 ≡ getD entries j 0
   pub next : (edges ends : List ℕ) (n : ℕ) → i < n → b ≡ base g (funclets (routesOf m)) (nodesIn m nodes edges ends n) i
-      → Placed g (funclets (routesOf m)) (nodesIn m nodes edges ends n) bases entries parts returns i
-      → Placed g (funclets (routesOf m)) (nodesIn m nodes edges ends n) bases′ entries′ parts′ returns′ (i + 1)
+      → Placed g (funclets (routesOf m)) (nodesIn m nodes edges ends n) bases entries parts i
+      → Placed g (funclets (routesOf m)) (nodesIn m nodes edges ends n) bases′ entries′ parts′ (i + 1)
       × (b + r ≡ base g (funclets (routesOf m)) (nodesIn m nodes edges ends n) (i + 1))
 
 -- all n, and 18: 'when the definition's result exceeds: 18 blocks 1,024'; whatever the edges and ends of the nodes
-pub record PlacedAll (g : Graph) (m : RouteImage) (nodes : List ℕ) (n : ℕ) (bases entries parts returns : List ℕ) (c : Check) : Type 0 where
-  pub slots : Slots n bases entries parts returns
+pub record PlacedAll (g : Graph) (m : RouteImage) (nodes : List ℕ) (n : ℕ) (bases entries parts : List ℕ) (c : Check) : Type 0 where
+  pub slots : Slots n bases entries parts
   pub check : (edges ends : List ℕ) → c ≡ unless (leb (length (g .blocks) + length (cloneBlocks g (funclets (routesOf m)) (nodesIn m nodes edges ends n))) 1024) (refusal 18 0 0)
-  pub placed : (edges ends : List ℕ) → c ≡ clear → Placed g (funclets (routesOf m)) (nodesIn m nodes edges ends n) bases entries parts returns n
+  pub placed : (edges ends : List ℕ) → c ≡ clear → Placed g (funclets (routesOf m)) (nodesIn m nodes edges ends n) bases entries parts n

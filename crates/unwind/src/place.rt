@@ -1,11 +1,10 @@
-// Instances in scratch: for each node of the trie the first of its copies, its entry, its blocks and those that return.
+// Instances in scratch: for each node of the trie the first of its copies, its entry and its blocks.
 use crate::part::part_of;
 use crate::slots::members_of;
 use crate::slots::put_set;
 use crate::slots::set_at;
 use crate::tries::store::node_in;
 use crate::tries::store::number_in;
-use graph::blockset::common_of;
 use graph::blockset::rank_in;
 use graph::error::AddressBuildError;
 use graph::error::Checked;
@@ -45,15 +44,13 @@ pub fn place_nodes(
     head: &[u16],
     next: &[u16],
     barriers: &[u64; 16],
-    returners: &[u64; 16],
     bases: &mut [u16],
     entries: &mut [u16],
     parts: &mut [u64],
-    returns: &mut [u64],
     firsts: &mut [u16],
 ) -> Checked
-    requires { ⌜ Ready (heldIn (now g) .graph) (routesIn (now s) y) (now head) (now next) (now barriers) (now returners) × ((i : ℕ) → i < n → funcletCheck (heldIn (now g) .graph) (funcletAt (routesIn (now s) y) (now nodes) i) ≡ clear) × Slots n (now bases) (now entries) (now parts) (now returns) × Firsts (heldIn (now g) .graph) (routesIn (now s) y) (now nodes) (now firsts) 0 × (n ≤ 544) × (6 * n ≤ length (now nodes)) × Entered (heldIn (now g) .graph) (routesIn (now s) y) (now nodes) (now entries) n ⌝ }
-    ensures { λ r. ⌜ PlacedAll (heldIn (now (g .entry)) .graph) (routesIn (now (s .entry)) y) (now (nodes .entry)) n (now (bases .exit)) (now (entries .exit)) (now (parts .exit)) (now (returns .exit)) (checkOf r) ⌝ }
+    requires { ⌜ Ready (heldIn (now g) .graph) (routesIn (now s) y) (now head) (now next) (now barriers) × ((i : ℕ) → i < n → funcletCheck (heldIn (now g) .graph) (funcletAt (routesIn (now s) y) (now nodes) i) ≡ clear) × Slots n (now bases) (now entries) (now parts) × Firsts (heldIn (now g) .graph) (routesIn (now s) y) (now nodes) (now firsts) 0 × (n ≤ 544) × (6 * n ≤ length (now nodes)) × Entered (heldIn (now g) .graph) (routesIn (now s) y) (now nodes) (now entries) n ⌝ }
+    ensures { λ r. ⌜ PlacedAll (heldIn (now (g .entry)) .graph) (routesIn (now (s .entry)) y) (now (nodes .entry)) n (now (bases .exit)) (now (entries .exit)) (now (parts .exit)) (checkOf r) ⌝ }
 {
     let mut base = block_count(g);
     for i in 0..n {
@@ -65,13 +62,11 @@ pub fn place_nodes(
             head,
             next,
             barriers,
-            returners,
             i,
             base,
             bases,
             entries,
             parts,
-            returns,
             firsts,
         );
         if MOST < base {
@@ -90,17 +85,15 @@ fn place_node(
     head: &[u16],
     next: &[u16],
     barriers: &[u64; 16],
-    returners: &[u64; 16],
     i: usize,
     base: usize,
     bases: &mut [u16],
     entries: &mut [u16],
     parts: &mut [u64],
-    returns: &mut [u64],
     firsts: &mut [u16],
 ) -> usize
-    requires { ⌜ Ready (heldIn (now g) .graph) (routesIn (now s) y) (now head) (now next) (now barriers) (now returners) × ((j : ℕ) → j ≤ i → funcletCheck (heldIn (now g) .graph) (funcletAt (routesIn (now s) y) (now nodes) j) ≡ clear) × Slots (i + 1) (now bases) (now entries) (now parts) (now returns) × Firsts (heldIn (now g) .graph) (routesIn (now s) y) (now nodes) (now firsts) i × (i < 544) × (base ≤ 1024) × (6 * i + 6 ≤ length (now nodes)) × (getD (now entries) i 0 ≡ entryBlock (heldIn (now g) .graph) (funcletAt (routesIn (now s) y) (now nodes) i)) ⌝ }
-    ensures { λ r. ⌜ Placing (heldIn (now (g .entry)) .graph) (routesIn (now (s .entry)) y) (now (nodes .entry)) i base r (now (bases .entry)) (now (entries .entry)) (now (parts .entry)) (now (returns .entry)) (now (bases .exit)) (now (entries .exit)) (now (parts .exit)) (now (returns .exit)) × Firsts (heldIn (now (g .entry)) .graph) (routesIn (now (s .entry)) y) (now (nodes .entry)) (now (firsts .exit)) (i + 1) ⌝ }
+    requires { ⌜ Ready (heldIn (now g) .graph) (routesIn (now s) y) (now head) (now next) (now barriers) × ((j : ℕ) → j ≤ i → funcletCheck (heldIn (now g) .graph) (funcletAt (routesIn (now s) y) (now nodes) j) ≡ clear) × Slots (i + 1) (now bases) (now entries) (now parts) × Firsts (heldIn (now g) .graph) (routesIn (now s) y) (now nodes) (now firsts) i × (i < 544) × (base ≤ 1024) × (6 * i + 6 ≤ length (now nodes)) × (getD (now entries) i 0 ≡ entryBlock (heldIn (now g) .graph) (funcletAt (routesIn (now s) y) (now nodes) i)) ⌝ }
+    ensures { λ r. ⌜ Placing (heldIn (now (g .entry)) .graph) (routesIn (now (s .entry)) y) (now (nodes .entry)) i base r (now (bases .entry)) (now (entries .entry)) (now (parts .entry)) (now (bases .exit)) (now (entries .exit)) (now (parts .exit)) × Firsts (heldIn (now (g .entry)) .graph) (routesIn (now (s .entry)) y) (now (nodes .entry)) (now (firsts .exit)) (i + 1) ⌝ }
 {
     let f = node_in(nodes, i).funclet;
     let entry = number_in(entries, i);
@@ -108,12 +101,11 @@ fn place_node(
     let first = number_in(firsts, slot);
     if first != 0 {
         let blocks = block_count(g);
-        return place_clone(blocks, first - 1, i, base, bases, entries, parts, returns);
+        return place_clone(blocks, first - 1, i, base, bases, entries, parts);
     }
     firsts[slot] = (i + 1) as u16;
     let part = part_at(g, head, next, barriers, f, entry);
-    let ret = common_of(&part, returners);
-    store_node(i, 0, entry, &part, &ret, bases, entries, parts, returns);
+    store_node(i, 0, entry, &part, bases, entries, parts);
     0
 }
 
@@ -127,16 +119,14 @@ fn place_clone(
     bases: &mut [u16],
     entries: &mut [u16],
     parts: &mut [u64],
-    returns: &mut [u64],
 ) -> usize
-    requires { ⌜ (first < i) × Slots (i + 1) (now bases) (now entries) (now parts) (now returns) × (base ≤ 1024) × (blocks ≤ 1024) ⌝ }
-    ensures { λ r. ⌜ NodePlaced i base (base + count (member (setAt (now (parts .entry)) first)) (getD (now (entries .entry)) first 0)) (setAt (now (parts .entry)) first) (setAt (now (returns .entry)) first) (now (bases .entry)) (now (entries .entry)) (now (parts .entry)) (now (returns .entry)) (now (bases .exit)) (now (entries .exit)) (now (parts .exit)) (now (returns .exit)) × (membersOf (now (parts .entry)) blocks first ≤ r) × (r ≤ sizeOf (setAt (now (parts .entry)) first)) ⌝ }
+    requires { ⌜ (first < i) × Slots (i + 1) (now bases) (now entries) (now parts) × (base ≤ 1024) × (blocks ≤ 1024) ⌝ }
+    ensures { λ r. ⌜ NodePlaced i base (base + count (member (setAt (now (parts .entry)) first)) (getD (now (entries .entry)) first 0)) (setAt (now (parts .entry)) first) (now (bases .entry)) (now (entries .entry)) (now (parts .entry)) (now (bases .exit)) (now (entries .exit)) (now (parts .exit)) × (membersOf (now (parts .entry)) blocks first ≤ r) × (r ≤ sizeOf (setAt (now (parts .entry)) first)) ⌝ }
 {
     let part = set_at(parts, first);
-    let ret = set_at(returns, first);
     let entry = base + rank_in(&part, number_in(entries, first));
     let copies = members_of(parts, first, blocks);
-    store_node(i, base, entry, &part, &ret, bases, entries, parts, returns);
+    store_node(i, base, entry, &part, bases, entries, parts);
     copies
 }
 
@@ -169,23 +159,20 @@ fn part_at(
     part_of(g, head, next, barriers, entry)
 }
 
-// Stores node i: the first of its copies, or 0, its entry, its blocks, and those that return.
+// Stores node i: the first of its copies, or 0, its entry and its blocks.
 fn store_node(
     i: usize,
     base: usize,
     entry: usize,
     part: &[u64; 16],
-    ret: &[u64; 16],
     bases: &mut [u16],
     entries: &mut [u16],
     parts: &mut [u64],
-    returns: &mut [u64],
 )
-    requires { ⌜ (i < length (now bases)) × (i < length (now entries)) × (16 * i + 16 ≤ length (now parts)) × (16 * i + 16 ≤ length (now returns)) × (base < 65536) × (entry < 65536) ⌝ }
-    ensures { λ _. ⌜ NodePlaced i base entry (now (part .entry)) (now (ret .entry)) (now (bases .entry)) (now (entries .entry)) (now (parts .entry)) (now (returns .entry)) (now (bases .exit)) (now (entries .exit)) (now (parts .exit)) (now (returns .exit)) ⌝ }
+    requires { ⌜ (i < length (now bases)) × (i < length (now entries)) × (16 * i + 16 ≤ length (now parts)) × (base < 65536) × (entry < 65536) ⌝ }
+    ensures { λ _. ⌜ NodePlaced i base entry (now (part .entry)) (now (bases .entry)) (now (entries .entry)) (now (parts .entry)) (now (bases .exit)) (now (entries .exit)) (now (parts .exit)) ⌝ }
 {
     bases[i] = base as u16;
     entries[i] = entry as u16;
     put_set(parts, i, part);
-    put_set(returns, i, ret);
 }

@@ -7,9 +7,9 @@ ghost use lib.ListN.{length, getD};
 ghost use Rattle.graph.specs.BlockSet.{sizeOf};
 ghost use Rattle.unwind.specs.Gather.{inSet};
 ghost use Rattle.unwind.specs.Most.{membersOf};
-ghost use Rattle.unwind.specs.Placed.{setAt, SetPut};
+ghost use Rattle.unwind.specs.Placed.{setAt, returnsIn, SetPut};
 
-// Set i.
+// The blocks of set i.
 pub fn set_at(sets: &[u64], i: usize) -> [u64; 16]
     requires { ⌜ 16 * i + 16 ≤ length (now sets) ⌝ }
     ensures { λ r. ⌜ r ≡ setAt (now (sets .entry)) i ⌝ }
@@ -18,6 +18,19 @@ pub fn set_at(sets: &[u64], i: usize) -> [u64; 16]
     let mut w = [0u64; 16];
     for k in 0..16 {
         w[k] = sets[at + k];
+    }
+    w
+}
+
+// Those of set i that v has too.
+pub fn common_at(sets: &[u64], i: usize, v: &[u64; 16]) -> [u64; 16]
+    requires { ⌜ 16 * i + 16 ≤ length (now sets) ⌝ }
+    ensures { λ r. ⌜ r ≡ setAt (returnsIn (now (sets .entry)) (now (v .entry))) i ⌝ }
+{
+    let at = 16 * i;
+    let mut w = [0u64; 16];
+    for k in 0..16 {
+        w[k] = sets[at + k] & v[k];
     }
     w
 }
@@ -52,6 +65,20 @@ pub fn members_of(sets: &[u64], i: usize, blocks: usize) -> usize
     let mut n = 0;
     for k in 0..words {
         n += u64::count_ones(sets[at + k]) as usize;
+    }
+    n
+}
+
+// How many of those v has too.
+pub fn members_in(sets: &[u64], i: usize, v: &[u64; 16], blocks: usize) -> usize
+    requires { ⌜ (16 * i + 16 ≤ length (now sets)) × (blocks ≤ 1024) ⌝ }
+    ensures { λ r. ⌜ (membersOf (returnsIn (now (sets .entry)) (now (v .entry))) blocks i ≤ r) × (r ≤ sizeOf (setAt (returnsIn (now (sets .entry)) (now (v .entry))) i)) ⌝ }
+{
+    let at = 16 * i;
+    let words = (blocks + 63) / 64;
+    let mut n = 0;
+    for k in 0..words {
+        n += u64::count_ones(sets[at + k] & v[k]) as usize;
     }
     n
 }

@@ -9,6 +9,7 @@ use crate::emit::entries::LEAVE;
 use crate::emit::gather::end_number;
 use crate::hops::Hops;
 use crate::part::EXCEPTION_UNWIND;
+use crate::slots::common_at;
 use crate::slots::set_at;
 use crate::tries::store::Counts;
 use crate::tries::store::branch_in;
@@ -41,6 +42,7 @@ ghost use Rattle.unwind.specs.Nodes.{branchIn, recordIn};
 ghost use Rattle.addition.specs.Ways.{hopsOf, routeEdge, routeEdges};
 ghost use Rattle.unwind.specs.Gather.{inSet, edgeExits, endNumber, endExits, NodeThere, AllThere};
 ghost use Rattle.unwind.specs.Routed.{TriesIn};
+ghost use Rattle.unwind.specs.Placed.{returnsIn};
 ghost use Rattle.unwind.specs.HopWords.{hopsIn};
 ghost use Rattle.unwind.specs.Members.{BlockSets};
 ghost use Rattle.unwind.specs.Wanted.{wayOf, recordWays, guardWays, returnWays, lentWays, RunsFit};
@@ -63,12 +65,12 @@ pub fn add_route_edges(
     guards: &[u64],
     bases: &[u16],
     parts: &[u64],
-    returns: &[u64],
+    returners: &[u64; 16],
     stored: Counts,
     blocks: usize,
 )
-    requires { ⌜ HopsJoin (now h) (heldIn (now g) .graph) × (16 * stored .nodes ≤ length (now parts)) × ((i : ℕ) → i < stored .nodes → getD (now bases) i 0 ≤ 1024) × (hopsIn (routesIn (now s) y) (now h) ≡ hopsOf (lentWays (routesIn (now s) y) (now nodes) (now edges) (now ends) (now heads) (now landings) (now roots) (now guards) (now bases) (now parts) (now returns) (length (routesIn (now s) y .routes)) (stored .nodes))) × TriesIn (routesIn (now s) y) (now nodes) (now edges) (now ends) (now roots) stored × (stored .nodes ≤ length (now heads)) × (stored .ends ≤ length (now landings)) × (stored .nodes ≤ length (now bases)) × BlockSets (now guards) (now returns) blocks (length (routesIn (now s) y .routes)) (stored .nodes) × (blocks ≤ 1024) ⌝ }
-    ensures { λ _. ⌜ Added (now (g .entry)) (now (g .exit)) (routeEdges (heldIn (now (g .entry)) .graph) [] (lentWays (routesIn (now (s .entry)) y) (now (nodes .entry)) (now (edges .entry)) (now (ends .entry)) (now (heads .entry)) (now (landings .entry)) (now (roots .entry)) (now (guards .entry)) (now (bases .entry)) (now (parts .entry)) (now (returns .entry)) (length (routesIn (now (s .entry)) y .routes)) (stored .nodes))) [] [] ⌝ }
+    requires { ⌜ HopsJoin (now h) (heldIn (now g) .graph) × (16 * stored .nodes ≤ length (now parts)) × ((i : ℕ) → i < stored .nodes → getD (now bases) i 0 ≤ 1024) × (hopsIn (routesIn (now s) y) (now h) ≡ hopsOf (lentWays (routesIn (now s) y) (now nodes) (now edges) (now ends) (now heads) (now landings) (now roots) (now guards) (now bases) (now parts) (returnsIn (now parts) (now returners)) (length (routesIn (now s) y .routes)) (stored .nodes))) × TriesIn (routesIn (now s) y) (now nodes) (now edges) (now ends) (now roots) stored × (stored .nodes ≤ length (now heads)) × (stored .ends ≤ length (now landings)) × (stored .nodes ≤ length (now bases)) × BlockSets (now guards) (returnsIn (now parts) (now returners)) blocks (length (routesIn (now s) y .routes)) (stored .nodes) × (blocks ≤ 1024) ⌝ }
+    ensures { λ _. ⌜ Added (now (g .entry)) (now (g .exit)) (routeEdges (heldIn (now (g .entry)) .graph) [] (lentWays (routesIn (now (s .entry)) y) (now (nodes .entry)) (now (edges .entry)) (now (ends .entry)) (now (heads .entry)) (now (landings .entry)) (now (roots .entry)) (now (guards .entry)) (now (bases .entry)) (now (parts .entry)) (returnsIn (now (parts .entry)) (now (returners .entry))) (length (routesIn (now (s .entry)) y .routes)) (stored .nodes))) [] [] ⌝ }
 {
     let mut done = [0u64; 33];
     let routes = y.routes.count as usize;
@@ -94,7 +96,7 @@ pub fn add_route_edges(
         landings,
         bases,
         parts,
-        returns,
+        returners,
         stored.nodes,
         blocks,
         &mut done,
@@ -149,20 +151,20 @@ fn want_returned(
     landings: &[u16],
     bases: &[u16],
     parts: &[u64],
-    returns: &[u64],
+    returners: &[u64; 16],
     n: usize,
     blocks: usize,
     done: &mut Flags,
 )
-    requires { ⌜ SomeStand (now h) (λ m ends. flat (returnWays m (now nodes) (now edges) ends (now heads) (now landings) (now bases) (now parts) (now returns)) n) × HopsJoin (now h) (heldIn (now g) .graph) × (16 * n ≤ length (now parts)) × (16 * n ≤ length (now returns)) × ((i : ℕ) → i < n → getD (now bases) i 0 ≤ 1024) × AllThere (now nodes) (now edges) (now heads) (now landings) (λ i. i) n × (n ≤ length (now bases)) × ((i b : ℕ) → i < n → inSet (now returns) i b ≡ true → b < blocks) × (blocks ≤ 1024) ⌝ }
-    ensures { λ _. ⌜ AllWanted (now (h .entry)) (now (g .entry)) (now (done .entry)) (λ m ends. flat (returnWays m (now (nodes .entry)) (now (edges .entry)) ends (now (heads .entry)) (now (landings .entry)) (now (bases .entry)) (now (parts .entry)) (now (returns .entry))) n) (now (g .exit)) (now (done .exit)) ⌝ }
+    requires { ⌜ SomeStand (now h) (λ m ends. flat (returnWays m (now nodes) (now edges) ends (now heads) (now landings) (now bases) (now parts) (returnsIn (now parts) (now returners))) n) × HopsJoin (now h) (heldIn (now g) .graph) × (16 * n ≤ length (now parts)) × ((i : ℕ) → i < n → getD (now bases) i 0 ≤ 1024) × AllThere (now nodes) (now edges) (now heads) (now landings) (λ i. i) n × (n ≤ length (now bases)) × ((i b : ℕ) → i < n → inSet (returnsIn (now parts) (now returners)) i b ≡ true → b < blocks) × (blocks ≤ 1024) ⌝ }
+    ensures { λ _. ⌜ AllWanted (now (h .entry)) (now (g .entry)) (now (done .entry)) (λ m ends. flat (returnWays m (now (nodes .entry)) (now (edges .entry)) ends (now (heads .entry)) (now (landings .entry)) (now (bases .entry)) (now (parts .entry)) (returnsIn (now (parts .entry)) (now (returners .entry)))) n) (now (g .exit)) (now (done .exit)) ⌝ }
 {
     for i in 0..n {
         if !is_over(nodes, landings, i) {
             let r = node_in(nodes, i).route;
             let base = number_in(bases, i);
             let part = set_at(parts, i);
-            let set = set_at(returns, i);
+            let set = common_at(parts, i, returners);
             want_set(
                 g,
                 h,

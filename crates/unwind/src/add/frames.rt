@@ -81,7 +81,6 @@ fn add_tiny(g: &mut Words, built: usize, s: &[u8], y: RouteLayout, h: &mut Hops)
     let mut bases = [0u16; 8];
     let mut heads = [0u16; 8];
     let mut parts = [0u64; 128];
-    let mut returns = [0u64; 128];
     let mut guards = [0u64; 32];
     let mut landings = [0u16; 6];
     let mut exits = [0u16; 72];
@@ -102,7 +101,6 @@ fn add_tiny(g: &mut Words, built: usize, s: &[u8], y: RouteLayout, h: &mut Hops)
         &mut bases,
         &mut heads,
         &mut parts,
-        &mut returns,
         &mut guards,
         &mut landings,
         &mut exits,
@@ -125,7 +123,6 @@ fn add_small(g: &mut Words, built: usize, s: &[u8], y: RouteLayout, h: &mut Hops
     let mut bases = [0u16; 36];
     let mut heads = [0u16; 36];
     let mut parts = [0u64; 576];
-    let mut returns = [0u64; 576];
     let mut guards = [0u64; 64];
     let mut landings = [0u16; 16];
     let mut exits = [0u16; 288];
@@ -146,7 +143,6 @@ fn add_small(g: &mut Words, built: usize, s: &[u8], y: RouteLayout, h: &mut Hops
         &mut bases,
         &mut heads,
         &mut parts,
-        &mut returns,
         &mut guards,
         &mut landings,
         &mut exits,
@@ -169,7 +165,6 @@ fn add_middle(g: &mut Words, built: usize, s: &[u8], y: RouteLayout, h: &mut Hop
     let mut bases = [0u16; 72];
     let mut heads = [0u16; 72];
     let mut parts = [0u64; 1152];
-    let mut returns = [0u64; 1152];
     let mut guards = [0u64; 128];
     let mut landings = [0u16; 32];
     let mut exits = [0u16; 576];
@@ -190,7 +185,6 @@ fn add_middle(g: &mut Words, built: usize, s: &[u8], y: RouteLayout, h: &mut Hop
         &mut bases,
         &mut heads,
         &mut parts,
-        &mut returns,
         &mut guards,
         &mut landings,
         &mut exits,
@@ -213,7 +207,6 @@ fn add_wide(g: &mut Words, built: usize, s: &[u8], y: RouteLayout, h: &mut Hops)
     let mut bases = [0u16; 140];
     let mut heads = [0u16; 140];
     let mut parts = [0u64; 2240];
-    let mut returns = [0u64; 2240];
     let mut guards = [0u64; 192];
     let mut landings = [0u16; 48];
     let mut exits = [0u16; 1056];
@@ -234,7 +227,6 @@ fn add_wide(g: &mut Words, built: usize, s: &[u8], y: RouteLayout, h: &mut Hops)
         &mut bases,
         &mut heads,
         &mut parts,
-        &mut returns,
         &mut guards,
         &mut landings,
         &mut exits,
@@ -257,7 +249,6 @@ fn add_full(g: &mut Words, built: usize, s: &[u8], y: RouteLayout, h: &mut Hops)
     let mut bases = [0u16; 544];
     let mut heads = [0u16; 544];
     let mut parts = [0u64; 8704];
-    let mut returns = [0u64; 8704];
     let mut guards = [0u64; 512];
     let mut landings = [0u16; 128];
     let mut exits = [0u16; 3840];
@@ -278,7 +269,6 @@ fn add_full(g: &mut Words, built: usize, s: &[u8], y: RouteLayout, h: &mut Hops)
         &mut bases,
         &mut heads,
         &mut parts,
-        &mut returns,
         &mut guards,
         &mut landings,
         &mut exits,

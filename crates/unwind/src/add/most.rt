@@ -1,5 +1,6 @@
 // The most ways out of blocks that routes can give: there are no more hops, lists of hops or route edges.
 use crate::hops::HOP_MOST;
+use crate::slots::members_in;
 use crate::slots::members_of;
 use crate::tries::store::Counts;
 use crate::tries::store::node_in;
@@ -7,6 +8,7 @@ use crate::tries::store::number_in;
 ghost use mathlib.Core.Path.{_≡_};
 ghost use Prim.Native.Nat.{ℕ, _+_, _*_, _≤_, _<_};
 ghost use lib.ListN.{length, getD};
+ghost use Rattle.unwind.specs.Placed.{returnsIn};
 ghost use Rattle.unwind.specs.Most.{waysOf, guardedWays, returnedWays};
 
 // Of each route out of the blocks that it guards, and of each node out of those from which it returns. Where all edges and ends
@@ -16,19 +18,21 @@ pub fn most_ways(
     roots: &[u16],
     guards: &[u64],
     routes: usize,
-    returns: &[u64],
+    parts: &[u64],
+    returners: &[u64; 16],
     stored: Counts,
     blocks: usize,
 ) -> usize
-    requires { ⌜ (routes ≤ 1024) × (stored .nodes ≤ 1024) × (stored .edges ≤ 512) × (stored .ends ≤ 128) × (blocks ≤ 1024) × (16 * routes ≤ length (now guards)) × (16 * stored .nodes ≤ length (now returns)) × ((r : ℕ) → r < routes → getD (now roots) r 0 < stored .nodes) × (routes ≤ length (now roots)) × (6 * stored .nodes ≤ length (now nodes)) × ((i : ℕ) → i < stored .nodes → waysOf (now nodes) i ≤ stored .edges + stored .ends) ⌝ }
-    ensures { λ r. ⌜ guardedWays (now (nodes .entry)) (now (roots .entry)) (now (guards .entry)) blocks routes + returnedWays (now (nodes .entry)) (now (returns .entry)) blocks (stored .nodes) ≤ r ⌝ }
+    requires { ⌜ (routes ≤ 1024) × (stored .nodes ≤ 1024) × (stored .edges ≤ 512) × (stored .ends ≤ 128) × (blocks ≤ 1024) × (16 * routes ≤ length (now guards)) × (16 * stored .nodes ≤ length (now parts)) × ((r : ℕ) → r < routes → getD (now roots) r 0 < stored .nodes) × (routes ≤ length (now roots)) × (6 * stored .nodes ≤ length (now nodes)) × ((i : ℕ) → i < stored .nodes → waysOf (now nodes) i ≤ stored .edges + stored .ends) ⌝ }
+    ensures { λ r. ⌜ guardedWays (now (nodes .entry)) (now (roots .entry)) (now (guards .entry)) blocks routes + returnedWays (now (nodes .entry)) (returnsIn (now (parts .entry)) (now (returners .entry))) blocks (stored .nodes) ≤ r ⌝ }
 {
     let n = stored.nodes;
     let rough = (routes + n) * (stored.edges + stored.ends) * blocks;
     if rough <= HOP_MOST {
         return rough;
     }
-    most_guarded(nodes, roots, guards, routes, blocks) + most_returned(nodes, returns, n, blocks)
+    most_guarded(nodes, roots, guards, routes, blocks)
+        + most_returned(nodes, parts, returners, n, blocks)
 }
 
 // Those of the routes.
@@ -44,13 +48,19 @@ fn most_guarded(nodes: &[u16], roots: &[u16], guards: &[u64], routes: usize, blo
 }
 
 // Those of the n nodes.
-fn most_returned(nodes: &[u16], returns: &[u64], n: usize, blocks: usize) -> usize
-    requires { ⌜ (n ≤ 1024) × (blocks ≤ 1024) × (16 * n ≤ length (now returns)) × (6 * n ≤ length (now nodes)) ⌝ }
-    ensures { λ r. ⌜ (returnedWays (now (nodes .entry)) (now (returns .entry)) blocks n ≤ r) × (r ≤ 134217728 * n) ⌝ }
+fn most_returned(
+    nodes: &[u16],
+    parts: &[u64],
+    returners: &[u64; 16],
+    n: usize,
+    blocks: usize,
+) -> usize
+    requires { ⌜ (n ≤ 1024) × (blocks ≤ 1024) × (16 * n ≤ length (now parts)) × (6 * n ≤ length (now nodes)) ⌝ }
+    ensures { λ r. ⌜ (returnedWays (now (nodes .entry)) (returnsIn (now (parts .entry)) (now (returners .entry))) blocks n ≤ r) × (r ≤ 134217728 * n) ⌝ }
 {
     let mut most = 0;
     for i in 0..n {
-        most += ways_of(nodes, i) * members_of(returns, i, blocks);
+        most += ways_of(nodes, i) * members_in(parts, i, returners, blocks);
     }
     most
 }

@@ -49,12 +49,11 @@ pub fn add_framed(
     bases: &mut [u16],
     heads: &mut [u16],
     parts: &mut [u64],
-    returns: &mut [u64],
     guards: &mut [u64],
     landings: &mut [u16],
     exits: &mut [u16],
 ) -> AddedRoutes
-    requires { ⌜ RoutesChecked (heldIn (now g)) built (routesIn (now s) y) × RoutesThere (now s) y × Frame y (heldIn (now g) .graph) (now starts) (now nodes) (now edges) (now ends) (now stack) (now roots) (now head) (now next) (now bases) (now heads) (now parts) (now returns) (now guards) (now landings) (now exits) ⌝ }
+    requires { ⌜ RoutesChecked (heldIn (now g)) built (routesIn (now s) y) × RoutesThere (now s) y × Frame y (heldIn (now g) .graph) (now starts) (now nodes) (now edges) (now ends) (now stack) (now roots) (now head) (now next) (now bases) (now heads) (now parts) (now guards) (now landings) (now exits) ⌝ }
     ensures { λ r. ⌜ Adds (routesIn (now (s .entry)) y) (now (g .entry)) (now (g .exit)) (now (h .entry)) (now (h .exit)) r ⌝ }
 {
     let stored = intern_routes(s, y, starts, nodes, edges, ends, stack, roots);
@@ -75,7 +74,6 @@ pub fn add_framed(
         bases,
         heads,
         parts,
-        returns,
         guards,
         landings,
         exits,
@@ -100,12 +98,11 @@ fn add_tries(
     bases: &mut [u16],
     heads: &mut [u16],
     parts: &mut [u64],
-    returns: &mut [u64],
     guards: &mut [u64],
     landings: &mut [u16],
     exits: &mut [u16],
 ) -> AddedRoutes
-    requires { ⌜ RoutesChecked (heldIn (now g)) built (routesIn (now s) y) × TriesIn (routesIn (now s) y) (now nodes) (now edges) (now ends) (now roots) stored × Room (heldIn (now g) .graph) (routesIn (now s) y) (now edges) (now ends) (now head) (now next) (now bases) (now heads) (now parts) (now returns) (now guards) (now landings) (now exits) stored × RoutesThere (now s) y ⌝ }
+    requires { ⌜ RoutesChecked (heldIn (now g)) built (routesIn (now s) y) × TriesIn (routesIn (now s) y) (now nodes) (now edges) (now ends) (now roots) stored × Room (heldIn (now g) .graph) (routesIn (now s) y) (now edges) (now ends) (now head) (now next) (now bases) (now heads) (now parts) (now guards) (now landings) (now exits) stored × RoutesThere (now s) y ⌝ }
     ensures { λ r. ⌜ Adds (routesIn (now (s .entry)) y) (now (g .entry)) (now (g .exit)) (now (h .entry)) (now (h .exit)) r ⌝ }
 {
     let n = stored.nodes;
@@ -114,20 +111,7 @@ fn add_tries(
         return AddedRoutes::Refused(e);
     }
     link(g, head, next);
-    if let Checked::Refused(e) = place(
-        g,
-        s,
-        y,
-        nodes,
-        n,
-        head,
-        next,
-        bases,
-        heads,
-        parts,
-        returns,
-        exits,
-    ) {
+    if let Checked::Refused(e) = place(g, s, y, nodes, n, head, next, bases, heads, parts, exits) {
         return AddedRoutes::Refused(e);
     }
     add_instances(
@@ -147,7 +131,6 @@ fn add_tries(
         bases,
         heads,
         parts,
-        returns,
         guards,
         landings,
         exits,
@@ -166,16 +149,13 @@ fn place(
     bases: &mut [u16],
     heads: &mut [u16],
     parts: &mut [u64],
-    returns: &mut [u64],
     firsts: &mut [u16],
 ) -> Checked
-    requires { ⌜ Stands (heldIn (now g) .graph) × Roomy (heldIn (now g) .graph) (now head) (now next) × Linked (heldIn (now g) .graph) (now head) (now next) 0 × ((i : ℕ) → i < n → funcletCheck (heldIn (now g) .graph) (funcletAt (routesIn (now s) y) (now nodes) i) ≡ clear) × Slots n (now bases) (now heads) (now parts) (now returns) × Firsts (heldIn (now g) .graph) (routesIn (now s) y) (now nodes) (now firsts) 0 × (n ≤ 544) × (6 * n ≤ length (now nodes)) × Named (routesIn (now s) y) (now nodes) n × Entered (heldIn (now g) .graph) (routesIn (now s) y) (now nodes) (now heads) n ⌝ }
-    ensures { λ r. ⌜ PlacedAll (heldIn (now (g .entry)) .graph) (routesIn (now (s .entry)) y) (now (nodes .entry)) n (now (bases .exit)) (now (heads .exit)) (now (parts .exit)) (now (returns .exit)) (checkOf r) ⌝ }
+    requires { ⌜ Stands (heldIn (now g) .graph) × Roomy (heldIn (now g) .graph) (now head) (now next) × Linked (heldIn (now g) .graph) (now head) (now next) 0 × ((i : ℕ) → i < n → funcletCheck (heldIn (now g) .graph) (funcletAt (routesIn (now s) y) (now nodes) i) ≡ clear) × Slots n (now bases) (now heads) (now parts) × Firsts (heldIn (now g) .graph) (routesIn (now s) y) (now nodes) (now firsts) 0 × (n ≤ 544) × (6 * n ≤ length (now nodes)) × Named (routesIn (now s) y) (now nodes) n × Entered (heldIn (now g) .graph) (routesIn (now s) y) (now nodes) (now heads) n ⌝ }
+    ensures { λ r. ⌜ PlacedAll (heldIn (now (g .entry)) .graph) (routesIn (now (s .entry)) y) (now (nodes .entry)) n (now (bases .exit)) (now (heads .exit)) (now (parts .exit)) (checkOf r) ⌝ }
 {
     let mut barriers = [0u64; 16];
     funclet_entries(g, s, y, nodes, n, heads, &mut barriers);
-    let mut returners = [0u64; 16];
-    returning_blocks(g, &mut returners);
     place_nodes(
         g,
         s,
@@ -185,16 +165,14 @@ fn place(
         head,
         next,
         &barriers,
-        &returners,
         bases,
         heads,
         parts,
-        returns,
         firsts,
     )
 }
 
-// Instances that are placed: the blocks that routes guard, and those of handlers.
+// Instances that are placed: the blocks that routes guard, those of handlers, and those that return.
 fn add_instances(
     g: &mut Words,
     built: usize,
@@ -212,16 +190,17 @@ fn add_instances(
     bases: &[u16],
     heads: &[u16],
     parts: &[u64],
-    returns: &[u64],
     guards: &mut [u64],
     landings: &mut [u16],
     exits: &mut [u16],
 ) -> AddedRoutes
-    requires { ⌜ RoutesChecked (heldIn (now g)) built (routesIn (now s) y) × Placements (heldIn (now g) .graph) (routesIn (now s) y) (now nodes) (now edges) (now ends) (now roots) (now head) (now next) (now bases) (now heads) (now parts) (now returns) (now guards) (now landings) (now exits) stored × RoutesThere (now s) y ⌝ }
+    requires { ⌜ RoutesChecked (heldIn (now g)) built (routesIn (now s) y) × Placements (heldIn (now g) .graph) (routesIn (now s) y) (now nodes) (now edges) (now ends) (now roots) (now head) (now next) (now bases) (now heads) (now parts) (now guards) (now landings) (now exits) stored × RoutesThere (now s) y ⌝ }
     ensures { λ r. ⌜ Sized (routesIn (now (s .entry)) y) (now (g .entry)) (now (g .exit)) (now (h .entry)) (now (h .exit)) r ⌝ }
 {
     guard_routes(g, built, s, y, guards);
     land_ends(g, built, hints, s, y, ends, stored.ends, landings);
+    let mut returners = [0u64; 16];
+    returning_blocks(g, &mut returners);
     add_placed(
         g,
         s,
@@ -236,7 +215,7 @@ fn add_instances(
         bases,
         heads,
         parts,
-        returns,
+        &returners,
         guards,
         landings,
         stored,

@@ -31,6 +31,7 @@ ghost use Rattle.image.specs.There.{RoutesThere};
 ghost use Rattle.graph.specs.Words.{heldIn};
 ghost use Rattle.graph.specs.Error.{checkOf};
 ghost use Rattle.graph.specs.Answers.{Laid};
+ghost use Rattle.unwind.specs.Placed.{returnsIn};
 ghost use Rattle.unwind.specs.HopWords.{HopsLaid};
 ghost use Rattle.addition.specs.Add.{addition, sizeCheck};
 ghost use Rattle.unwind.specs.Answers.{Sized};
@@ -51,13 +52,13 @@ pub fn add_placed(
     bases: &[u16],
     heads: &[u16],
     parts: &[u64],
-    returns: &[u64],
+    returners: &[u64; 16],
     guards: &[u64],
     landings: &[u16],
     stored: Counts,
     exits: &mut [u16],
 ) -> AddedRoutes
-    requires { ⌜ AtHand (heldIn (now g)) (routesIn (now s) y) (now nodes) (now edges) (now ends) (now roots) (now head) (now next) (now bases) (now heads) (now parts) (now returns) (now guards) (now landings) (now exits) stored × RoutesThere (now s) y ⌝ }
+    requires { ⌜ AtHand (heldIn (now g)) (routesIn (now s) y) (now nodes) (now edges) (now ends) (now roots) (now head) (now next) (now bases) (now heads) (now parts) (returnsIn (now parts) (now returners)) (now guards) (now landings) (now exits) stored × RoutesThere (now s) y ⌝ }
     ensures { λ r. ⌜ Sized (routesIn (now (s .entry)) y) (now (g .entry)) (now (g .exit)) (now (h .entry)) (now (h .exit)) r ⌝ }
 {
     if let Checked::Refused(e) = check_sizes(
@@ -73,7 +74,7 @@ pub fn add_placed(
         bases,
         heads,
         parts,
-        returns,
+        returners,
         guards,
         landings,
         stored,
@@ -95,7 +96,7 @@ pub fn add_placed(
         bases,
         heads,
         parts,
-        returns,
+        returners,
         guards,
         landings,
         stored,
@@ -118,13 +119,13 @@ fn check_sizes(
     bases: &[u16],
     heads: &[u16],
     parts: &[u64],
-    returns: &[u64],
+    returners: &[u64; 16],
     guards: &[u64],
     landings: &[u16],
     stored: Counts,
     exits: &mut [u16],
 ) -> Checked
-    requires { ⌜ AtHand (heldIn (now g)) (routesIn (now s) y) (now nodes) (now edges) (now ends) (now roots) (now head) (now next) (now bases) (now heads) (now parts) (now returns) (now guards) (now landings) (now exits) stored × RoutesThere (now s) y ⌝ }
+    requires { ⌜ AtHand (heldIn (now g)) (routesIn (now s) y) (now nodes) (now edges) (now ends) (now roots) (now head) (now next) (now bases) (now heads) (now parts) (returnsIn (now parts) (now returners)) (now guards) (now landings) (now exits) stored × RoutesThere (now s) y ⌝ }
     ensures { λ r. ⌜ checkOf r ≡ sizeCheck (addition (heldIn (now (g .entry)) .graph) (routesOf (routesIn (now (s .entry)) y))) ⌝ }
 {
     let copies = clone_edge_count(g, head, next, bases, parts, stored.nodes);
@@ -133,7 +134,8 @@ fn check_sizes(
         roots,
         guards,
         y.routes.count as usize,
-        returns,
+        parts,
+        returners,
         stored,
         block_count(g),
     );
@@ -158,7 +160,7 @@ fn check_sizes(
         guards,
         bases,
         parts,
-        returns,
+        returners,
         stored,
         exits,
     );
@@ -200,13 +202,13 @@ fn store_addition(
     bases: &[u16],
     heads: &[u16],
     parts: &[u64],
-    returns: &[u64],
+    returners: &[u64; 16],
     guards: &[u64],
     landings: &[u16],
     stored: Counts,
     exits: &mut [u16],
 )
-    requires { ⌜ AtHand (heldIn (now g)) (routesIn (now s) y) (now nodes) (now edges) (now ends) (now roots) (now head) (now next) (now bases) (now heads) (now parts) (now returns) (now guards) (now landings) (now exits) stored × (sizeCheck (addition (heldIn (now g) .graph) (routesOf (routesIn (now s) y))) ≡ clear) × RoutesThere (now s) y ⌝ }
+    requires { ⌜ AtHand (heldIn (now g)) (routesIn (now s) y) (now nodes) (now edges) (now ends) (now roots) (now head) (now next) (now bases) (now heads) (now parts) (returnsIn (now parts) (now returners)) (now guards) (now landings) (now exits) stored × (sizeCheck (addition (heldIn (now g) .graph) (routesOf (routesIn (now s) y))) ≡ clear) × RoutesThere (now s) y ⌝ }
     ensures { λ _. ⌜ Laid (now (g .entry)) (now (g .exit)) (addition (heldIn (now (g .entry)) .graph) (routesOf (routesIn (now (s .entry)) y)) .graph) × HopsLaid (routesIn (now (s .entry)) y) (now (h .entry)) (now (h .exit)) (addition (heldIn (now (g .entry)) .graph) (routesOf (routesIn (now (s .entry)) y)) .hops) ⌝ }
 {
     let blocks = block_count(g);
@@ -224,7 +226,7 @@ fn store_addition(
         guards,
         bases,
         parts,
-        returns,
+        returners,
         stored,
         exits,
     );
@@ -244,7 +246,7 @@ fn store_addition(
         guards,
         bases,
         parts,
-        returns,
+        returners,
         stored,
         blocks,
     );

@@ -8,6 +8,7 @@ ghost use mathlib.Core.Path.{_≡_};
 ghost use mathlib.Core.Bool.{true};
 ghost use Prim.Native.Nat.{_*_, _≤_, _<_};
 ghost use lib.ListN.{length};
+ghost use Rattle.unwind.specs.Placed.{returnsIn};
 ghost use Rattle.unwind.specs.Alike.{Moves, Steady, Turning, GoesOn};
 
 // With fewer nodes it costs less to gather than to look.
@@ -50,19 +51,20 @@ pub fn goes_on(worth: bool, turns: &[u64; 16], last: usize, b: usize) -> bool
 pub fn mark_turns(
     guards: &[u64],
     routes: usize,
-    returns: &[u64],
+    parts: &[u64],
+    returners: &[u64; 16],
     nodes: usize,
     blocks: usize,
     turns: &mut [u64; 16],
 )
-    requires { ⌜ (16 * routes ≤ length (now guards)) × (16 * nodes ≤ length (now returns)) × (blocks ≤ 1024) ⌝ }
-    ensures { λ _. ⌜ Turning (now (guards .entry)) routes (now (returns .entry)) nodes blocks (now (turns .exit)) ⌝ }
+    requires { ⌜ (16 * routes ≤ length (now guards)) × (16 * nodes ≤ length (now parts)) × (blocks ≤ 1024) ⌝ }
+    ensures { λ _. ⌜ Turning (now (guards .entry)) routes (returnsIn (now (parts .entry)) (now (returners .entry))) nodes blocks (now (turns .exit)) ⌝ }
 {
     sixteen(turns);
     let words = (blocks + 63) / 64;
     for k in 0..words {
         let guarded = sets_turn(guards, routes, k);
-        let returned = sets_turn(returns, nodes, k);
+        let returned = sets_turn(parts, nodes, k) | turns_at(returners, k);
         turns[k] = guarded | returned;
     }
 }

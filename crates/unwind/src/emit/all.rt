@@ -22,6 +22,7 @@ ghost use Rattle.unwind.specs.Nodes.{recordIn, NodeFits, AllFit};
 ghost use Rattle.unwind.specs.Gather.{NodeThere, AllThere};
 ghost use Rattle.addition.specs.Ways.{ways, hopsOf};
 ghost use Rattle.unwind.specs.Routed.{TriesIn};
+ghost use Rattle.unwind.specs.Placed.{returnsIn};
 ghost use Rattle.unwind.specs.Lent.{Leads, Sides, PartsIn, Roomy};
 ghost use Rattle.unwind.specs.Copies.{Bounded, nodeHops};
 ghost use Rattle.unwind.specs.HopWords.{hopsIn, HopsHeld, HopsFit, HopsBelow, HopsLaid};
@@ -43,11 +44,11 @@ pub fn add_hops(
     guards: &[u64],
     bases: &[u16],
     parts: &[u64],
-    returns: &[u64],
+    returners: &[u64; 16],
     stored: Counts,
     exits: &mut [u16],
 )
-    requires { ⌜ AcceptedRoutes (routesIn (now s) y) × TriesIn (routesIn (now s) y) (now nodes) (now edges) (now ends) (now roots) stored × Leads (heldIn (now g) .graph) (routesIn (now s) y) (now ends) (now heads) (now landings) stored × Sides (heldIn (now g) .graph) (routesIn (now s) y) (now guards) (now bases) (now returns) stored × PartsIn (heldIn (now g) .graph) (routesIn (now s) y) (now parts) stored × Bounded (heldIn (now g) .graph) (routesOf (routesIn (now s) y)) × Roomy (now edges) (now ends) (now exits) × HopsFit (hopsOf (ways (heldIn (now g) .graph) (routesOf (routesIn (now s) y)))) × (16 * stored .nodes ≤ length (now parts)) × (16 * stored .nodes ≤ length (now returns)) × (16 * length (routesIn (now s) y .routes) ≤ length (now guards)) × RoutesThere (now s) y × (stored .nodes ≤ length (now heads)) × (stored .ends ≤ length (now landings)) × (stored .nodes ≤ length (now bases)) ⌝ }
+    requires { ⌜ AcceptedRoutes (routesIn (now s) y) × TriesIn (routesIn (now s) y) (now nodes) (now edges) (now ends) (now roots) stored × Leads (heldIn (now g) .graph) (routesIn (now s) y) (now ends) (now heads) (now landings) stored × Sides (heldIn (now g) .graph) (routesIn (now s) y) (now guards) (now bases) (returnsIn (now parts) (now returners)) stored × PartsIn (heldIn (now g) .graph) (routesIn (now s) y) (now parts) stored × Bounded (heldIn (now g) .graph) (routesOf (routesIn (now s) y)) × Roomy (now edges) (now ends) (now exits) × HopsFit (hopsOf (ways (heldIn (now g) .graph) (routesOf (routesIn (now s) y)))) × (16 * stored .nodes ≤ length (now parts)) × (16 * length (routesIn (now s) y .routes) ≤ length (now guards)) × RoutesThere (now s) y × (stored .nodes ≤ length (now heads)) × (stored .ends ≤ length (now landings)) × (stored .nodes ≤ length (now bases)) ⌝ }
     ensures { λ _. ⌜ HopsLaid (routesIn (now (s .entry)) y) (now (h .entry)) (now (h .exit)) (hopsOf (ways (heldIn (now (g .entry)) .graph) (routesOf (routesIn (now (s .entry)) y)))) ⌝ }
 {
     let blocks = block_count(g);
@@ -64,7 +65,8 @@ pub fn add_hops(
         roots,
         guards,
         bases,
-        returns,
+        parts,
+        returners,
         stored,
         blocks,
         exits,
@@ -80,7 +82,7 @@ pub fn add_hops(
         landings,
         bases,
         parts,
-        returns,
+        returners,
         stored.nodes,
         blocks,
         exits,
@@ -99,13 +101,13 @@ fn add_nodes(
     landings: &[u16],
     bases: &[u16],
     parts: &[u64],
-    returns: &[u64],
+    returners: &[u64; 16],
     count: usize,
     blocks: usize,
     exits: &mut [u16],
 )
-    requires { ⌜ AllFit (now nodes) (now edges) (now ends) (λ i. i) count × (count ≤ 1024) × NodesRise (now bases) (now parts) (now returns) blocks count × (blocks ≤ 1024) × Roomy (now edges) (now ends) (now exits) × HopsBelow (routesIn (now s) y) blocks (now h) × HopsFit (hopsIn (routesIn (now s) y) (now h) ++ flat (nodeHops (routesIn (now s) y) (now nodes) (now edges) (now ends) (now heads) (now landings) (now bases) (now parts) (now returns) blocks) count) × NodesSets (now parts) (now returns) blocks count × RoutesThere (now s) y × AllThere (now nodes) (now edges) (now heads) (now landings) (λ i. i) count × (count ≤ length (now bases)) ⌝ }
-    ensures { λ _. ⌜ HopsHeld (routesIn (now (s .entry)) y) (behindNodes (now (bases .entry)) (now (parts .entry)) blocks count) (now (h .entry)) (now (h .exit)) (hopsIn (routesIn (now (s .entry)) y) (now (h .entry)) ++ flat (nodeHops (routesIn (now (s .entry)) y) (now (nodes .entry)) (now (edges .entry)) (now (ends .entry)) (now (heads .entry)) (now (landings .entry)) (now (bases .entry)) (now (parts .entry)) (now (returns .entry)) blocks) count) ⌝ }
+    requires { ⌜ AllFit (now nodes) (now edges) (now ends) (λ i. i) count × (count ≤ 1024) × NodesRise (now bases) (now parts) (returnsIn (now parts) (now returners)) blocks count × (blocks ≤ 1024) × Roomy (now edges) (now ends) (now exits) × HopsBelow (routesIn (now s) y) blocks (now h) × HopsFit (hopsIn (routesIn (now s) y) (now h) ++ flat (nodeHops (routesIn (now s) y) (now nodes) (now edges) (now ends) (now heads) (now landings) (now bases) (now parts) (returnsIn (now parts) (now returners)) blocks) count) × NodesSets (now parts) (returnsIn (now parts) (now returners)) blocks count × RoutesThere (now s) y × AllThere (now nodes) (now edges) (now heads) (now landings) (λ i. i) count × (count ≤ length (now bases)) ⌝ }
+    ensures { λ _. ⌜ HopsHeld (routesIn (now (s .entry)) y) (behindNodes (now (bases .entry)) (now (parts .entry)) blocks count) (now (h .entry)) (now (h .exit)) (hopsIn (routesIn (now (s .entry)) y) (now (h .entry)) ++ flat (nodeHops (routesIn (now (s .entry)) y) (now (nodes .entry)) (now (edges .entry)) (now (ends .entry)) (now (heads .entry)) (now (landings .entry)) (now (bases .entry)) (now (parts .entry)) (returnsIn (now (parts .entry)) (now (returners .entry))) blocks) count) ⌝ }
 {
     for i in 0..count {
         add_node(
@@ -119,7 +121,7 @@ fn add_nodes(
             landings,
             bases,
             parts,
-            returns,
+            returners,
             i,
             blocks,
             exits,
@@ -139,13 +141,13 @@ fn add_node(
     landings: &[u16],
     bases: &[u16],
     parts: &[u64],
-    returns: &[u64],
+    returners: &[u64; 16],
     i: usize,
     blocks: usize,
     exits: &mut [u16],
 )
-    requires { ⌜ NodeFits (now edges) (now ends) (recordIn (now nodes) i) × (i < 65536) × NodeRises (now bases) (now parts) (now returns) blocks i × (blocks ≤ 1024) × Roomy (now edges) (now ends) (now exits) × HopsBelow (routesIn (now s) y) (behindNodes (now bases) (now parts) blocks i) (now h) × HopsFit (hopsIn (routesIn (now s) y) (now h) ++ nodeHops (routesIn (now s) y) (now nodes) (now edges) (now ends) (now heads) (now landings) (now bases) (now parts) (now returns) blocks i) × NodeSets (now parts) (now returns) blocks i × RoutesThere (now s) y × NodeThere (now nodes) (now edges) (now heads) (now landings) i × (i < length (now bases)) ⌝ }
-    ensures { λ _. ⌜ HopsHeld (routesIn (now (s .entry)) y) (behindNodes (now (bases .entry)) (now (parts .entry)) blocks (i + 1)) (now (h .entry)) (now (h .exit)) (hopsIn (routesIn (now (s .entry)) y) (now (h .entry)) ++ nodeHops (routesIn (now (s .entry)) y) (now (nodes .entry)) (now (edges .entry)) (now (ends .entry)) (now (heads .entry)) (now (landings .entry)) (now (bases .entry)) (now (parts .entry)) (now (returns .entry)) blocks i) × (length (now (exits .exit)) ≡ length (now (exits .entry))) ⌝ }
+    requires { ⌜ NodeFits (now edges) (now ends) (recordIn (now nodes) i) × (i < 65536) × NodeRises (now bases) (now parts) (returnsIn (now parts) (now returners)) blocks i × (blocks ≤ 1024) × Roomy (now edges) (now ends) (now exits) × HopsBelow (routesIn (now s) y) (behindNodes (now bases) (now parts) blocks i) (now h) × HopsFit (hopsIn (routesIn (now s) y) (now h) ++ nodeHops (routesIn (now s) y) (now nodes) (now edges) (now ends) (now heads) (now landings) (now bases) (now parts) (returnsIn (now parts) (now returners)) blocks i) × NodeSets (now parts) (returnsIn (now parts) (now returners)) blocks i × RoutesThere (now s) y × NodeThere (now nodes) (now edges) (now heads) (now landings) i × (i < length (now bases)) ⌝ }
+    ensures { λ _. ⌜ HopsHeld (routesIn (now (s .entry)) y) (behindNodes (now (bases .entry)) (now (parts .entry)) blocks (i + 1)) (now (h .entry)) (now (h .exit)) (hopsIn (routesIn (now (s .entry)) y) (now (h .entry)) ++ nodeHops (routesIn (now (s .entry)) y) (now (nodes .entry)) (now (edges .entry)) (now (ends .entry)) (now (heads .entry)) (now (landings .entry)) (now (bases .entry)) (now (parts .entry)) (returnsIn (now (parts .entry)) (now (returners .entry))) blocks i) × (length (now (exits .exit)) ≡ length (now (exits .entry))) ⌝ }
 {
     let base = number_in(bases, i);
     if base != 0 {
@@ -159,7 +161,7 @@ fn add_node(
             heads,
             landings,
             parts,
-            returns,
+            returners,
             i,
             base,
             blocks,

@@ -14,6 +14,7 @@ ghost use Rattle.graph.specs.Fold.{flat};
 ghost use Rattle.unwind.specs.Nodes.{recordIn, NodeFits, AllFit};
 ghost use Rattle.unwind.specs.Gather.{inSet, NodeThere, AllThere, routeRecords, returnRecords, Pooled, Adds};
 ghost use Rattle.unwind.specs.Routed.{TriesIn};
+ghost use Rattle.unwind.specs.Placed.{returnsIn};
 ghost use Rattle.unwind.specs.Lent.{blockRecords, BlockHeld};
 ghost use Rattle.unwind.specs.Members.{Joins, Originals};
 
@@ -31,15 +32,16 @@ pub fn gather_block(
     guards: &[u64],
     guarded: &[u64; 16],
     bases: &[u16],
-    returns: &[u64],
+    parts: &[u64],
+    returners: &[u64; 16],
     originals: &[u16],
     listed: usize,
     stored: Counts,
     b: usize,
     exits: &mut [u16],
 ) -> usize
-    requires { ⌜ AcceptedRoutes (routesIn (now s) y) × TriesIn (routesIn (now s) y) (now nodes) (now edges) (now ends) (now roots) stored × (b < 1024) × (2 * (length (now edges) + length (now ends)) ≤ length (now exits)) × Originals (now bases) (now returns) (now originals) (stored .nodes) (b / 64) listed × RoutesThere (now s) y × (stored .nodes ≤ length (now heads)) × (stored .ends ≤ length (now landings)) × (stored .nodes ≤ length (now originals)) × (16 * length (routesIn (now s) y .routes) ≤ length (now guards)) × (16 * stored .nodes ≤ length (now returns)) × Joins (λ r k. inSet (now guards) r k) (y .routes .count) (now guarded) ⌝ }
-    ensures { λ r. ⌜ BlockHeld (routesIn (now (s .entry)) y) b (blockRecords (routesIn (now (s .entry)) y) b (now (nodes .entry)) (now (edges .entry)) (now (ends .entry)) (now (heads .entry)) (now (landings .entry)) (now (roots .entry)) (now (guards .entry)) (now (bases .entry)) (now (returns .entry)) stored) (now (edges .entry)) (now (ends .entry)) (now (exits .entry)) (now (exits .exit)) r ⌝ }
+    requires { ⌜ AcceptedRoutes (routesIn (now s) y) × TriesIn (routesIn (now s) y) (now nodes) (now edges) (now ends) (now roots) stored × (b < 1024) × (2 * (length (now edges) + length (now ends)) ≤ length (now exits)) × Originals (now bases) (returnsIn (now parts) (now returners)) (now originals) (stored .nodes) (b / 64) listed × RoutesThere (now s) y × (stored .nodes ≤ length (now heads)) × (stored .ends ≤ length (now landings)) × (stored .nodes ≤ length (now originals)) × (16 * length (routesIn (now s) y .routes) ≤ length (now guards)) × (16 * stored .nodes ≤ length (now parts)) × Joins (λ r k. inSet (now guards) r k) (y .routes .count) (now guarded) ⌝ }
+    ensures { λ r. ⌜ BlockHeld (routesIn (now (s .entry)) y) b (blockRecords (routesIn (now (s .entry)) y) b (now (nodes .entry)) (now (edges .entry)) (now (ends .entry)) (now (heads .entry)) (now (landings .entry)) (now (roots .entry)) (now (guards .entry)) (now (bases .entry)) (returnsIn (now (parts .entry)) (now (returners .entry))) stored) (now (edges .entry)) (now (ends .entry)) (now (exits .entry)) (now (exits .exit)) r ⌝ }
 {
     let count = y.routes.count as usize;
     let n = gather_routes(
@@ -66,7 +68,8 @@ pub fn gather_block(
         ends,
         heads,
         landings,
-        returns,
+        parts,
+        returners,
         originals,
         listed,
         b,
@@ -145,7 +148,7 @@ fn gather_route(
     held
 }
 
-// Those of the nodes that are listed.
+// Those of the nodes that are listed: none, if b does not return.
 fn gather_nodes(
     s: &[u8],
     y: RouteLayout,
@@ -154,16 +157,20 @@ fn gather_nodes(
     ends: &[u16],
     heads: &[u16],
     landings: &[u16],
-    returns: &[u64],
+    parts: &[u64],
+    returners: &[u64; 16],
     originals: &[u16],
     count: usize,
     b: usize,
     exits: &mut [u16],
     held: usize,
 ) -> usize
-    requires { ⌜ Pooled (routesIn (now s) y) b (now edges) (now ends) (now heads) (now landings) (now exits) held × (b < 1024) × AllFit (now nodes) (now edges) (now ends) (λ k. getD (now originals) k 0) count × RoutesThere (now s) y × AllThere (now nodes) (now edges) (now heads) (now landings) (λ k. getD (now originals) k 0) count × (count ≤ length (now originals)) × ((k : ℕ) → k < count → 16 * getD (now originals) k 0 + 16 ≤ length (now returns)) ⌝ }
-    ensures { λ r. ⌜ Adds (routesIn (now (s .entry)) y) b (now (edges .entry)) (now (ends .entry)) (now (heads .entry)) (now (landings .entry)) (now (exits .entry)) held (flat (λ k. returnRecords (routesIn (now (s .entry)) y) b (now (edges .entry)) (now (ends .entry)) (now (heads .entry)) (now (landings .entry)) (now (nodes .entry)) (now (returns .entry)) (getD (now (originals .entry)) k 0)) count) (now (exits .exit)) r ⌝ }
+    requires { ⌜ Pooled (routesIn (now s) y) b (now edges) (now ends) (now heads) (now landings) (now exits) held × (b < 1024) × AllFit (now nodes) (now edges) (now ends) (λ k. getD (now originals) k 0) count × RoutesThere (now s) y × AllThere (now nodes) (now edges) (now heads) (now landings) (λ k. getD (now originals) k 0) count × (count ≤ length (now originals)) × ((k : ℕ) → k < count → 16 * getD (now originals) k 0 + 16 ≤ length (now parts)) ⌝ }
+    ensures { λ r. ⌜ Adds (routesIn (now (s .entry)) y) b (now (edges .entry)) (now (ends .entry)) (now (heads .entry)) (now (landings .entry)) (now (exits .entry)) held (flat (λ k. returnRecords (routesIn (now (s .entry)) y) b (now (edges .entry)) (now (ends .entry)) (now (heads .entry)) (now (landings .entry)) (now (nodes .entry)) (returnsIn (now (parts .entry)) (now (returners .entry))) (getD (now (originals .entry)) k 0)) count) (now (exits .exit)) r ⌝ }
 {
+    if !has_in(returners, b) {
+        return held;
+    }
     let mut n = held;
     for k in 0..count {
         let i = number_in(originals, k);
@@ -175,7 +182,7 @@ fn gather_nodes(
             ends,
             heads,
             landings,
-            returns,
+            parts,
             i,
             b,
             exits,
@@ -185,7 +192,7 @@ fn gather_nodes(
     n
 }
 
-// Those of node i, if it returns from b.
+// Those of node i, if its part has b.
 fn gather_returned(
     s: &[u8],
     y: RouteLayout,
@@ -194,16 +201,16 @@ fn gather_returned(
     ends: &[u16],
     heads: &[u16],
     landings: &[u16],
-    returns: &[u64],
+    parts: &[u64],
     i: usize,
     b: usize,
     exits: &mut [u16],
     held: usize,
 ) -> usize
-    requires { ⌜ Pooled (routesIn (now s) y) b (now edges) (now ends) (now heads) (now landings) (now exits) held × (b < 1024) × (16 * i + 16 ≤ length (now returns)) × NodeFits (now edges) (now ends) (recordIn (now nodes) i) × RoutesThere (now s) y × NodeThere (now nodes) (now edges) (now heads) (now landings) i ⌝ }
-    ensures { λ r. ⌜ Adds (routesIn (now (s .entry)) y) b (now (edges .entry)) (now (ends .entry)) (now (heads .entry)) (now (landings .entry)) (now (exits .entry)) held (returnRecords (routesIn (now (s .entry)) y) b (now (edges .entry)) (now (ends .entry)) (now (heads .entry)) (now (landings .entry)) (now (nodes .entry)) (now (returns .entry)) i) (now (exits .exit)) r ⌝ }
+    requires { ⌜ Pooled (routesIn (now s) y) b (now edges) (now ends) (now heads) (now landings) (now exits) held × (b < 1024) × (16 * i + 16 ≤ length (now parts)) × NodeFits (now edges) (now ends) (recordIn (now nodes) i) × RoutesThere (now s) y × NodeThere (now nodes) (now edges) (now heads) (now landings) i ⌝ }
+    ensures { λ r. ⌜ Adds (routesIn (now (s .entry)) y) b (now (edges .entry)) (now (ends .entry)) (now (heads .entry)) (now (landings .entry)) (now (exits .entry)) held (returnRecords (routesIn (now (s .entry)) y) b (now (edges .entry)) (now (ends .entry)) (now (heads .entry)) (now (landings .entry)) (now (nodes .entry)) (now (parts .entry)) i) (now (exits .exit)) r ⌝ }
 {
-    if in_set(returns, i, b) {
+    if in_set(parts, i, b) {
         return gather_node(s, y, nodes, edges, ends, heads, landings, i, b, exits, held);
     }
     held

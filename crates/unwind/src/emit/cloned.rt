@@ -2,6 +2,7 @@
 use crate::emit::append::add_exits;
 use crate::emit::gather::gather_node;
 use crate::hops::Hops;
+use crate::slots::common_at;
 use crate::slots::set_at;
 use graph::blockset::Lowest;
 use graph::blockset::next_in;
@@ -16,6 +17,7 @@ ghost use Rattle.image.specs.There.{RoutesThere};
 ghost use Rattle.graph.specs.Fold.{flat};
 ghost use Rattle.unwind.specs.Nodes.{recordIn, NodeFits};
 ghost use Rattle.unwind.specs.Gather.{NodeThere};
+ghost use Rattle.unwind.specs.Placed.{returnsIn};
 ghost use Rattle.unwind.specs.Lent.{Roomy};
 ghost use Rattle.unwind.specs.Copies.{copyNumber, hopsFrom, copyHops};
 ghost use Rattle.unwind.specs.HopWords.{hopsIn, HopsHeld, HopsFit, HopsBelow, ReturnsWithin};
@@ -32,17 +34,17 @@ pub fn add_copies(
     heads: &[u16],
     landings: &[u16],
     parts: &[u64],
-    returns: &[u64],
+    returners: &[u64; 16],
     i: usize,
     base: usize,
     blocks: usize,
     exits: &mut [u16],
 )
-    requires { ⌜ NodeFits (now edges) (now ends) (recordIn (now nodes) i) × (i < 65536) × (base ≤ 1024) × (blocks ≤ 1024) × Roomy (now edges) (now ends) (now exits) × ReturnsWithin (now parts) (now returns) i × HopsBelow (routesIn (now s) y) base (now h) × HopsFit (hopsIn (routesIn (now s) y) (now h) ++ flat (copyHops (routesIn (now s) y) (now nodes) (now edges) (now ends) (now heads) (now landings) (now parts) (now returns) i base) blocks) × NodeSets (now parts) (now returns) blocks i × RoutesThere (now s) y × NodeThere (now nodes) (now edges) (now heads) (now landings) i ⌝ }
-    ensures { λ _. ⌜ HopsHeld (routesIn (now (s .entry)) y) (copyNumber (now (parts .entry)) i base blocks) (now (h .entry)) (now (h .exit)) (hopsIn (routesIn (now (s .entry)) y) (now (h .entry)) ++ flat (copyHops (routesIn (now (s .entry)) y) (now (nodes .entry)) (now (edges .entry)) (now (ends .entry)) (now (heads .entry)) (now (landings .entry)) (now (parts .entry)) (now (returns .entry)) i base) blocks) × (length (now (exits .exit)) ≡ length (now (exits .entry))) ⌝ }
+    requires { ⌜ NodeFits (now edges) (now ends) (recordIn (now nodes) i) × (i < 65536) × (base ≤ 1024) × (blocks ≤ 1024) × Roomy (now edges) (now ends) (now exits) × ReturnsWithin (now parts) (returnsIn (now parts) (now returners)) i × HopsBelow (routesIn (now s) y) base (now h) × HopsFit (hopsIn (routesIn (now s) y) (now h) ++ flat (copyHops (routesIn (now s) y) (now nodes) (now edges) (now ends) (now heads) (now landings) (now parts) (returnsIn (now parts) (now returners)) i base) blocks) × NodeSets (now parts) (returnsIn (now parts) (now returners)) blocks i × RoutesThere (now s) y × NodeThere (now nodes) (now edges) (now heads) (now landings) i ⌝ }
+    ensures { λ _. ⌜ HopsHeld (routesIn (now (s .entry)) y) (copyNumber (now (parts .entry)) i base blocks) (now (h .entry)) (now (h .exit)) (hopsIn (routesIn (now (s .entry)) y) (now (h .entry)) ++ flat (copyHops (routesIn (now (s .entry)) y) (now (nodes .entry)) (now (edges .entry)) (now (ends .entry)) (now (heads .entry)) (now (landings .entry)) (now (parts .entry)) (returnsIn (now (parts .entry)) (now (returners .entry))) i base) blocks) × (length (now (exits .exit)) ≡ length (now (exits .entry))) ⌝ }
 {
     let part = set_at(parts, i);
-    let set = set_at(returns, i);
+    let set = common_at(parts, i, returners);
     let mut from = 0;
     loop {
         let Lowest::At(o) = next_in(&set, from, blocks) else {

@@ -3,6 +3,7 @@ use crate::emit::count::Sizes;
 use crate::emit::count::sizes_both;
 use crate::emit::count::sizes_of;
 use crate::emit::gather::gather_node;
+use crate::slots::common_at;
 use crate::slots::set_at;
 use crate::tries::store::number_in;
 use graph::blockset::Lowest;
@@ -16,6 +17,7 @@ ghost use Rattle.image.specs.There.{RoutesThere};
 ghost use Rattle.graph.specs.Fold.{flat};
 ghost use Rattle.unwind.specs.Nodes.{recordIn, NodeFits, AllFit};
 ghost use Rattle.unwind.specs.Gather.{NodeThere, AllThere};
+ghost use Rattle.unwind.specs.Placed.{returnsIn};
 ghost use Rattle.unwind.specs.Lent.{Roomy};
 ghost use Rattle.unwind.specs.Copies.{hopsFrom, copyHops, FewHops, SumSize, ManyHops, BasesFew, nodeHops};
 ghost use Rattle.unwind.specs.Members.{NodeSets, NodesSets};
@@ -31,13 +33,13 @@ pub fn count_nodes(
     landings: &[u16],
     bases: &[u16],
     parts: &[u64],
-    returns: &[u64],
+    returners: &[u64; 16],
     count: usize,
     blocks: usize,
     exits: &mut [u16],
 ) -> Sizes
-    requires { ⌜ AllFit (now nodes) (now edges) (now ends) (λ i. i) count × (count ≤ 1024) × BasesFew (now bases) count × (blocks ≤ 1024) × Roomy (now edges) (now ends) (now exits) × NodesSets (now parts) (now returns) blocks count × RoutesThere (now s) y × AllThere (now nodes) (now edges) (now heads) (now landings) (λ i. i) count × (count ≤ length (now bases)) ⌝ }
-    ensures { λ r. ⌜ ManyHops (flat (nodeHops (routesIn (now (s .entry)) y) (now (nodes .entry)) (now (edges .entry)) (now (ends .entry)) (now (heads .entry)) (now (landings .entry)) (now (bases .entry)) (now (parts .entry)) (now (returns .entry)) blocks) count) r ⌝ }
+    requires { ⌜ AllFit (now nodes) (now edges) (now ends) (λ i. i) count × (count ≤ 1024) × BasesFew (now bases) count × (blocks ≤ 1024) × Roomy (now edges) (now ends) (now exits) × NodesSets (now parts) (returnsIn (now parts) (now returners)) blocks count × RoutesThere (now s) y × AllThere (now nodes) (now edges) (now heads) (now landings) (λ i. i) count × (count ≤ length (now bases)) ⌝ }
+    ensures { λ r. ⌜ ManyHops (flat (nodeHops (routesIn (now (s .entry)) y) (now (nodes .entry)) (now (edges .entry)) (now (ends .entry)) (now (heads .entry)) (now (landings .entry)) (now (bases .entry)) (now (parts .entry)) (returnsIn (now (parts .entry)) (now (returners .entry))) blocks) count) r ⌝ }
 {
     let mut sizes = Sizes {
         hops: 0,
@@ -55,7 +57,7 @@ pub fn count_nodes(
             landings,
             bases,
             parts,
-            returns,
+            returners,
             i,
             blocks,
             exits,
@@ -76,13 +78,13 @@ fn count_node(
     landings: &[u16],
     bases: &[u16],
     parts: &[u64],
-    returns: &[u64],
+    returners: &[u64; 16],
     i: usize,
     blocks: usize,
     exits: &mut [u16],
 ) -> Sizes
-    requires { ⌜ NodeFits (now edges) (now ends) (recordIn (now nodes) i) × (i < 65536) × (getD (now bases) i 0 ≤ 1024) × (blocks ≤ 1024) × Roomy (now edges) (now ends) (now exits) × NodeSets (now parts) (now returns) blocks i × RoutesThere (now s) y × NodeThere (now nodes) (now edges) (now heads) (now landings) i × (i < length (now bases)) ⌝ }
-    ensures { λ r. ⌜ SumSize (nodeHops (routesIn (now (s .entry)) y) (now (nodes .entry)) (now (edges .entry)) (now (ends .entry)) (now (heads .entry)) (now (landings .entry)) (now (bases .entry)) (now (parts .entry)) (now (returns .entry)) blocks i) (now (exits .entry)) (now (exits .exit)) r ⌝ }
+    requires { ⌜ NodeFits (now edges) (now ends) (recordIn (now nodes) i) × (i < 65536) × (getD (now bases) i 0 ≤ 1024) × (blocks ≤ 1024) × Roomy (now edges) (now ends) (now exits) × NodeSets (now parts) (returnsIn (now parts) (now returners)) blocks i × RoutesThere (now s) y × NodeThere (now nodes) (now edges) (now heads) (now landings) i × (i < length (now bases)) ⌝ }
+    ensures { λ r. ⌜ SumSize (nodeHops (routesIn (now (s .entry)) y) (now (nodes .entry)) (now (edges .entry)) (now (ends .entry)) (now (heads .entry)) (now (landings .entry)) (now (bases .entry)) (now (parts .entry)) (returnsIn (now (parts .entry)) (now (returners .entry))) blocks i) (now (exits .entry)) (now (exits .exit)) r ⌝ }
 {
     let base = number_in(bases, i);
     if base == 0 {
@@ -101,7 +103,7 @@ fn count_node(
         heads,
         landings,
         parts,
-        returns,
+        returners,
         i,
         base,
         blocks,
@@ -119,17 +121,17 @@ fn count_copies(
     heads: &[u16],
     landings: &[u16],
     parts: &[u64],
-    returns: &[u64],
+    returners: &[u64; 16],
     i: usize,
     base: usize,
     blocks: usize,
     exits: &mut [u16],
 ) -> Sizes
-    requires { ⌜ NodeFits (now edges) (now ends) (recordIn (now nodes) i) × (i < 65536) × (base ≤ 1024) × (blocks ≤ 1024) × Roomy (now edges) (now ends) (now exits) × NodeSets (now parts) (now returns) blocks i × RoutesThere (now s) y × NodeThere (now nodes) (now edges) (now heads) (now landings) i ⌝ }
-    ensures { λ r. ⌜ SumSize (flat (copyHops (routesIn (now (s .entry)) y) (now (nodes .entry)) (now (edges .entry)) (now (ends .entry)) (now (heads .entry)) (now (landings .entry)) (now (parts .entry)) (now (returns .entry)) i base) blocks) (now (exits .entry)) (now (exits .exit)) r ⌝ }
+    requires { ⌜ NodeFits (now edges) (now ends) (recordIn (now nodes) i) × (i < 65536) × (base ≤ 1024) × (blocks ≤ 1024) × Roomy (now edges) (now ends) (now exits) × NodeSets (now parts) (returnsIn (now parts) (now returners)) blocks i × RoutesThere (now s) y × NodeThere (now nodes) (now edges) (now heads) (now landings) i ⌝ }
+    ensures { λ r. ⌜ SumSize (flat (copyHops (routesIn (now (s .entry)) y) (now (nodes .entry)) (now (edges .entry)) (now (ends .entry)) (now (heads .entry)) (now (landings .entry)) (now (parts .entry)) (returnsIn (now (parts .entry)) (now (returners .entry))) i base) blocks) (now (exits .entry)) (now (exits .exit)) r ⌝ }
 {
     let part = set_at(parts, i);
-    let set = set_at(returns, i);
+    let set = common_at(parts, i, returners);
     let mut from = 0;
     let mut sizes = Sizes {
         hops: 0,

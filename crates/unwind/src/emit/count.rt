@@ -21,6 +21,7 @@ ghost use Rattle.image.specs.Accepted.{AcceptedRoutes};
 ghost use Rattle.image.specs.There.{RoutesThere};
 ghost use Rattle.graph.specs.Fold.{flat};
 ghost use Rattle.unwind.specs.Routed.{TriesIn};
+ghost use Rattle.unwind.specs.Placed.{returnsIn};
 ghost use Rattle.unwind.specs.Lent.{Roomy, blockHops};
 ghost use Rattle.unwind.specs.Sizes.{SizesOf, sizesThen, sizesBoth};
 ghost use Rattle.unwind.specs.Copies.{SumSize};
@@ -48,17 +49,18 @@ pub fn count_blocks(
     roots: &[u16],
     guards: &[u64],
     bases: &[u16],
-    returns: &[u64],
+    parts: &[u64],
+    returners: &[u64; 16],
     stored: Counts,
     blocks: usize,
     exits: &mut [u16],
 ) -> Sizes
-    requires { ⌜ AcceptedRoutes (routesIn (now s) y) × TriesIn (routesIn (now s) y) (now nodes) (now edges) (now ends) (now roots) stored × (blocks ≤ 1024) × Roomy (now edges) (now ends) (now exits) × BlockSets (now guards) (now returns) blocks (length (routesIn (now s) y .routes)) (stored .nodes) × RoutesThere (now s) y × (stored .nodes ≤ length (now heads)) × (stored .ends ≤ length (now landings)) × (stored .nodes ≤ length (now bases)) ⌝ }
-    ensures { λ r. ⌜ SumSize (flat (blockHops (routesIn (now (s .entry)) y) (now (nodes .entry)) (now (edges .entry)) (now (ends .entry)) (now (heads .entry)) (now (landings .entry)) (now (roots .entry)) (now (guards .entry)) (now (bases .entry)) (now (returns .entry)) stored) blocks) (now (exits .entry)) (now (exits .exit)) r ⌝ }
+    requires { ⌜ AcceptedRoutes (routesIn (now s) y) × TriesIn (routesIn (now s) y) (now nodes) (now edges) (now ends) (now roots) stored × (blocks ≤ 1024) × Roomy (now edges) (now ends) (now exits) × BlockSets (now guards) (returnsIn (now parts) (now returners)) blocks (length (routesIn (now s) y .routes)) (stored .nodes) × RoutesThere (now s) y × (stored .nodes ≤ length (now heads)) × (stored .ends ≤ length (now landings)) × (stored .nodes ≤ length (now bases)) ⌝ }
+    ensures { λ r. ⌜ SumSize (flat (blockHops (routesIn (now (s .entry)) y) (now (nodes .entry)) (now (edges .entry)) (now (ends .entry)) (now (heads .entry)) (now (landings .entry)) (now (roots .entry)) (now (guards .entry)) (now (bases .entry)) (returnsIn (now (parts .entry)) (now (returners .entry))) stored) blocks) (now (exits .entry)) (now (exits .exit)) r ⌝ }
 {
     let routes = y.routes.count as usize;
     let guarded = guarded_blocks(guards, routes);
-    let mut left = busy_blocks(&guarded, bases, returns, stored.nodes);
+    let mut left = busy_blocks(&guarded, bases, parts, returners, stored.nodes);
     let mut sizes = Sizes {
         hops: 0,
         lists: 0,
@@ -67,7 +69,15 @@ pub fn count_blocks(
     let worth = is_worth(stored.nodes, landings, stored.ends);
     let mut turns = [0u64; 16];
     if worth {
-        mark_turns(guards, routes, returns, stored.nodes, blocks, &mut turns);
+        mark_turns(
+            guards,
+            routes,
+            parts,
+            returners,
+            stored.nodes,
+            blocks,
+            &mut turns,
+        );
     }
     let mut originals = [0u16; 544];
     let mut listed = 0;
@@ -79,7 +89,14 @@ pub fn count_blocks(
         };
         take_from(&mut left, b);
         if b / 64 != last / 64 {
-            listed = original_nodes(bases, returns, stored.nodes, b / 64, &mut originals);
+            listed = original_nodes(
+                bases,
+                parts,
+                returners,
+                stored.nodes,
+                b / 64,
+                &mut originals,
+            );
         }
         if !goes_on(worth, &turns, last, b) {
             n = gather_block(
@@ -94,7 +111,8 @@ pub fn count_blocks(
                 guards,
                 &guarded,
                 bases,
-                returns,
+                parts,
+                returners,
                 &originals,
                 listed,
                 stored,

@@ -16,6 +16,7 @@ ghost use Rattle.image.specs.There.{RoutesThere};
 ghost use Rattle.graph.specs.Words.{heldIn};
 ghost use Rattle.addition.specs.Ways.{ways, hopsOf};
 ghost use Rattle.unwind.specs.Routed.{TriesIn};
+ghost use Rattle.unwind.specs.Placed.{returnsIn};
 ghost use Rattle.unwind.specs.Lent.{Leads, Sides, PartsIn, Roomy};
 ghost use Rattle.unwind.specs.Sizes.{HopsSize};
 ghost use Rattle.unwind.specs.Copies.{BasesFew, Bounded};
@@ -34,11 +35,11 @@ pub fn count_hops(
     guards: &[u64],
     bases: &[u16],
     parts: &[u64],
-    returns: &[u64],
+    returners: &[u64; 16],
     stored: Counts,
     exits: &mut [u16],
 ) -> Sizes
-    requires { ⌜ AcceptedRoutes (routesIn (now s) y) × TriesIn (routesIn (now s) y) (now nodes) (now edges) (now ends) (now roots) stored × Leads (heldIn (now g) .graph) (routesIn (now s) y) (now ends) (now heads) (now landings) stored × Sides (heldIn (now g) .graph) (routesIn (now s) y) (now guards) (now bases) (now returns) stored × PartsIn (heldIn (now g) .graph) (routesIn (now s) y) (now parts) stored × BasesFew (now bases) (stored .nodes) × Bounded (heldIn (now g) .graph) (routesOf (routesIn (now s) y)) × Roomy (now edges) (now ends) (now exits) × (16 * stored .nodes ≤ length (now parts)) × (16 * stored .nodes ≤ length (now returns)) × (16 * length (routesIn (now s) y .routes) ≤ length (now guards)) × RoutesThere (now s) y × (stored .nodes ≤ length (now heads)) × (stored .ends ≤ length (now landings)) × (stored .nodes ≤ length (now bases)) ⌝ }
+    requires { ⌜ AcceptedRoutes (routesIn (now s) y) × TriesIn (routesIn (now s) y) (now nodes) (now edges) (now ends) (now roots) stored × Leads (heldIn (now g) .graph) (routesIn (now s) y) (now ends) (now heads) (now landings) stored × Sides (heldIn (now g) .graph) (routesIn (now s) y) (now guards) (now bases) (returnsIn (now parts) (now returners)) stored × PartsIn (heldIn (now g) .graph) (routesIn (now s) y) (now parts) stored × BasesFew (now bases) (stored .nodes) × Bounded (heldIn (now g) .graph) (routesOf (routesIn (now s) y)) × Roomy (now edges) (now ends) (now exits) × (16 * stored .nodes ≤ length (now parts)) × (16 * length (routesIn (now s) y .routes) ≤ length (now guards)) × RoutesThere (now s) y × (stored .nodes ≤ length (now heads)) × (stored .ends ≤ length (now landings)) × (stored .nodes ≤ length (now bases)) ⌝ }
     ensures { λ r. ⌜ HopsSize (hopsOf (ways (heldIn (now (g .entry)) .graph) (routesOf (routesIn (now (s .entry)) y)))) r ⌝ }
 {
     let blocks = block_count(g);
@@ -53,7 +54,8 @@ pub fn count_hops(
         roots,
         guards,
         bases,
-        returns,
+        parts,
+        returners,
         stored,
         blocks,
         exits,
@@ -68,7 +70,7 @@ pub fn count_hops(
         landings,
         bases,
         parts,
-        returns,
+        returners,
         stored.nodes,
         blocks,
         exits,

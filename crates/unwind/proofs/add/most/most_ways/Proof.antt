@@ -6,7 +6,7 @@ use native.Mathlib.Omega.{arith}
 use borrow.Author.Needs.{needs}
 use lib.ListN.{getD}
 use Rattle.graph.specs.BlockSet.{member}
-use Rattle.unwind.specs.Placed.{setAt}
+use Rattle.unwind.specs.Placed.{setAt, returnsIn}
 use Rattle.unwind.specs.Most.{waysOf}
 use Rattle.unwind.proofs.MostLaws.{sum-most}
 use Rattle.unwind.proofs.add.most.most_ways.Statement.{statement}
@@ -34,7 +34,7 @@ returns c =
     let pre = start .pre in
     let m = a .stored .edges + a .stored .ends in
     let guarded = sum-most (λ r. waysOf (a .nodes .now) (getD (a .roots .now) r 0)) (λ r. member (setAt (a .guards .now) r)) m (a .blocks) (a .routes) (λ r h. pre .10 (getD (a .roots .now) r 0) (pre .7 r h)) in
-    let returned = sum-most (waysOf (a .nodes .now)) (λ i. member (setAt (a .returns .now) i)) m (a .blocks) (a .stored .nodes) (pre .10) in
+    let returned = sum-most (waysOf (a .nodes .now)) (λ i. member (setAt (returnsIn (a .parts .now) (a .returners .now)) i)) m (a .blocks) (a .stored .nodes) (pre .10) in
     omega (arith, guarded, returned)
 
 most-guarded-requires : tie.Need-most-guarded-requires

@@ -1,4 +1,4 @@
--- The entries of funclets and the blocks that return, and then the nodes. Assumes nothing.
+-- The entries of funclets, and then the nodes. Assumes nothing.
 use mathlib.Core.Path.{refl}
 use borrow.Author.Needs.{needs}
 use Rattle.unwind.proofs.add.run.place.Statement.{statement}
@@ -6,23 +6,17 @@ use Rattle.unwind.proofs.add.run.place.Tie as tie
 
 funclet-entries-requires : tie.Need-funclet-entries-requires
 funclet-entries-requires c κs =
-    let start = c .before .before .before .before .before .before .before .before .before .before .before in
+    let start = c .before .before .before .before .before .before .before .before .before .before in
     (start .pre .0, start .pre .8, start .pre .3, start .pre .9, start .pre .7, start .pre .4 .entries-fit, refl)
-
-returning-blocks-requires : tie.Need-returning-blocks-requires
-returning-blocks-requires c κs =
-    let start = c .before .before .before .before .before .before .before .before .before .before .before .before .before in
-    (start .pre .0, refl)
 
 place-nodes-requires : tie.Need-place-nodes-requires
 place-nodes-requires c κs =
-    let start = c .before .before .before .before .before .before .before .before .before .before .before .before .before .before .before .before .before .before .before .before .before in (
+    let start = c .before .before .before .before .before .before .before .before .before .before .before .before .before .before .before .before in (
       record {
         stands = start .pre .0;
         roomy = start .pre .1;
         linked = start .pre .2;
-        bars = c .before .before .before .before .before .before .before .before .before .funclet-entries .ensures;
-        returns = c .before .before .before .before .before .before .before .returning-blocks .ensures;
+        bars = c .before .before .before .before .before .funclet-entries .ensures;
       },
       start .pre .3,
       start .pre .4,
@@ -37,9 +31,7 @@ place-spec =
     tie.close
     (tie.spec
     funclet-entries-requires
-    returning-blocks-requires
     place-nodes-requires
-    (λ c. search needs)
     (λ c. search needs)
     (λ c. search needs)
     (λ c. search needs)

@@ -8,12 +8,12 @@ use Rattle.unwind.proofs.add.store.add_placed.Tie as tie
 
 returns : tie.Need-returns
 returns c =
-    let a = c .before .before .before .before .before .before .before .before .before .before .before .before .before .before .before .before .before .before .before .before .before .before .args in
+    let a = c .before .before .before .before .before .before .before .before .before .before .before .before .before .before .before .before .before .before .before .before .before .args in
     sized-refused (routesIn (a .s .now) (a .y)) (a .g .now) (a .h .now) _ (rw (c .before .e .given .1) at (c .before .before .before .before .before .check-sizes .ensures))
 
 store-addition-requires : tie.Need-store-addition-requires
 store-addition-requires c κs =
-    let start = c .before .before .before .before .before .before .before .before .before .before .before .before .before .before .before .before .before .before .before .before .before .before .before .before in
+    let start = c .before .before .before .before .before .before .before .before .before .before .before .before .before .before .before .before .before .before .before .before .before .before .before in
     let sizes = c .before .before .before .before .before .before .before .check-sizes in (
       exits-kept (start .args .g .now) (routesIn (start .args .s .now) (start .args .y)) (start .pre .0) (sizes .kept .1 .1 .1 .1 .1 .1 .1 .1 .1 .1 .1 .1 .1 .1 .1 .1 .0),
       sym (rw (c .before .before .before .enum-told .given .1) at (sizes .ensures)),
@@ -22,7 +22,7 @@ store-addition-requires c κs =
 
 returns-2 : tie.Need-returns-2
 returns-2 c =
-    let a = c .before .before .before .before .before .before .before .before .before .before .before .before .before .before .before .before .before .before .before .before .before .before .before .before .before .before .before .args in
+    let a = c .before .before .before .before .before .before .before .before .before .before .before .before .before .before .before .before .before .before .before .before .before .before .before .before .before .before .args in
     let stored = c .before .before .store-addition .ensures in
     sized-stored (routesIn (a .s .now) (a .y)) (a .g .now) (a .h .now) (sym (rw (c .before .before .before .before .before .before .enum-told .given .1) at (c .before .before .before .before .before .before .before .before .before .before .check-sizes .ensures))) (stored .0) (stored .1)
 

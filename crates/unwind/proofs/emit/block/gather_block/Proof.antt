@@ -4,6 +4,7 @@ use lib.ListN.{getD}
 use Rattle.image.specs.Record.{routeFrom}
 use Rattle.image.specs.Image.{routesIn}
 use Rattle.image.proofs.Tables.{length-records}
+use Rattle.unwind.specs.Placed.{returnsIn}
 use Rattle.unwind.proofs.TrieNodes.{stored-fits}
 use Rattle.unwind.proofs.LentLaws.{pooled-none, node-there, roots-fit, block-held}
 use Rattle.unwind.proofs.PoolLaws.{adds-some}
@@ -46,9 +47,9 @@ returns : tie.Need-returns
 returns c =
     let start = c .before .before .before .before .before .before .before .before .before .before .before .before .before .before .before .before .before .before .before .before .before in
     let a = start .args in
-    let all = originals-records (routesIn (a .s .now) (a .y)) (a .b) (a .nodes .now) (a .edges .now) (a .ends .now) (a .heads .now) (a .landings .now) (a .bases .now) (a .returns .now) (a .originals .now) (a .stored .nodes) (a .listed) (start .pre .4) in
+    let all = originals-records (routesIn (a .s .now) (a .y)) (a .b) (a .nodes .now) (a .edges .now) (a .ends .now) (a .heads .now) (a .landings .now) (a .bases .now) (returnsIn (a .parts .now) (a .returners .now)) (a .originals .now) (a .stored .nodes) (a .listed) (start .pre .4) in
     let count = length-records routeFrom (a .s .now) (a .y .routes) in
-    block-held (routesIn (a .s .now) (a .y)) (a .b) (a .nodes .now) (a .edges .now) (a .ends .now) (a .heads .now) (a .landings .now) (a .roots .now) (a .guards .now) (a .bases .now) (a .returns .now) (a .stored)
+    block-held (routesIn (a .s .now) (a .y)) (a .b) (a .nodes .now) (a .edges .now) (a .ends .now) (a .heads .now) (a .landings .now) (a .roots .now) (a .guards .now) (a .bases .now) (returnsIn (a .parts .now) (a .returners .now)) (a .stored)
     (a .y .routes .count) count (c .before .before .before .before .before .before .gather-routes .ensures) (adds-some (routesIn (a .s .now) (a .y)) (a .b) (a .edges .now) (a .ends .now) (a .heads .now) (a .landings .now) all (c .before .before .gather-nodes .ensures))
 
 pub gather-block-spec : {M : Type 1} → statement M

@@ -1,4 +1,4 @@
--- `gather_returned` meets its contract: it returns from b, or it does not. Assumes nothing.
+-- `gather_returned` meets its contract: its part has b, or it has not. Assumes nothing.
 use mathlib.Core.Path.{sym, _∙_}
 use native.Mathlib.Omega.{arith}
 use Rattle.image.specs.Image.{routesIn}
@@ -21,14 +21,14 @@ returns : tie.Need-returns
 returns c =
     let start = c .before .before .before .before .before .before .before .before .before .before .before .before .before .before in
     let a = start .args in
-    adds-some (routesIn (a .s .now) (a .y)) (a .b) (a .edges .now) (a .ends .now) (a .heads .now) (a .landings .now) (node-in (routesIn (a .s .now) (a .y)) (a .b) (a .edges .now) (a .ends .now) (a .heads .now) (a .landings .now) (a .nodes .now) (a .returns .now) (a .i) (sym (c .before .before .before .before .if1 .taken) ∙ c .before .before .before .before .before .in-set .ensures))
+    adds-some (routesIn (a .s .now) (a .y)) (a .b) (a .edges .now) (a .ends .now) (a .heads .now) (a .landings .now) (node-in (routesIn (a .s .now) (a .y)) (a .b) (a .edges .now) (a .ends .now) (a .heads .now) (a .landings .now) (a .nodes .now) (a .parts .now) (a .i) (sym (c .before .before .before .before .if1 .taken) ∙ c .before .before .before .before .before .in-set .ensures))
     (adds-record (routesIn (a .s .now) (a .y)) (a .b) (a .edges .now) (a .ends .now) (a .heads .now) (a .landings .now) (recordIn (a .nodes .now) (a .i)) (start .pre .0) (start .pre .3) (c .before .before .gather-node .ensures))
 
 returns-2 : tie.Need-returns-2
 returns-2 c =
     let start = c .before .before .before .before .before .before .before .before .before .before in
     let a = start .args in
-    adds-some (routesIn (a .s .now) (a .y)) (a .b) (a .edges .now) (a .ends .now) (a .heads .now) (a .landings .now) (node-out (routesIn (a .s .now) (a .y)) (a .b) (a .edges .now) (a .ends .now) (a .heads .now) (a .landings .now) (a .nodes .now) (a .returns .now) (a .i) (sym (c .if1 .left) ∙ c .before .in-set .ensures))
+    adds-some (routesIn (a .s .now) (a .y)) (a .b) (a .edges .now) (a .ends .now) (a .heads .now) (a .landings .now) (node-out (routesIn (a .s .now) (a .y)) (a .b) (a .edges .now) (a .ends .now) (a .heads .now) (a .landings .now) (a .nodes .now) (a .parts .now) (a .i) (sym (c .if1 .left) ∙ c .before .in-set .ensures))
     (adds-none (routesIn (a .s .now) (a .y)) (a .b) (a .edges .now) (a .ends .now) (a .heads .now) (a .landings .now) (a .exits .now) (a .held) (start .pre .0))
 
 pub gather-returned-spec : {M : Type 1} → statement M

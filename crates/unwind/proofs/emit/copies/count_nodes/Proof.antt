@@ -4,6 +4,7 @@ use Prim.Native.Nat.{_-_, _≤_}
 use native.Mathlib.Omega.{arith}
 use lib.ListN.{length}
 use Rattle.image.specs.Image.{routesIn}
+use Rattle.unwind.specs.Placed.{returnsIn}
 use Rattle.unwind.specs.Copies.{nodeHops}
 use Rattle.unwind.proofs.SizeLaws.{Summed, summed-none, summed-more}
 use borrow.Author.Needs.{needs}
@@ -11,18 +12,18 @@ use Rattle.unwind.proofs.emit.copies.count_nodes.Statement.{statement}
 use Rattle.unwind.proofs.emit.copies.count_nodes.Tie as tie
 
 abbrev Inv-loop : tie.InvT-loop
-Inv-loop s y nodes edges ends heads landings bases parts returns count blocks exits₀ sizes₀ i₀ exits sizes i =
-    (i ≤ count) × (length exits ≡ length exits₀) × Summed (nodeHops (routesIn s y) nodes edges ends heads landings bases parts returns blocks) i 67108864 sizes
+Inv-loop s y nodes edges ends heads landings bases parts returners count blocks exits₀ sizes₀ i₀ exits sizes i =
+    (i ≤ count) × (length exits ≡ length exits₀) × Summed (nodeHops (routesIn s y) nodes edges ends heads landings bases parts (returnsIn parts returners) blocks) i 67108864 sizes
 
 abbrev μ-loop : tie.MeasureT-loop
-μ-loop s y nodes edges ends heads landings bases parts returns count blocks exits₀ sizes₀ i₀ exits sizes i = count - i
+μ-loop s y nodes edges ends heads landings bases parts returners count blocks exits₀ sizes₀ i₀ exits sizes i = count - i
 
 loop-holds : tie.Need-loop-holds Inv-loop μ-loop
-loop-holds c = let a = c .before .before .before .before .before .before .before .before .before .before .args in (omega arith, refl, summed-none (nodeHops (routesIn (a .s .now) (a .y)) (a .nodes .now) (a .edges .now) (a .ends .now) (a .heads .now) (a .landings .now) (a .bases .now) (a .parts .now) (a .returns .now) (a .blocks)) 67108864)
+loop-holds c = let a = c .before .before .before .before .before .before .before .before .before .args in (omega arith, refl, summed-none (nodeHops (routesIn (a .s .now) (a .y)) (a .nodes .now) (a .edges .now) (a .ends .now) (a .heads .now) (a .landings .now) (a .bases .now) (a .parts .now) (returnsIn (a .parts .now) (a .returners .now)) (a .blocks)) 67108864)
 
 count-node-requires : tie.Need-count-node-requires Inv-loop μ-loop
 count-node-requires c κs =
-    let start = c .before .before .before .before .before .before .before .before .before .before .before .before .before in
+    let start = c .before .before .before .before .before .before .before .before .before .before .before .before in
     let top = c .before .before .loop in
     let room = start .pre .4 in
     let test = c .before .loop-test .taken in
@@ -30,7 +31,7 @@ count-node-requires c κs =
 
 sizes-both-requires : tie.Need-sizes-both-requires Inv-loop μ-loop
 sizes-both-requires c κs =
-    let start = c .before .before .before .before .before .before .before .before .before .before .before .before .before .before .before .before in
+    let start = c .before .before .before .before .before .before .before .before .before .before .before .before .before .before .before in
     let was = c .before .before .before .before .before .loop .inv .2 in
     let more = c .before .before .count-node .ensures in
     let test = c .before .before .before .before .loop-test .taken in
@@ -39,13 +40,13 @@ sizes-both-requires c κs =
 
 loop-again : tie.Need-loop-again Inv-loop μ-loop
 loop-again c =
-    let a = c .before .before .before .before .before .before .before .before .before .before .before .before .before .before .before .before .before .args in
+    let a = c .before .before .before .before .before .before .before .before .before .before .before .before .before .before .before .before .args in
     let top = c .before .before .before .before .before .before .loop in
     let more = c .before .before .before .count-node .ensures in
     let next = c .sizes-both .ensures in (
       omega (arith, c .before .before .before .before .before .loop-test .taken),
       more .long ∙ top .inv .1,
-      rw next (summed-more (nodeHops (routesIn (a .s .now) (a .y)) (a .nodes .now) (a .edges .now) (a .ends .now) (a .heads .now) (a .landings .now) (a .bases .now) (a .parts .now) (a .returns .now) (a .blocks)) (top .i) 67108864 (top .sizes) (c .before .before .before .count-node .result) (top .inv .2) (more .of) (more .hops) (more .lists) (more .blocks)),
+      rw next (summed-more (nodeHops (routesIn (a .s .now) (a .y)) (a .nodes .now) (a .edges .now) (a .ends .now) (a .heads .now) (a .landings .now) (a .bases .now) (a .parts .now) (returnsIn (a .parts .now) (a .returners .now)) (a .blocks)) (top .i) 67108864 (top .sizes) (c .before .before .before .count-node .result) (top .inv .2) (more .of) (more .hops) (more .lists) (more .blocks)),
     )
 
 same-length : tie.Need-same-length Inv-loop μ-loop
@@ -53,7 +54,7 @@ same-length c = c .before .loop .inv .1
 
 returns : tie.Need-returns Inv-loop μ-loop
 returns c =
-    let start = c .before .before .before .before .before .before .before .before .before .before .before .before in
+    let start = c .before .before .before .before .before .before .before .before .before .before .before in
     let all : c .before .loop .i ≡ start .args .count = omega (arith, c .before .loop .inv .0) in
     let end = c .before .loop .inv .2 in
     let most = start .pre .1 in

@@ -13,8 +13,10 @@ use Rattle.image.specs.Image.{routesIn}
 use Rattle.image.proofs.Tables.{length-records}
 use Rattle.graph.specs.BlockSet.{sizeOf}
 use Rattle.graph.proofs.BlockLaws.{size-excluding}
+use Rattle.unwind.specs.Placed.{returnsIn}
 use Rattle.unwind.specs.Lent.{blockRecords, BlockHeld, blockHops}
 use Rattle.unwind.specs.Members.{Busy, Originals}
+use Rattle.unwind.proofs.ReturnLaws.{returns-long}
 use Rattle.unwind.proofs.AlikeLaws.{held-on}
 use Rattle.unwind.proofs.LentLaws.{block-size}
 use Rattle.unwind.proofs.MemberLaws.{walked-below, SetCounting, counting-start, counting-few, counting-next, counting-end, busy-quiet, busy-below}
@@ -22,16 +24,16 @@ use Rattle.unwind.proofs.emit.count.count_blocks.Statement.{statement}
 use Rattle.unwind.proofs.emit.count.count_blocks.Tie as tie
 
 abbrev Inv-loop : tie.InvT-loop
-Inv-loop s y nodes edges ends heads landings roots guards bases returns stored blocks exits₀ routes guarded left₀ sizes₀ worth turns originals₀ listed₀ last₀ n₀ exits left sizes originals listed last n =
+Inv-loop s y nodes edges ends heads landings roots guards bases parts returners stored blocks exits₀ routes guarded left₀ sizes₀ worth turns originals₀ listed₀ last₀ n₀ exits left sizes originals listed last n =
     (length exits ≡ length exits₀)
-    × SetCounting (blockHops (routesIn s y) nodes edges ends heads landings roots guards bases returns stored) left₀ blocks left sizes
+    × SetCounting (blockHops (routesIn s y) nodes edges ends heads landings roots guards bases (returnsIn parts returners) stored) left₀ blocks left sizes
     × (last ≤ 1024)
-    × (last < 1024 → BlockHeld (routesIn s y) last (blockRecords (routesIn s y) last nodes edges ends heads landings roots guards bases returns stored) edges ends exits exits n)
+    × (last < 1024 → BlockHeld (routesIn s y) last (blockRecords (routesIn s y) last nodes edges ends heads landings roots guards bases (returnsIn parts returners) stored) edges ends exits exits n)
     × (length originals ≡ 544)
-    × (last < 1024 → Originals bases returns originals (stored .nodes) (last / 64) listed)
+    × (last < 1024 → Originals bases (returnsIn parts returners) originals (stored .nodes) (last / 64) listed)
 
 abbrev μ-loop : tie.MeasureT-loop
-μ-loop s y nodes edges ends heads landings roots guards bases returns stored blocks exits₀ routes guarded left₀ sizes₀ worth turns originals₀ listed₀ last₀ n₀ exits left sizes originals listed last n = sizeOf left
+μ-loop s y nodes edges ends heads landings roots guards bases parts returners stored blocks exits₀ routes guarded left₀ sizes₀ worth turns originals₀ listed₀ last₀ n₀ exits left sizes originals listed last n = sizeOf left
 
 guarded-blocks-requires : tie.Need-guarded-blocks-requires Inv-loop μ-loop
 guarded-blocks-requires c κs =
@@ -39,10 +41,10 @@ guarded-blocks-requires c κs =
     omega (arith, length-records routeFrom (start .args .s .now) (start .args .y .routes), start .pre .4 .guards-fit)
 
 busy-blocks-requires : tie.Need-busy-blocks-requires Inv-loop μ-loop
-busy-blocks-requires c κs = let start = c .before .before .before .before .before .before .before .before .before .before .before .before .before .before in (start .pre .4 .returns-fit, start .pre .8)
+busy-blocks-requires c κs = let start = c .before .before .before .before .before .before .before .before .before .before .before .before .before .before in (rw (returns-long (start .args .parts .now) (start .args .returners .now)) at (start .pre .4 .returns-fit), start .pre .8)
 
 -- the blocks to go over are those that have a way out
-busy : (c : tie.After-busy-blocks Inv-loop μ-loop) → let a = c .before .before .before .before .before .before .before .before .before .before .before .before .before .before .before .args in Busy (a .guards .now) (a .y .routes .count) (a .bases .now) (a .returns .now) (a .stored .nodes) (c .busy-blocks .result)
+busy : (c : tie.After-busy-blocks Inv-loop μ-loop) → let a = c .before .before .before .before .before .before .before .before .before .before .before .before .before .before .before .args in Busy (a .guards .now) (a .y .routes .count) (a .bases .now) (returnsIn (a .parts .now) (a .returners .now)) (a .stored .nodes) (c .busy-blocks .result)
 busy c = c .busy-blocks .ensures _ _ (c .before .before .guarded-blocks .ensures)
 
 slice-aggregate-original-nodes : tie.Need-slice-aggregate-original-nodes Inv-loop μ-loop
@@ -53,25 +55,25 @@ original-nodes-requires c κs =
     let start = c .before .before .before .before .before .before .before .before .before .before .before .before .before .before .before .before .before .before .before .before .before .before .before .before .before .before .before in
     let low = rw (c .before .before .before .before .before .b .given .1) at (c .before .before .before .before .before .before .before .lowest-in .ensures) in
     let most = start .pre .1 .nodes-most in
-    (omega (arith, most, c .before .before .before .before .before .before .before .before .before .loop .inv .4), most, start .pre .4 .returns-fit, omega (arith, low .0), start .pre .8)
+    (omega (arith, most, c .before .before .before .before .before .before .before .before .before .loop .inv .4), most, rw (returns-long (start .args .parts .now) (start .args .returners .now)) at (start .pre .4 .returns-fit), omega (arith, low .0), start .pre .8)
 
 mark-turns-requires : tie.Need-mark-turns-requires Inv-loop μ-loop
 mark-turns-requires c κs =
     let start = c .before .before .before .before .before .before .before .before .before .before .before .before .before .before .before .before .before .before in
-    (omega (arith, length-records routeFrom (start .args .s .now) (start .args .y .routes), start .pre .4 .guards-fit), start .pre .4 .returns-fit, start .pre .2)
+    (omega (arith, length-records routeFrom (start .args .s .now) (start .args .y .routes), start .pre .4 .guards-fit), rw (returns-long (start .args .parts .now) (start .args .returners .now)) at (start .pre .4 .returns-fit), start .pre .2)
 
 -- the nodes of the block's word are listed, now or for the last block
-listed : (c : tie.Joined2 Inv-loop μ-loop) → let a = c .before .before .before .before .before .before .before .before .before .before .before .before .before .before .before .before .before .before .before .before .before .before .before .before .before .before .args in (length (c .if2 .originals) ≡ 544) × Originals (a .bases .now) (a .returns .now) (c .if2 .originals) (a .stored .nodes) (c .before .before .before .before .b .given .0 .0 / 64) (c .if2 .listed)
+listed : (c : tie.Joined2 Inv-loop μ-loop) → let a = c .before .before .before .before .before .before .before .before .before .before .before .before .before .before .before .before .before .before .before .before .before .before .before .before .before .before .args in (length (c .if2 .originals) ≡ 544) × Originals (a .bases .now) (returnsIn (a .parts .now) (a .returners .now)) (c .if2 .originals) (a .stored .nodes) (c .before .before .before .before .b .given .0 .0 / 64) (c .if2 .listed)
 listed c =
     let top = c .before .before .before .before .before .before .before .before .loop in
     let low = rw (c .before .before .before .before .b .given .1) at (c .before .before .before .before .before .before .lowest-in .ensures) in
     ⊎-elim
-    (λ w. rw (w .4, w .5) (w .2 .kept .1 .1 .1 .1 .0 ∙ top .inv .4, w .2 .ensures))
+    (λ w. rw (w .4, w .5) (w .2 .kept .1 .1 .1 .1 .1 .0 ∙ top .inv .4, w .2 .ensures))
     (λ w. rw (w .1, w .2, w .0 .left) (top .inv .4, top .inv .5 (omega (arith, low .0, w .0 .left))))
     (c .if2 .came)
 
 -- what stands in scratch is gathered of this block, or of the last and the same
-gathered : (c : tie.Joined3 Inv-loop μ-loop) → let a = c .before .before .before .before .before .before .before .before .before .before .before .before .before .before .before .before .before .before .before .before .before .before .before .before .before .before .before .before .before .args in let m = routesIn (a .s .now) (a .y) in BlockHeld m (c .before .before .before .before .before .before .before .b .given .0 .0) (blockRecords m (c .before .before .before .before .before .before .before .b .given .0 .0) (a .nodes .now) (a .edges .now) (a .ends .now) (a .heads .now) (a .landings .now) (a .roots .now) (a .guards .now) (a .bases .now) (a .returns .now) (a .stored)) (a .edges .now) (a .ends .now) (c .before .before .before .before .before .before .before .before .before .before .before .loop .exits) (c .if3 .exits) (c .if3 .n)
+gathered : (c : tie.Joined3 Inv-loop μ-loop) → let a = c .before .before .before .before .before .before .before .before .before .before .before .before .before .before .before .before .before .before .before .before .before .before .before .before .before .before .before .before .before .args in let m = routesIn (a .s .now) (a .y) in BlockHeld m (c .before .before .before .before .before .before .before .b .given .0 .0) (blockRecords m (c .before .before .before .before .before .before .before .b .given .0 .0) (a .nodes .now) (a .edges .now) (a .ends .now) (a .heads .now) (a .landings .now) (a .roots .now) (a .guards .now) (a .bases .now) (returnsIn (a .parts .now) (a .returners .now)) (a .stored)) (a .edges .now) (a .ends .now) (c .before .before .before .before .before .before .before .before .before .before .before .loop .exits) (c .if3 .exits) (c .if3 .n)
 gathered c =
     ⊎-elim
     (λ w. rw (w .7, w .8) (w .4 .ensures))
@@ -87,7 +89,7 @@ gathered c =
     rw (w .1, w .2)
     record {
       long = refl;
-      holds = held-on m (a .nodes .now) (a .edges .now) (a .ends .now) (a .heads .now) (a .landings .now) (a .roots .now) (a .guards .now) (a .bases .now) (a .returns .now) (a .stored) (start .pre .1) (c .before .before .before .before .before .before .before .before .before .before .before .before .before .is-worth .ensures (on .sought)) (top .last) _ (a .y .routes .count) (a .blocks) (c .before .before .before .before .before .before .before .before .before .before .before .before .if1 .turns) (length-records routeFrom (a .s .now) (a .y .routes)) (⊎-elim (λ v. rw (v .3) (v .2 .ensures)) (λ v. absurd (false≢true (sym (v .0 .left) ∙ on .sought))) (c .before .before .before .before .before .before .before .before .before .before .before .before .if1 .came)) on (walked-below (top .inv .1 .walked) _ low) (was .holds);
+      holds = held-on m (a .nodes .now) (a .edges .now) (a .ends .now) (a .heads .now) (a .landings .now) (a .roots .now) (a .guards .now) (a .bases .now) (returnsIn (a .parts .now) (a .returners .now)) (a .stored) (start .pre .1) (c .before .before .before .before .before .before .before .before .before .before .before .before .before .is-worth .ensures (on .sought)) (top .last) _ (a .y .routes .count) (a .blocks) (c .before .before .before .before .before .before .before .before .before .before .before .before .if1 .turns) (length-records routeFrom (a .s .now) (a .y .routes)) (⊎-elim (λ v. rw (v .3) (v .2 .ensures)) (λ v. absurd (false≢true (sym (v .0 .left) ∙ on .sought))) (c .before .before .before .before .before .before .before .before .before .before .before .before .if1 .came)) on (walked-below (top .inv .1 .walked) _ low) (was .holds);
       most = was .most;
     })
     (c .if3 .came)
@@ -106,7 +108,7 @@ gather-block-requires c κs =
     let start = c .before .before .before .before .before .before .before .before .before .before .before .before .before .before .before .before .before .before .before .before .before .before .before .before .before .before .before .before .before .before .before .before in
     let top = c .before .before .before .before .before .before .before .before .before .before .before .before .before .before .loop in
     let low = rw (c .before .before .before .before .before .before .before .before .before .before .b .given .1) at (c .before .before .before .before .before .before .before .before .before .before .before .before .lowest-in .ensures) in
-    (start .pre .0, start .pre .1, low .0, omega (arith, start .pre .3 .room, top .inv .0), listed (c .before .before .before .before .before .before) .1, search needs, start .pre .6, start .pre .7, omega (arith, start .pre .1 .nodes-most, listed (c .before .before .before .before .before .before) .0), start .pre .4 .guards-fit, start .pre .4 .returns-fit, c .before .before .before .before .before .before .before .before .before .before .before .before .before .before .before .before .before .before .before .guarded-blocks .ensures)
+    (start .pre .0, start .pre .1, low .0, omega (arith, start .pre .3 .room, top .inv .0), listed (c .before .before .before .before .before .before) .1, search needs, start .pre .6, start .pre .7, omega (arith, start .pre .1 .nodes-most, listed (c .before .before .before .before .before .before) .0), start .pre .4 .guards-fit, rw (returns-long (start .args .parts .now) (start .args .returners .now)) at (start .pre .4 .returns-fit), c .before .before .before .before .before .before .before .before .before .before .before .before .before .before .before .before .before .before .before .guarded-blocks .ensures)
 
 loop-less : tie.Need-loop-less Inv-loop μ-loop
 loop-less c =
@@ -121,7 +123,7 @@ loop-holds c =
     let m = routesIn (a .s .now) (a .y) in
     let from = c .before .before in (
       refl,
-      counting-start (blockHops m (a .nodes .now) (a .edges .now) (a .ends .now) (a .heads .now) (a .landings .now) (a .roots .now) (a .guards .now) (a .bases .now) (a .returns .now) (a .stored)) (from .busy-blocks .result) (a .blocks) (busy from .long) (busy-below m (a .nodes .now) (a .edges .now) (a .ends .now) (a .heads .now) (a .landings .now) (a .roots .now) (a .guards .now) (a .bases .now) (a .returns .now) (a .stored) (a .y .routes .count) (length-records routeFrom (a .s .now) (a .y .routes)) (from .busy-blocks .result) (busy from) (a .blocks) (start .pre .4)),
+      counting-start (blockHops m (a .nodes .now) (a .edges .now) (a .ends .now) (a .heads .now) (a .landings .now) (a .roots .now) (a .guards .now) (a .bases .now) (returnsIn (a .parts .now) (a .returners .now)) (a .stored)) (from .busy-blocks .result) (a .blocks) (busy from .long) (busy-below m (a .nodes .now) (a .edges .now) (a .ends .now) (a .heads .now) (a .landings .now) (a .roots .now) (a .guards .now) (a .bases .now) (returnsIn (a .parts .now) (a .returners .now)) (a .stored) (a .y .routes .count) (length-records routeFrom (a .s .now) (a .y .routes)) (from .busy-blocks .result) (busy from) (a .blocks) (start .pre .4)),
       omega arith,
       λ h. absurd (omega arith),
       refl,
@@ -135,7 +137,7 @@ returns c =
     let m = routesIn (a .s .now) (a .y) in
     let from = c .before .before .before .before .before .before .before in
     let top = c .before .before .before .before .loop in
-    counting-end (blockHops m (a .nodes .now) (a .edges .now) (a .ends .now) (a .heads .now) (a .landings .now) (a .roots .now) (a .guards .now) (a .bases .now) (a .returns .now) (a .stored)) (from .busy-blocks .result) (busy-quiet m (a .nodes .now) (a .edges .now) (a .ends .now) (a .heads .now) (a .landings .now) (a .roots .now) (a .guards .now) (a .bases .now) (a .returns .now) (a .stored) (a .y .routes .count) (length-records routeFrom (a .s .now) (a .y .routes)) (from .busy-blocks .result) (busy from)) (top .inv .1) (rw (c .enum-told .given .1) at (c .before .before .lowest-in .ensures)) (start .pre .2) (a .exits .now) (top .exits) (top .inv .0)
+    counting-end (blockHops m (a .nodes .now) (a .edges .now) (a .ends .now) (a .heads .now) (a .landings .now) (a .roots .now) (a .guards .now) (a .bases .now) (returnsIn (a .parts .now) (a .returners .now)) (a .stored)) (from .busy-blocks .result) (busy-quiet m (a .nodes .now) (a .edges .now) (a .ends .now) (a .heads .now) (a .landings .now) (a .roots .now) (a .guards .now) (a .bases .now) (returnsIn (a .parts .now) (a .returners .now)) (a .stored) (a .y .routes .count) (length-records routeFrom (a .s .now) (a .y .routes)) (from .busy-blocks .result) (busy from)) (top .inv .1) (rw (c .enum-told .given .1) at (c .before .before .lowest-in .ensures)) (start .pre .2) (a .exits .now) (top .exits) (top .inv .0)
 
 sizes-of-requires : tie.Need-sizes-of-requires Inv-loop μ-loop
 sizes-of-requires c κs =
@@ -163,10 +165,10 @@ loop-again c =
     let held = gathered (c .before .before .before) in
     let more = c .before .sizes-of .ensures in
     let few : c .before .before .before .if3 .n < 65536 = omega (arith, held .most, start .pre .3 .edges-few, start .pre .3 .ends-few) in
-    let size = block-size m _ (a .nodes .now) (a .edges .now) (a .ends .now) (a .heads .now) (a .landings .now) (a .roots .now) (a .guards .now) (a .bases .now) (a .returns .now) (a .stored) (held .holds) more in
+    let size = block-size m _ (a .nodes .now) (a .edges .now) (a .ends .now) (a .heads .now) (a .landings .now) (a .roots .now) (a .guards .now) (a .bases .now) (returnsIn (a .parts .now) (a .returners .now)) (a .stored) (held .holds) more in
     rw (c .before .before .before .before .before .before .before .take-from .ensures, c .sizes-both .ensures) (
       held .long ∙ top .inv .0,
-      counting-next (blockHops m (a .nodes .now) (a .edges .now) (a .ends .now) (a .heads .now) (a .landings .now) (a .roots .now) (a .guards .now) (a .bases .now) (a .returns .now) (a .stored)) (from .busy-blocks .result) (busy-quiet m (a .nodes .now) (a .edges .now) (a .ends .now) (a .heads .now) (a .landings .now) (a .roots .now) (a .guards .now) (a .bases .now) (a .returns .now) (a .stored) (a .y .routes .count) (length-records routeFrom (a .s .now) (a .y .routes)) (from .busy-blocks .result) (busy from)) (top .inv .1) _ low (c .before .sizes-of .result) size (omega (arith, more .hops-most, few)) (omega (arith, more .lists-most, few)) (omega (arith, more .blocks-most, few)),
+      counting-next (blockHops m (a .nodes .now) (a .edges .now) (a .ends .now) (a .heads .now) (a .landings .now) (a .roots .now) (a .guards .now) (a .bases .now) (returnsIn (a .parts .now) (a .returners .now)) (a .stored)) (from .busy-blocks .result) (busy-quiet m (a .nodes .now) (a .edges .now) (a .ends .now) (a .heads .now) (a .landings .now) (a .roots .now) (a .guards .now) (a .bases .now) (returnsIn (a .parts .now) (a .returners .now)) (a .stored) (a .y .routes .count) (length-records routeFrom (a .s .now) (a .y .routes)) (from .busy-blocks .result) (busy from)) (top .inv .1) _ low (c .before .sizes-of .result) size (omega (arith, more .hops-most, few)) (omega (arith, more .lists-most, few)) (omega (arith, more .blocks-most, few)),
       omega (arith, low .0),
       λ h. record { long = refl; holds = held .holds; most = held .most },
       listed (c .before .before .before .before .before .before) .0,

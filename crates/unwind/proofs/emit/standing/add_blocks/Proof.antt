@@ -14,8 +14,10 @@ use Rattle.image.specs.Image.{routesIn}
 use Rattle.image.proofs.Tables.{length-records}
 use Rattle.graph.specs.BlockSet.{sizeOf}
 use Rattle.graph.proofs.BlockLaws.{size-excluding}
+use Rattle.unwind.specs.Placed.{returnsIn}
 use Rattle.unwind.specs.Lent.{blockRecords, BlockHeld, blockHops}
 use Rattle.unwind.specs.Members.{Busy, Originals}
+use Rattle.unwind.proofs.ReturnLaws.{returns-long}
 use Rattle.unwind.proofs.AlikeLaws.{held-on}
 use Rattle.unwind.proofs.HeldLaws.{held-none, held-room, held-more, block-own}
 use Rattle.unwind.proofs.MemberLaws.{walked-below, SetHolding, holding-start, holding-here, holding-fit, holding-next, holding-end, busy-quiet, busy-below}
@@ -23,16 +25,16 @@ use Rattle.unwind.proofs.emit.standing.add_blocks.Statement.{statement}
 use Rattle.unwind.proofs.emit.standing.add_blocks.Tie as tie
 
 abbrev Inv-loop : tie.InvT-loop
-Inv-loop h₀ s y nodes edges ends heads landings roots guards bases returns stored blocks exits₀ routes guarded left₀ worth turns originals₀ listed₀ last₀ n₀ h exits left originals listed last n =
+Inv-loop h₀ s y nodes edges ends heads landings roots guards bases parts returners stored blocks exits₀ routes guarded left₀ worth turns originals₀ listed₀ last₀ n₀ h exits left originals listed last n =
     (length exits ≡ length exits₀)
-    × SetHolding (routesIn s y) (blockHops (routesIn s y) nodes edges ends heads landings roots guards bases returns stored) (λ k. k) [] left₀ blocks left h₀ h
+    × SetHolding (routesIn s y) (blockHops (routesIn s y) nodes edges ends heads landings roots guards bases (returnsIn parts returners) stored) (λ k. k) [] left₀ blocks left h₀ h
     × (last ≤ 1024)
-    × (last < 1024 → BlockHeld (routesIn s y) last (blockRecords (routesIn s y) last nodes edges ends heads landings roots guards bases returns stored) edges ends exits exits n)
+    × (last < 1024 → BlockHeld (routesIn s y) last (blockRecords (routesIn s y) last nodes edges ends heads landings roots guards bases (returnsIn parts returners) stored) edges ends exits exits n)
     × (length originals ≡ 544)
-    × (last < 1024 → Originals bases returns originals (stored .nodes) (last / 64) listed)
+    × (last < 1024 → Originals bases (returnsIn parts returners) originals (stored .nodes) (last / 64) listed)
 
 abbrev μ-loop : tie.MeasureT-loop
-μ-loop h₀ s y nodes edges ends heads landings roots guards bases returns stored blocks exits₀ routes guarded left₀ worth turns originals₀ listed₀ last₀ n₀ h exits left originals listed last n = sizeOf left
+μ-loop h₀ s y nodes edges ends heads landings roots guards bases parts returners stored blocks exits₀ routes guarded left₀ worth turns originals₀ listed₀ last₀ n₀ h exits left originals listed last n = sizeOf left
 
 guarded-blocks-requires : tie.Need-guarded-blocks-requires Inv-loop μ-loop
 guarded-blocks-requires c κs =
@@ -40,10 +42,10 @@ guarded-blocks-requires c κs =
     omega (arith, length-records routeFrom (start .args .s .now) (start .args .y .routes), start .pre .6 .guards-fit)
 
 busy-blocks-requires : tie.Need-busy-blocks-requires Inv-loop μ-loop
-busy-blocks-requires c κs = let start = c .before .before .before .before .before .before .before .before .before .before .before .before .before .before in (start .pre .6 .returns-fit, start .pre .10)
+busy-blocks-requires c κs = let start = c .before .before .before .before .before .before .before .before .before .before .before .before .before .before in (rw (returns-long (start .args .parts .now) (start .args .returners .now)) at (start .pre .6 .returns-fit), start .pre .10)
 
 -- the blocks to go over are those that have a way out
-busy : (c : tie.After-busy-blocks Inv-loop μ-loop) → let a = c .before .before .before .before .before .before .before .before .before .before .before .before .before .before .before .args in Busy (a .guards .now) (a .y .routes .count) (a .bases .now) (a .returns .now) (a .stored .nodes) (c .busy-blocks .result)
+busy : (c : tie.After-busy-blocks Inv-loop μ-loop) → let a = c .before .before .before .before .before .before .before .before .before .before .before .before .before .before .before .args in Busy (a .guards .now) (a .y .routes .count) (a .bases .now) (returnsIn (a .parts .now) (a .returners .now)) (a .stored .nodes) (c .busy-blocks .result)
 busy c = c .busy-blocks .ensures _ _ (c .before .before .guarded-blocks .ensures)
 
 slice-aggregate-original-nodes : tie.Need-slice-aggregate-original-nodes Inv-loop μ-loop
@@ -54,25 +56,25 @@ original-nodes-requires c κs =
     let start = c .before .before .before .before .before .before .before .before .before .before .before .before .before .before .before .before .before .before .before .before .before .before .before .before .before .before .before in
     let low = rw (c .before .before .before .before .before .b .given .1) at (c .before .before .before .before .before .before .before .lowest-in .ensures) in
     let most = start .pre .1 .nodes-most in
-    (omega (arith, most, c .before .before .before .before .before .before .before .before .before .loop .inv .4), most, start .pre .6 .returns-fit, omega (arith, low .0), start .pre .10)
+    (omega (arith, most, c .before .before .before .before .before .before .before .before .before .loop .inv .4), most, rw (returns-long (start .args .parts .now) (start .args .returners .now)) at (start .pre .6 .returns-fit), omega (arith, low .0), start .pre .10)
 
 mark-turns-requires : tie.Need-mark-turns-requires Inv-loop μ-loop
 mark-turns-requires c κs =
     let start = c .before .before .before .before .before .before .before .before .before .before .before .before .before .before .before .before .before .before in
-    (omega (arith, length-records routeFrom (start .args .s .now) (start .args .y .routes), start .pre .6 .guards-fit), start .pre .6 .returns-fit, start .pre .2)
+    (omega (arith, length-records routeFrom (start .args .s .now) (start .args .y .routes), start .pre .6 .guards-fit), rw (returns-long (start .args .parts .now) (start .args .returners .now)) at (start .pre .6 .returns-fit), start .pre .2)
 
 -- the nodes of the block's word are listed, now or for the last block
-listed : (c : tie.Joined2 Inv-loop μ-loop) → let a = c .before .before .before .before .before .before .before .before .before .before .before .before .before .before .before .before .before .before .before .before .before .before .before .before .before .before .args in (length (c .if2 .originals) ≡ 544) × Originals (a .bases .now) (a .returns .now) (c .if2 .originals) (a .stored .nodes) (c .before .before .before .before .b .given .0 .0 / 64) (c .if2 .listed)
+listed : (c : tie.Joined2 Inv-loop μ-loop) → let a = c .before .before .before .before .before .before .before .before .before .before .before .before .before .before .before .before .before .before .before .before .before .before .before .before .before .before .args in (length (c .if2 .originals) ≡ 544) × Originals (a .bases .now) (returnsIn (a .parts .now) (a .returners .now)) (c .if2 .originals) (a .stored .nodes) (c .before .before .before .before .b .given .0 .0 / 64) (c .if2 .listed)
 listed c =
     let top = c .before .before .before .before .before .before .before .before .loop in
     let low = rw (c .before .before .before .before .b .given .1) at (c .before .before .before .before .before .before .lowest-in .ensures) in
     ⊎-elim
-    (λ w. rw (w .4, w .5) (w .2 .kept .1 .1 .1 .1 .0 ∙ top .inv .4, w .2 .ensures))
+    (λ w. rw (w .4, w .5) (w .2 .kept .1 .1 .1 .1 .1 .0 ∙ top .inv .4, w .2 .ensures))
     (λ w. rw (w .1, w .2, w .0 .left) (top .inv .4, top .inv .5 (omega (arith, low .0, w .0 .left))))
     (c .if2 .came)
 
 -- what stands in scratch is gathered of this block, or of the last and the same
-gathered : (c : tie.Joined3 Inv-loop μ-loop) → let a = c .before .before .before .before .before .before .before .before .before .before .before .before .before .before .before .before .before .before .before .before .before .before .before .before .before .before .before .before .before .args in let m = routesIn (a .s .now) (a .y) in BlockHeld m (c .before .before .before .before .before .before .before .b .given .0 .0) (blockRecords m (c .before .before .before .before .before .before .before .b .given .0 .0) (a .nodes .now) (a .edges .now) (a .ends .now) (a .heads .now) (a .landings .now) (a .roots .now) (a .guards .now) (a .bases .now) (a .returns .now) (a .stored)) (a .edges .now) (a .ends .now) (c .before .before .before .before .before .before .before .before .before .before .before .loop .exits) (c .if3 .exits) (c .if3 .n)
+gathered : (c : tie.Joined3 Inv-loop μ-loop) → let a = c .before .before .before .before .before .before .before .before .before .before .before .before .before .before .before .before .before .before .before .before .before .before .before .before .before .before .before .before .before .args in let m = routesIn (a .s .now) (a .y) in BlockHeld m (c .before .before .before .before .before .before .before .b .given .0 .0) (blockRecords m (c .before .before .before .before .before .before .before .b .given .0 .0) (a .nodes .now) (a .edges .now) (a .ends .now) (a .heads .now) (a .landings .now) (a .roots .now) (a .guards .now) (a .bases .now) (returnsIn (a .parts .now) (a .returners .now)) (a .stored)) (a .edges .now) (a .ends .now) (c .before .before .before .before .before .before .before .before .before .before .before .loop .exits) (c .if3 .exits) (c .if3 .n)
 gathered c =
     ⊎-elim
     (λ w. rw (w .7, w .8) (w .4 .ensures))
@@ -88,7 +90,7 @@ gathered c =
     rw (w .1, w .2)
     record {
       long = refl;
-      holds = held-on m (a .nodes .now) (a .edges .now) (a .ends .now) (a .heads .now) (a .landings .now) (a .roots .now) (a .guards .now) (a .bases .now) (a .returns .now) (a .stored) (start .pre .1) (c .before .before .before .before .before .before .before .before .before .before .before .before .before .is-worth .ensures (on .sought)) (top .last) _ (a .y .routes .count) (a .blocks) (c .before .before .before .before .before .before .before .before .before .before .before .before .if1 .turns) (length-records routeFrom (a .s .now) (a .y .routes)) (⊎-elim (λ v. rw (v .3) (v .2 .ensures)) (λ v. absurd (false≢true (sym (v .0 .left) ∙ on .sought))) (c .before .before .before .before .before .before .before .before .before .before .before .before .if1 .came)) on (walked-below (top .inv .1 .walked) _ low) (was .holds);
+      holds = held-on m (a .nodes .now) (a .edges .now) (a .ends .now) (a .heads .now) (a .landings .now) (a .roots .now) (a .guards .now) (a .bases .now) (returnsIn (a .parts .now) (a .returners .now)) (a .stored) (start .pre .1) (c .before .before .before .before .before .before .before .before .before .before .before .before .before .is-worth .ensures (on .sought)) (top .last) _ (a .y .routes .count) (a .blocks) (c .before .before .before .before .before .before .before .before .before .before .before .before .if1 .turns) (length-records routeFrom (a .s .now) (a .y .routes)) (⊎-elim (λ v. rw (v .3) (v .2 .ensures)) (λ v. absurd (false≢true (sym (v .0 .left) ∙ on .sought))) (c .before .before .before .before .before .before .before .before .before .before .before .before .if1 .came)) on (walked-below (top .inv .1 .walked) _ low) (was .holds);
       most = was .most;
     })
     (c .if3 .came)
@@ -107,7 +109,7 @@ gather-block-requires c κs =
     let start = c .before .before .before .before .before .before .before .before .before .before .before .before .before .before .before .before .before .before .before .before .before .before .before .before .before .before .before .before .before .before .before .before in
     let top = c .before .before .before .before .before .before .before .before .before .before .before .before .before .before .loop in
     let low = rw (c .before .before .before .before .before .before .before .before .before .before .b .given .1) at (c .before .before .before .before .before .before .before .before .before .before .before .before .lowest-in .ensures) in
-    (start .pre .0, start .pre .1, low .0, omega (arith, start .pre .3 .room, top .inv .0), listed (c .before .before .before .before .before .before) .1, search needs, start .pre .8, start .pre .9, omega (arith, start .pre .1 .nodes-most, listed (c .before .before .before .before .before .before) .0), start .pre .6 .guards-fit, start .pre .6 .returns-fit, c .before .before .before .before .before .before .before .before .before .before .before .before .before .before .before .before .before .before .before .guarded-blocks .ensures)
+    (start .pre .0, start .pre .1, low .0, omega (arith, start .pre .3 .room, top .inv .0), listed (c .before .before .before .before .before .before) .1, search needs, start .pre .8, start .pre .9, omega (arith, start .pre .1 .nodes-most, listed (c .before .before .before .before .before .before) .0), start .pre .6 .guards-fit, rw (returns-long (start .args .parts .now) (start .args .returners .now)) at (start .pre .6 .returns-fit), c .before .before .before .before .before .before .before .before .before .before .before .before .before .before .before .before .before .before .before .guarded-blocks .ensures)
 
 loop-less : tie.Need-loop-less Inv-loop μ-loop
 loop-less c =
@@ -122,7 +124,7 @@ loop-holds c =
     let m = routesIn (a .s .now) (a .y) in
     let from = c .before .before in (
       refl,
-      holding-start m (blockHops m (a .nodes .now) (a .edges .now) (a .ends .now) (a .heads .now) (a .landings .now) (a .roots .now) (a .guards .now) (a .bases .now) (a .returns .now) (a .stored)) (λ k. k) [] (from .busy-blocks .result) (a .blocks) (a .h .now) (busy from .long) (busy-below m (a .nodes .now) (a .edges .now) (a .ends .now) (a .heads .now) (a .landings .now) (a .roots .now) (a .guards .now) (a .bases .now) (a .returns .now) (a .stored) (a .y .routes .count) (length-records routeFrom (a .s .now) (a .y .routes)) (from .busy-blocks .result) (busy from) (a .blocks) (start .pre .6)) (held-none m (a .h .now) (start .pre .4)),
+      holding-start m (blockHops m (a .nodes .now) (a .edges .now) (a .ends .now) (a .heads .now) (a .landings .now) (a .roots .now) (a .guards .now) (a .bases .now) (returnsIn (a .parts .now) (a .returners .now)) (a .stored)) (λ k. k) [] (from .busy-blocks .result) (a .blocks) (a .h .now) (busy from .long) (busy-below m (a .nodes .now) (a .edges .now) (a .ends .now) (a .heads .now) (a .landings .now) (a .roots .now) (a .guards .now) (a .bases .now) (returnsIn (a .parts .now) (a .returners .now)) (a .stored) (a .y .routes .count) (length-records routeFrom (a .s .now) (a .y .routes)) (from .busy-blocks .result) (busy from) (a .blocks) (start .pre .6)) (held-none m (a .h .now) (start .pre .4)),
       omega arith,
       λ h. absurd (omega arith),
       refl,
@@ -136,7 +138,7 @@ returns c =
     let m = routesIn (a .s .now) (a .y) in
     let from = c .before .before .before .before .before .before .before in
     let top = c .before .before .before .before .loop in
-    (holding-end m (blockHops m (a .nodes .now) (a .edges .now) (a .ends .now) (a .heads .now) (a .landings .now) (a .roots .now) (a .guards .now) (a .bases .now) (a .returns .now) (a .stored)) (λ k. k) [] (from .busy-blocks .result) (a .blocks) (busy-quiet m (a .nodes .now) (a .edges .now) (a .ends .now) (a .heads .now) (a .landings .now) (a .roots .now) (a .guards .now) (a .bases .now) (a .returns .now) (a .stored) (a .y .routes .count) (length-records routeFrom (a .s .now) (a .y .routes)) (from .busy-blocks .result) (busy from)) (λ k n h. h) (top .inv .1) (rw (c .enum-told .given .1) at (c .before .before .lowest-in .ensures)), top .inv .0)
+    (holding-end m (blockHops m (a .nodes .now) (a .edges .now) (a .ends .now) (a .heads .now) (a .landings .now) (a .roots .now) (a .guards .now) (a .bases .now) (returnsIn (a .parts .now) (a .returners .now)) (a .stored)) (λ k. k) [] (from .busy-blocks .result) (a .blocks) (busy-quiet m (a .nodes .now) (a .edges .now) (a .ends .now) (a .heads .now) (a .landings .now) (a .roots .now) (a .guards .now) (a .bases .now) (returnsIn (a .parts .now) (a .returners .now)) (a .stored) (a .y .routes .count) (length-records routeFrom (a .s .now) (a .y .routes)) (from .busy-blocks .result) (busy from)) (λ k n h. h) (top .inv .1) (rw (c .enum-told .given .1) at (c .before .before .lowest-in .ensures)), top .inv .0)
 
 add-exits-requires : tie.Need-add-exits-requires Inv-loop μ-loop
 add-exits-requires c κs =
@@ -148,9 +150,9 @@ add-exits-requires c κs =
     let low = rw (c .before .before .before .before .before .before .before .before .before .b .given .1) at (c .before .before .before .before .before .before .before .before .before .before .before .lowest-in .ensures) in
     let joined = c .before .before in
     let held = gathered joined in
-    let own = block-own m _ (a .nodes .now) (a .edges .now) (a .ends .now) (a .heads .now) (a .landings .now) (a .roots .now) (a .guards .now) (a .bases .now) (a .returns .now) (a .stored) _ (joined .if3 .n) (held .holds) in
-    let here = holding-here m (blockHops m (a .nodes .now) (a .edges .now) (a .ends .now) (a .heads .now) (a .landings .now) (a .roots .now) (a .guards .now) (a .bases .now) (a .returns .now) (a .stored)) (λ k. k) [] (from .busy-blocks .result) (a .blocks) (busy-quiet m (a .nodes .now) (a .edges .now) (a .ends .now) (a .heads .now) (a .landings .now) (a .roots .now) (a .guards .now) (a .bases .now) (a .returns .now) (a .stored) (a .y .routes .count) (length-records routeFrom (a .s .now) (a .y .routes)) (from .busy-blocks .result) (busy from)) (λ k n h. h) (top .inv .1) _ low in
-    let room = held-room m _ here _ (joined .if3 .n) (holding-fit m (blockHops m (a .nodes .now) (a .edges .now) (a .ends .now) (a .heads .now) (a .landings .now) (a .roots .now) (a .guards .now) (a .bases .now) (a .returns .now) (a .stored)) (λ k. k) [] (from .busy-blocks .result) (a .blocks) (busy-quiet m (a .nodes .now) (a .edges .now) (a .ends .now) (a .heads .now) (a .landings .now) (a .roots .now) (a .guards .now) (a .bases .now) (a .returns .now) (a .stored) (a .y .routes .count) (length-records routeFrom (a .s .now) (a .y .routes)) (from .busy-blocks .result) (busy from)) (λ k n h. h) (top .inv .1) _ low _ own (start .pre .5)) in
+    let own = block-own m _ (a .nodes .now) (a .edges .now) (a .ends .now) (a .heads .now) (a .landings .now) (a .roots .now) (a .guards .now) (a .bases .now) (returnsIn (a .parts .now) (a .returners .now)) (a .stored) _ (joined .if3 .n) (held .holds) in
+    let here = holding-here m (blockHops m (a .nodes .now) (a .edges .now) (a .ends .now) (a .heads .now) (a .landings .now) (a .roots .now) (a .guards .now) (a .bases .now) (returnsIn (a .parts .now) (a .returners .now)) (a .stored)) (λ k. k) [] (from .busy-blocks .result) (a .blocks) (busy-quiet m (a .nodes .now) (a .edges .now) (a .ends .now) (a .heads .now) (a .landings .now) (a .roots .now) (a .guards .now) (a .bases .now) (returnsIn (a .parts .now) (a .returners .now)) (a .stored) (a .y .routes .count) (length-records routeFrom (a .s .now) (a .y .routes)) (from .busy-blocks .result) (busy from)) (λ k n h. h) (top .inv .1) _ low in
+    let room = held-room m _ here _ (joined .if3 .n) (holding-fit m (blockHops m (a .nodes .now) (a .edges .now) (a .ends .now) (a .heads .now) (a .landings .now) (a .roots .now) (a .guards .now) (a .bases .now) (returnsIn (a .parts .now) (a .returners .now)) (a .stored)) (λ k. k) [] (from .busy-blocks .result) (a .blocks) (busy-quiet m (a .nodes .now) (a .edges .now) (a .ends .now) (a .heads .now) (a .landings .now) (a .roots .now) (a .guards .now) (a .bases .now) (returnsIn (a .parts .now) (a .returners .now)) (a .stored) (a .y .routes .count) (length-records routeFrom (a .s .now) (a .y .routes)) (from .busy-blocks .result) (busy from)) (λ k n h. h) (top .inv .1) _ low _ own (start .pre .5)) in
     (room .0, room .1, room .2, held .holds .ordered .fit)
 
 loop-again : tie.Need-loop-again Inv-loop μ-loop
@@ -163,11 +165,11 @@ loop-again c =
     let low = rw (c .before .before .before .before .before .before .before .before .before .before .b .given .1) at (c .before .before .before .before .before .before .before .before .before .before .before .before .lowest-in .ensures) in
     let joined = c .before .before .before in
     let held = gathered joined in
-    let own = block-own m _ (a .nodes .now) (a .edges .now) (a .ends .now) (a .heads .now) (a .landings .now) (a .roots .now) (a .guards .now) (a .bases .now) (a .returns .now) (a .stored) _ (joined .if3 .n) (held .holds) in
-    let here = holding-here m (blockHops m (a .nodes .now) (a .edges .now) (a .ends .now) (a .heads .now) (a .landings .now) (a .roots .now) (a .guards .now) (a .bases .now) (a .returns .now) (a .stored)) (λ k. k) [] (from .busy-blocks .result) (a .blocks) (busy-quiet m (a .nodes .now) (a .edges .now) (a .ends .now) (a .heads .now) (a .landings .now) (a .roots .now) (a .guards .now) (a .bases .now) (a .returns .now) (a .stored) (a .y .routes .count) (length-records routeFrom (a .s .now) (a .y .routes)) (from .busy-blocks .result) (busy from)) (λ k n h. h) (top .inv .1) _ low in
+    let own = block-own m _ (a .nodes .now) (a .edges .now) (a .ends .now) (a .heads .now) (a .landings .now) (a .roots .now) (a .guards .now) (a .bases .now) (returnsIn (a .parts .now) (a .returners .now)) (a .stored) _ (joined .if3 .n) (held .holds) in
+    let here = holding-here m (blockHops m (a .nodes .now) (a .edges .now) (a .ends .now) (a .heads .now) (a .landings .now) (a .roots .now) (a .guards .now) (a .bases .now) (returnsIn (a .parts .now) (a .returners .now)) (a .stored)) (λ k. k) [] (from .busy-blocks .result) (a .blocks) (busy-quiet m (a .nodes .now) (a .edges .now) (a .ends .now) (a .heads .now) (a .landings .now) (a .roots .now) (a .guards .now) (a .bases .now) (returnsIn (a .parts .now) (a .returners .now)) (a .stored) (a .y .routes .count) (length-records routeFrom (a .s .now) (a .y .routes)) (from .busy-blocks .result) (busy from)) (λ k n h. h) (top .inv .1) _ low in
     rw (c .before .before .before .before .before .before .before .take-from .ensures) (
       held .long ∙ top .inv .0,
-      holding-next m (blockHops m (a .nodes .now) (a .edges .now) (a .ends .now) (a .heads .now) (a .landings .now) (a .roots .now) (a .guards .now) (a .bases .now) (a .returns .now) (a .stored)) (λ k. k) [] (from .busy-blocks .result) (a .blocks) (busy-quiet m (a .nodes .now) (a .edges .now) (a .ends .now) (a .heads .now) (a .landings .now) (a .roots .now) (a .guards .now) (a .bases .now) (a .returns .now) (a .stored) (a .y .routes .count) (length-records routeFrom (a .s .now) (a .y .routes)) (from .busy-blocks .result) (busy from)) (λ k n h. h) (top .inv .1) _ low _ own _ (omega arith) (held-more m _ here _ (joined .if3 .n) (c .add-exits .ensures)),
+      holding-next m (blockHops m (a .nodes .now) (a .edges .now) (a .ends .now) (a .heads .now) (a .landings .now) (a .roots .now) (a .guards .now) (a .bases .now) (returnsIn (a .parts .now) (a .returners .now)) (a .stored)) (λ k. k) [] (from .busy-blocks .result) (a .blocks) (busy-quiet m (a .nodes .now) (a .edges .now) (a .ends .now) (a .heads .now) (a .landings .now) (a .roots .now) (a .guards .now) (a .bases .now) (returnsIn (a .parts .now) (a .returners .now)) (a .stored) (a .y .routes .count) (length-records routeFrom (a .s .now) (a .y .routes)) (from .busy-blocks .result) (busy from)) (λ k n h. h) (top .inv .1) _ low _ own _ (omega arith) (held-more m _ here _ (joined .if3 .n) (c .add-exits .ensures)),
       omega (arith, low .0),
       λ h. record { long = refl; holds = held .holds; most = held .most },
       listed (c .before .before .before .before .before .before) .0,

@@ -2,6 +2,8 @@
 use native.Mathlib.Omega.{arith}
 use Rattle.image.specs.Image.{routesIn}
 use Rattle.graph.specs.Words.{heldIn}
+use Rattle.unwind.specs.Placed.{returnsIn}
+use Rattle.unwind.proofs.ReturnLaws.{returns-long}
 use Rattle.unwind.proofs.TrieNodes.{stored-fits}
 use Rattle.unwind.proofs.LentLaws.{node-there}
 use Rattle.unwind.proofs.CopiesAre.{counted-all}
@@ -12,23 +14,23 @@ use Rattle.unwind.proofs.emit.total.count_hops.Tie as tie
 
 count-blocks-requires : tie.Need-count-blocks-requires
 count-blocks-requires c κs =
-    let start = c .before .before .before .before .before .before .before .before .before .before .before .before .before .before in
+    let start = c .before .before .before .before .before .before .before .before .before .before .before .before .before in
     let a = start .args in
     let blocks = c .before .block-count .ensures in (
       start .pre .0,
       start .pre .1,
       omega (arith, blocks, start .pre .6 .few),
       start .pre .7,
-      rw blocks (block-sets (heldIn (a .g .now) .graph) (routesIn (a .s .now) (a .y)) (a .guards .now) (a .bases .now) (a .returns .now) (a .stored) (start .pre .3) (start .pre .10) (start .pre .9)),
+      rw blocks (block-sets (heldIn (a .g .now) .graph) (routesIn (a .s .now) (a .y)) (a .guards .now) (a .bases .now) (returnsIn (a .parts .now) (a .returners .now)) (a .stored) (start .pre .3) (start .pre .9) (rw (returns-long (a .parts .now) (a .returners .now)) (start .pre .8))),
       search needs,
+      start .pre .11,
       start .pre .12,
       start .pre .13,
-      start .pre .14,
     )
 
 count-nodes-requires : tie.Need-count-nodes-requires
 count-nodes-requires c κs =
-    let start = c .before .before .before .before .before .before .before .before .before .before .before .before .before .before .before .before .before .before in
+    let start = c .before .before .before .before .before .before .before .before .before .before .before .before .before .before .before .before .before in
     let a = start .args in
     let t = start .pre .1 in
     let room = start .pre .7 in
@@ -38,18 +40,18 @@ count-nodes-requires c κs =
       start .pre .5,
       omega (arith, blocks, start .pre .6 .few),
       record { edges-few = room .edges-few; ends-few = room .ends-few; room = omega (arith, room .room, c .before .before .before .count-blocks .ensures .long) },
-      rw (blocks) (nodes-sets (heldIn (a .g .now) .graph) (routesIn (a .s .now) (a .y)) (a .guards .now) (a .bases .now) (a .parts .now) (a .returns .now) (a .stored) (start .pre .3) (start .pre .8) (start .pre .9)),
+      rw (blocks) (nodes-sets (heldIn (a .g .now) .graph) (routesIn (a .s .now) (a .y)) (a .guards .now) (a .bases .now) (a .parts .now) (returnsIn (a .parts .now) (a .returners .now)) (a .stored) (start .pre .3) (start .pre .8) (rw (returns-long (a .parts .now) (a .returners .now)) (start .pre .8))),
       search needs,
-      record { there = node-there (routesIn (a .s .now) (a .y)) (a .nodes .now) (a .edges .now) (a .ends .now) (a .roots .now) (a .stored) t (a .heads .now) (a .landings .now) (start .pre .12) (start .pre .13) },
-      start .pre .14,
+      record { there = node-there (routesIn (a .s .now) (a .y)) (a .nodes .now) (a .edges .now) (a .ends .now) (a .roots .now) (a .stored) t (a .heads .now) (a .landings .now) (start .pre .11) (start .pre .12) },
+      start .pre .13,
     )
 
 returns : tie.Need-returns
 returns c =
-    let start = c .before .before .before .before .before .before .before .before .before .before .before .before .before .before .before .before .before .before .before .before .before .before in
+    let start = c .before .before .before .before .before .before .before .before .before .before .before .before .before .before .before .before .before .before .before .before .before in
     let a = start .args in
     rw (c .sizes-both .ensures)
-    (counted-all (heldIn (a .g .now) .graph) (routesIn (a .s .now) (a .y)) (a .nodes .now) (a .edges .now) (a .ends .now) (a .roots .now) (a .heads .now) (a .landings .now) (a .guards .now) (a .bases .now) (a .parts .now) (a .returns .now) (a .stored) (start .pre .1) (start .pre .2) (start .pre .3) (start .pre .4) (omega (arith, start .pre .6 .few)) (start .pre .6 .some) (c .before .before .before .before .before .before .before .before .before .block-count .result) (c .before .before .before .before .before .before .before .before .before .block-count .ensures)
+    (counted-all (heldIn (a .g .now) .graph) (routesIn (a .s .now) (a .y)) (a .nodes .now) (a .edges .now) (a .ends .now) (a .roots .now) (a .heads .now) (a .landings .now) (a .guards .now) (a .bases .now) (a .parts .now) (returnsIn (a .parts .now) (a .returners .now)) (a .stored) (start .pre .1) (start .pre .2) (start .pre .3) (start .pre .4) (omega (arith, start .pre .6 .few)) (start .pre .6 .some) (c .before .before .before .before .before .before .before .before .before .block-count .result) (c .before .before .before .before .before .before .before .before .before .block-count .ensures)
     (c .before .before .before .before .before .before .before .count-blocks .ensures .of) (c .before .before .before .count-nodes .ensures .of))
 
 pub count-hops-spec : {M : Type 1} → statement M
