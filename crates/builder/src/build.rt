@@ -62,7 +62,7 @@ pub fn build(s: &[u8], g: &mut Words) -> Built
 }
 
 // The same of an image that was read, in the smallest frame that has room for it.
-fn build_read(s: &[u8], y: Layout, g: &mut Words) -> Built
+pub fn build_read(s: &[u8], y: Layout, g: &mut Words) -> Built
     requires { ⌜ Accepted (imageIn (now s) y) × ImageThere (now s) y ⌝ }
     ensures { λ r. ⌜ (buildAnswer (now (g .exit)) r ≡ buildOf (imageIn (now (s .entry)) y)) × BuildLeaves (now (g .entry)) (now (g .exit)) r ⌝ }
 {
