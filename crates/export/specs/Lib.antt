@@ -1,4 +1,5 @@
 pub mod Told
 pub mod Answers
 pub mod Additions
+pub mod Sequences
 pub mod Charts

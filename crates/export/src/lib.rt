@@ -3,3 +3,4 @@ pub mod add;
 pub mod build;
 pub mod chart;
 pub mod read;
+pub mod whole;

@@ -1,43 +1,36 @@
--- What a chart shows: the build, and the addition of the image's routes.
---     drawn-refused     a build that is refused
---     drawn-plain       a build of mode 0: no hops
---     drawn-added       a build of the other modes: what the addition gives
+-- What a chart shows of a sequence.
+--     linesOf     the lines of what an image gives
+--     drawn       are those of its chart
 -- Assumes nothing.
-use mathlib.Core.Path.{_≡_, ap, sym, _∙_}
+use mathlib.Core.Path.{_≡_, refl}
+use mathlib.Core.Bool.{Bool, true, false, cond}
 use mathlib.Core.List.{List, [], _∷_}
 use Prim.Native.Nat.{ℕ}
-use borrow.Author.Tests.{eq-eqb, ne-eqb}
+use lib.Dec.{eqb}
 use Rattle.image.specs.Little.{le1}
-use Rattle.image.specs.Refusal.{Refusal}
-use Rattle.image.specs.Image.{RouteImage}
-use Rattle.image.specs.Read.{readRoutes}
-use Rattle.graph.specs.Graph.{Held, held}
-use Rattle.graph.specs.Words.{heldIn}
-use Rattle.graph.specs.Build.{Outcome, built, buildFrom}
-use Rattle.unwind.specs.declared.add.AddedRoutes.{AddedRoutes}
-use Rattle.unwind.specs.HopWords.{rowsIn, noRows, rowHops, hopsIn}
-use Rattle.addition.specs.Add.{addRoutes}
-use Rattle.unwind.specs.Answers.{imageOf, answerOf}
-use Rattle.text.specs.Chart.{refusedLine, chartLines, chartOf, addedChart, routeBytes, withRoutes, chartFrom}
+use Rattle.graph.specs.Graph.{Graph, held}
+use Rattle.graph.specs.Build.{Outcome as Building, built, refused as notBuilt, buildFrom}
+use Rattle.addition.specs.Add.{Outcome as Adding, added, refused as notAdded, addRoutes}
+use Rattle.text.specs.Chart.{refusedLine, chartLines, chartOf, addedChart, routeBytes, withRoutes as chartWith, chartFrom}
+use Rattle.sequence.specs.Sequences.{Outcome, whole, unrouted, refused, routed, withRoutes, sequenceFrom}
+
+abbrev pub linesOf : Outcome → List (List ℕ)
+linesOf (whole a) = chartLines (a .graph) (a .hops)
+linesOf (unrouted g r) = refusedLine r ∷ []
+linesOf (refused r) = refusedLine r ∷ []
 
 module _ (l : List ℕ) where
-  pub drawn-refused : (r : Refusal) → Outcome.refused r ≡ buildFrom l → refusedLine r ∷ [] ≡ chartFrom l
-  unfolding chartOf withRoutes chartFrom
-  drawn-refused r e = rw (← e)
+  with-mode : (plain : Bool) (g : Graph) (o : Adding) → linesOf (cond plain (whole (record { graph = g; hops = [] })) (routed g o)) ≡ cond plain (chartOf (built g)) (addedChart o)
+  unfolding chartOf addedChart
+  with-mode true g o = refl
+  with-mode false g (added a) = refl
+  with-mode false g (notAdded r) = refl
 
-  module _ (w : List ℕ) (is : built (heldIn w .graph) ≡ buildFrom l) where
-    pub drawn-plain : le1 l 1 ≡ 0 → (m : RouteImage) (h : List ℕ) → rowsIn h ≡ noRows → chartLines (heldIn w .graph) (hopsIn m h) ≡ chartFrom l
-    unfolding chartOf withRoutes chartFrom rowHops
-    drawn-plain zero m h none = rw (← is, eq-eqb (le1 l 1) 0 zero, none)
+  with-routes : (x : Building) → linesOf (withRoutes l x) ≡ chartWith l x
+  unfolding withRoutes chartWith chartOf
+  with-routes (built g) = with-mode (eqb (le1 l 1) 0) g (addRoutes (held g) (routeBytes l))
+  with-routes (notBuilt r) = refl
 
-    routed : (le1 l 1 ≡ 0 → ⊥) → addedChart (addRoutes (held (heldIn w .graph)) (routeBytes l)) ≡ chartFrom l
-    unfolding withRoutes chartFrom
-    routed some = rw (← is, ne-eqb (le1 l 1) 0 some)
-
-    pub drawn-added : (le1 l 1 ≡ 0 → ⊥) → heldIn w ≡ held (heldIn w .graph) → (part w′ h′ : List ℕ) (r : AddedRoutes) → part ≡ routeBytes l
-        → answerOf (imageOf (readRoutes part)) w′ h′ r ≡ addRoutes (heldIn w) part
-        → addedChart (answerOf (imageOf (readRoutes (routeBytes l))) w′ h′ r) ≡ chartFrom l
-    drawn-added some whole part w′ h′ r cut e =
-        ap (λ (x : List ℕ). addedChart (answerOf (imageOf (readRoutes x)) w′ h′ r)) (sym cut)
-        ∙ ap addedChart (e ∙ ap (λ (x : List ℕ). addRoutes (heldIn w) x) cut ∙ ap (λ (x : Held). addRoutes x (routeBytes l)) whole)
-        ∙ routed some
+  pub drawn : linesOf (sequenceFrom l) ≡ chartFrom l
+  unfolding sequenceFrom chartFrom
+  drawn = with-routes (buildFrom l)
