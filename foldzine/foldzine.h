@@ -84,6 +84,14 @@ typedef struct {
     uint64_t second;
 } foldzine_answer;
 
+/* The same, and whether the graph of the sequence was built (0, 1). */
+typedef struct {
+    uint64_t built;
+    uint64_t number;
+    uint64_t first;
+    uint64_t second;
+} foldzine_sequence_answer;
+
 /* Number 0 and a count; or 21 and 0, where words hold no graph. */
 typedef struct {
     uint64_t number;
@@ -104,6 +112,18 @@ foldzine_answer foldzine_build(const uint8_t *image, size_t length, uint64_t wor
  */
 foldzine_answer foldzine_add_routes(uint64_t words[FOLDZINE_WORDS], const uint8_t *routes, size_t length,
                                     uint64_t hops[FOLDZINE_HOP_WORDS]);
+
+/*
+ * Builds the graph of a sequence image and, in modes 1 and 2, adds the image's
+ * own routes: a build and an addition in one, and faster than both. Mode 0 has
+ * no hops. Where the routes are refused, the graph stands as it was built and
+ * the hops stay as they were; where the build is, all words do.
+ */
+foldzine_sequence_answer foldzine_sequence(const uint8_t *image, size_t length, uint64_t words[FOLDZINE_WORDS],
+                                           uint64_t hops[FOLDZINE_HOP_WORDS]);
+
+/* Where the routes stand in a sequence image: the bytes from there on are its route image. */
+size_t foldzine_routes_at(const uint8_t *image, size_t length);
 
 /* Counts the blocks that edges of any kind lead to from the entry, itself among them. */
 foldzine_counted foldzine_reached(const uint64_t words[FOLDZINE_WORDS]);

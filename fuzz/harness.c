@@ -6,7 +6,7 @@
  * An input is: how many patches, from 0 to 3; each patch a word's number (2
  * bytes) and its value (8); the length of a route image (2 bytes); that route
  * image; the sequence image. The image is built, in modes 1 and 2 its routes
- * are added, the patches are put into the graph's words, and the route image is
+ * are added, by one call and by two, the patches are put into the graph's words, and the route image is
  * added.
  */
 #include <stdint.h>

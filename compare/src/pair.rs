@@ -2,7 +2,7 @@
 //! words that are lent to it.
 
 use oracle::chart;
-use oracle::image::{read_image, read_routes, Image, Refusal};
+use oracle::image::{read_image, read_routes, write_routes, Image, Refusal};
 use oracle::session::Session;
 
 use crate::hops::{self, HOP_WORDS};
@@ -104,6 +104,34 @@ impl<'l> Pair<'l> {
                 && hops::others_kept(self.hops, &self.before[..]);
         });
         agrees &= !self.texts || same(&proved::read_routes(bytes), &read_routes(bytes));
+        agrees &= answer.is_ok() || *self.hops == *self.before;
+        agrees &= self.words_agree();
+        self.hops.copy_from_slice(&self.before[..]);
+        Compared { answer, agrees }
+    }
+
+    /// Builds an image and adds its own routes, by the one call.
+    pub fn sequence(&mut self, bytes: &[u8]) -> Compared<()> {
+        let ours = proved::sequence(bytes, self.words, self.hops);
+        let theirs = read_image(bytes).and_then(|image| Ok((Session::build(&image)?, image)));
+        let built = theirs.is_ok();
+        let mut agrees = true;
+        let answer = theirs.and_then(|(mut session, image)| {
+            words::write(&mut self.wanted[..], &session.contents());
+            let hops = match image.mode {
+                0 => Ok(Vec::new()),
+                _ => session.add(&image.routes),
+            };
+            words::write_flow(&mut self.wanted[..], &session.contents());
+            self.session = Some(session);
+            self.changed = false;
+            let hops = hops?;
+            agrees &= proved::own_routes(bytes) == write_routes(&image.routes)
+                && hops::read(self.hops, &image.routes) == Some(hops)
+                && hops::others_kept(self.hops, &self.before[..]);
+            Ok(())
+        });
+        agrees &= ours.err() == answer.as_ref().err().map(|&refusal| (built, refusal));
         agrees &= answer.is_ok() || *self.hops == *self.before;
         agrees &= self.words_agree();
         self.hops.copy_from_slice(&self.before[..]);

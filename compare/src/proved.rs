@@ -13,6 +13,13 @@ struct Answer {
     second: u64,
 }
 
+/// The same of a sequence with its own routes, and whether its graph was built.
+#[repr(C)]
+struct SequenceAnswer {
+    built: u64,
+    refusal: Answer,
+}
+
 /// How many blocks are reached, or lines there are; number 21 where the words
 /// hold no graph.
 #[repr(C)]
@@ -29,6 +36,13 @@ extern "C" {
         length: usize,
         hops: *mut [u64; HOP_WORDS],
     ) -> Answer;
+    fn foldzine_sequence(
+        bytes: *const u8,
+        length: usize,
+        words: *mut [u64; WORDS],
+        hops: *mut [u64; HOP_WORDS],
+    ) -> SequenceAnswer;
+    fn foldzine_routes_at(bytes: *const u8, length: usize) -> usize;
     fn foldzine_reached(words: *const [u64; WORDS]) -> Counted;
     fn foldzine_line_count(words: *const [u64; WORDS]) -> Counted;
     fn foldzine_line(words: *const [u64; WORDS], line: usize, out: *mut [u8; LINE]) -> usize;
@@ -82,6 +96,24 @@ pub fn add_routes(
 ) -> Result<(), Refusal> {
     // SAFETY: the same.
     unsafe { foldzine_add_routes(words, bytes.as_ptr(), bytes.len(), hops) }.result()
+}
+
+/// Builds the graph of an image in lent words, and adds the image's own routes;
+/// refused, whether the graph was built.
+pub fn sequence(
+    bytes: &[u8],
+    words: &mut [u64; WORDS],
+    hops: &mut [u64; HOP_WORDS],
+) -> Result<(), (bool, Refusal)> {
+    // SAFETY: the same.
+    let answer = unsafe { foldzine_sequence(bytes.as_ptr(), bytes.len(), words, hops) };
+    answer.refusal.result().map_err(|refusal| (answer.built == 1, refusal))
+}
+
+/// The bytes of an image's own routes.
+pub fn own_routes(bytes: &[u8]) -> &[u8] {
+    // SAFETY: a slice passes as a pointer and a length, and is only read.
+    &bytes[unsafe { foldzine_routes_at(bytes.as_ptr(), bytes.len()) }..]
 }
 
 /// How many blocks are reached in the graph that words hold.

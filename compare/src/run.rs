@@ -68,9 +68,13 @@ impl Run<'_> {
         }
     }
 
-    /// An image, and its own routes.
+    /// An image, and its own routes, by one call and by two.
     fn image(&mut self, family: &Family, index: u64) {
         let bytes = generate::image(family, self.seed, index);
+        let compared = self.pair.sequence(&bytes);
+        self.tally.sequences += 1;
+        self.judge(index, &compared, &bytes);
+        self.pair.clear();
         let compared = self.pair.build(&bytes);
         self.tally.builds.take(&compared.answer);
         self.judge(index, &compared, &bytes);

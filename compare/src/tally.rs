@@ -11,6 +11,8 @@ const ADDITIONS: [u8; 12] = [1, 2, 10, 11, 12, 14, 15, 17, 18, 19, 20, 21];
 
 #[derive(Default)]
 pub struct Tally {
+    /// How many images with their own routes, by one call.
+    pub sequences: u64,
     pub builds: Count,
     pub additions: Count,
     /// How often a phrase of 21 was broken by itself.
@@ -55,6 +57,7 @@ impl Count {
 
 impl Tally {
     pub fn add(&mut self, other: Self) {
+        self.sequences += other.sequences;
         self.builds.add(other.builds);
         self.additions.add(other.additions);
         for (phrase, times) in other.phrases {
@@ -88,7 +91,12 @@ impl Tally {
             println!("21 for '{phrase}' alone {times:8}");
         }
         let (builds, additions) = (&self.builds, &self.additions);
-        println!("in all {} builds, {} additions", builds.total(), additions.total());
+        println!(
+            "in all {} builds, {} additions, {} of both in one",
+            builds.total(),
+            additions.total(),
+            self.sequences
+        );
         BUILDS.iter().all(|&number| builds.times(number) > 0)
             && ADDITIONS.iter().all(|&number| additions.times(number) > 0)
             && rule::NAMES.iter().all(|phrase| self.phrases.contains_key(phrase))

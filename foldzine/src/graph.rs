@@ -4,7 +4,7 @@ use crate::hops::{HopBuffer, Hops};
 use crate::raw;
 use crate::records::{Block, Call, Edge, Handler, Instruction, Record, Region, Unresolved};
 use crate::section::{Section, BLOCKS, CALLS, EDGES, ENTRY, HANDLERS, REGIONS, TABLE, UNRESOLVED};
-use crate::{zeros, Refusal, WORDS};
+use crate::{zeros, Refusal, Unrouted, WORDS};
 
 /// A control flow graph. Its words always hold one: of a new graph, that of no
 /// instruction, and then what `rebuild` and `add_routes` leave.
@@ -47,6 +47,24 @@ impl Graph {
         unsafe { raw::foldzine_add_routes(&mut *self.words, routes.as_ptr(), length, hops) }
             .result()?;
         Ok(Hops::new(&buffer.words, routes))
+    }
+
+    /// Puts the graph of a sequence image, with the image's own routes added, in
+    /// the place of this one, and answers their hops: `rebuild` and `add_routes`
+    /// in one, and faster. Of mode 0 there are none.
+    pub fn rebuild_routed<'h>(
+        &mut self,
+        image: &'h [u8],
+        buffer: &'h mut HopBuffer,
+    ) -> Result<Hops<'h>, Unrouted> {
+        let (at, length, hops) = (image.as_ptr(), image.len(), &mut *buffer.words);
+        // SAFETY: the same.
+        let answer = unsafe { raw::foldzine_sequence(at, length, &mut *self.words, hops) };
+        let built = answer.built == 1;
+        answer.refusal.result().map_err(|refusal| Unrouted { built, refusal })?;
+        // SAFETY: a slice passes as a pointer and a length, and is only read.
+        let routes = unsafe { raw::foldzine_routes_at(at, length) };
+        Ok(Hops::new(&buffer.words, &image[routes..]))
     }
 
     /// How many blocks are reached from the entry.

@@ -2,7 +2,8 @@
 //!
 //! A sequence image goes in as bytes; [`Graph::build`] answers its graph or the
 //! [`Refusal`] of document 01. [`Graph::add_routes`] adds unwind routes to a
-//! graph, as often as one likes, and answers the [`Hops`] of that addition.
+//! graph, as often as one likes, and answers the [`Hops`] of that addition;
+//! [`Graph::rebuild_routed`] does both for an image that carries its routes.
 //!
 //! The proved functions promise what they return and what they leave in the
 //! words that they are lent, for any input whatever; nothing of that is tested
@@ -40,6 +41,22 @@ impl fmt::Display for Refusal {
 }
 
 impl std::error::Error for Refusal {}
+
+/// A sequence without its routes: `built` says whether its graph stands, whose
+/// routes were refused then, or nothing was built and all is as it was.
+#[derive(Debug, Clone, Copy, PartialEq, Eq)]
+pub struct Unrouted {
+    pub built: bool,
+    pub refusal: Refusal,
+}
+
+impl fmt::Display for Unrouted {
+    fn fmt(&self, formatter: &mut fmt::Formatter<'_>) -> fmt::Result {
+        self.refusal.fmt(formatter)
+    }
+}
+
+impl std::error::Error for Unrouted {}
 
 impl raw::Answer {
     fn result(self) -> Result<(), Refusal> {

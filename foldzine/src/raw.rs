@@ -13,6 +13,13 @@ pub struct Answer {
     pub second: u64,
 }
 
+/// Of a sequence with its own routes.
+#[repr(C)]
+pub struct SequenceAnswer {
+    pub built: u64,
+    pub refusal: Answer,
+}
+
 /// Of reached blocks, and of lines.
 #[repr(C)]
 pub struct Counted {
@@ -28,6 +35,13 @@ extern "C" {
         length: usize,
         hops: *mut [u64; HOP_WORDS],
     ) -> Answer;
+    pub fn foldzine_sequence(
+        image: *const u8,
+        length: usize,
+        words: *mut [u64; WORDS],
+        hops: *mut [u64; HOP_WORDS],
+    ) -> SequenceAnswer;
+    pub fn foldzine_routes_at(image: *const u8, length: usize) -> usize;
     pub fn foldzine_reached(words: *const [u64; WORDS]) -> Counted;
     pub fn foldzine_line_count(words: *const [u64; WORDS]) -> Counted;
     pub fn foldzine_line(words: *const [u64; WORDS], line: usize, out: *mut [u8; LINE]) -> usize;

@@ -1,6 +1,6 @@
 //! The sample of the examples: what it holds, and what is built of it.
 
-use foldzine::{Block, Edge, Graph, HopBuffer, Refusal};
+use foldzine::{Block, Edge, Graph, HopBuffer, Refusal, Unrouted};
 
 const IMAGE: &[u8] = include_bytes!("../examples/sequence.image");
 const ROUTES: &[u8] = include_bytes!("../examples/sequence.routes");
@@ -98,6 +98,23 @@ fn the_routes_are_added() {
     let ends: Vec<(usize, usize)> = graph.edges().map(|edge| (edge.source, edge.target)).collect();
     assert_eq!(ends, [(0, 1), (0, 3), (0, 5), (3, 2), (5, 4)]);
     assert_eq!(graph.reached(), 6);
+}
+
+#[test]
+fn a_sequence_brings_its_routes() {
+    let mut graph = Graph::build(IMAGE).expect("the sample is accepted");
+    let mut buffer = HopBuffer::new();
+    let hops = graph.add_routes(ROUTES, &mut buffer).expect("the routes fit").chart();
+    let (mut routed, mut own) = (Graph::new(), HopBuffer::new());
+    assert_eq!(
+        routed.rebuild_routed(IMAGE, &mut own).expect("the sample is accepted").chart(),
+        hops
+    );
+    assert_eq!(routed.chart(), graph.chart());
+    let refusal = Refusal { number: 1, first: 3, second: 0 };
+    let unrouted = Unrouted { built: false, refusal };
+    assert_eq!(routed.rebuild_routed(&IMAGE[..3], &mut own).err(), Some(unrouted));
+    assert_eq!(routed.chart(), graph.chart());
 }
 
 #[test]

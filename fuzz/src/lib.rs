@@ -68,8 +68,10 @@ pub unsafe extern "C" fn compare_new(
 pub unsafe extern "C" fn compare_one(pair: &mut Pair<'static>, strings: &Strings) -> bool {
     let input = strings.input();
     pair.clear();
+    let mut agrees = pair.sequence(input.image).agrees;
+    pair.clear();
     let built = pair.build(input.image);
-    let mut agrees = built.agrees;
+    agrees &= built.agrees;
     if let Ok(image) = built.answer {
         if image.mode != 0 {
             let length = write_routes(&image.routes).len();
