@@ -51,8 +51,13 @@ impl Case {
         (100_000 / (self.bytes.len() + 400)).max(1)
     }
 
-    /// Reads, builds and adds.
+    /// Reads, builds and adds, by one call.
     pub fn whole(&mut self) -> bool {
+        proved::sequence(black_box(&self.bytes), &mut self.words, &mut self.hops)
+    }
+
+    /// The same by two.
+    pub fn by_two(&mut self) -> bool {
         proved::build(black_box(&self.bytes), &mut self.words)
             && proved::add(&mut self.words, black_box(&self.routes), &mut self.hops)
     }
@@ -63,35 +68,39 @@ impl Case {
         proved::add(&mut self.words, black_box(&self.routes), &mut self.hops)
     }
 
-    /// Nanoseconds of a call: the proved code whole, and its addition alone.
-    pub fn time_proved(&mut self) -> [f64; 2] {
+    /// Nanoseconds of the proved code: by one call, by two, and the addition
+    /// alone.
+    pub fn time_proved(&mut self) -> [f64; 3] {
         let times = self.times();
-        [time(times, || self.whole()), time(times, || self.add())]
+        let whole = time(times, || self.whole());
+        [whole, time(times, || self.by_two()), time(times, || self.add())]
     }
 
     /// The same of the Rust: reading, build and addition; build and addition
     /// of inputs that were made beforehand; the addition alone.
     pub fn time_rust(&self) -> [f64; 3] {
         let times = self.times();
-        let mut kept = Vec::with_capacity(times);
+        let mut kept = Vec::with_capacity(2 * times);
         let read = time(times, || kept.push(self.read_and_add()));
-        let copies = vec![Inputs::of(&self.image); times];
+        let inputs = vec![Inputs::of(&self.image); 2 * times];
         let routes = published::routes(&self.image.routes);
-        let (mut graphs, mut hops) = (Vec::with_capacity(times), Vec::with_capacity(times));
-        let start = Instant::now();
-        for copy in copies {
+        let (mut graphs, mut hops) = (Vec::with_capacity(2 * times), Vec::new());
+        hops.reserve(4 * times);
+        let mut copies = inputs.clone().into_iter();
+        let whole = time(times, || {
+            let copy = copies.next().expect("a copy for each call");
             let mut graph = black_box(copy).build().expect("an image that is accepted");
             hops.push(graph.add_unwind_routes(black_box(&routes), published::payload));
             graphs.push(graph);
-        }
-        let whole = start.elapsed().as_nanos() as f64 / times as f64;
-        let inputs = vec![Inputs::of(&self.image); times];
-        let mut graphs: Vec<Built> = inputs.into_iter().flat_map(Inputs::build).collect();
-        let start = Instant::now();
-        for graph in &mut graphs {
+        });
+        let built: Vec<Built> = inputs.into_iter().flat_map(Inputs::build).collect();
+        let mut built = built.into_iter();
+        let added = time(times, || {
+            let mut graph = built.next().expect("a graph for each call");
             hops.push(graph.add_unwind_routes(black_box(&routes), published::payload));
-        }
-        [read, whole, start.elapsed().as_nanos() as f64 / times as f64]
+            graphs.push(graph);
+        });
+        [read, whole, added]
     }
 
     fn read_and_add(&self) -> Built {
@@ -107,8 +116,12 @@ fn add(graph: &mut Built, image: &Image) {
     black_box(graph.add_unwind_routes(&routes, published::payload)).expect("routes that fit");
 }
 
-/// Nanoseconds for one of `times` calls.
+/// Nanoseconds for one of `times` calls. As many before them are not timed: they
+/// find in the caches what ran before.
 pub fn time<T>(times: usize, mut call: impl FnMut() -> T) -> f64 {
+    for _ in 0..times {
+        black_box(call());
+    }
     let start = Instant::now();
     for _ in 0..times {
         black_box(call());

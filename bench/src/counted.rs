@@ -2,7 +2,7 @@
 
 use std::hint::black_box;
 
-use oracle::image::{write_routes, Image};
+use oracle::image::Image;
 use oracle::published;
 use oracle::session::Inputs;
 
@@ -37,15 +37,16 @@ pub fn count(side: &str, work: &str, name: &str) {
 }
 
 fn count_proved(image: &Image, add: bool) {
-    let (bytes, routes) = (image.write(), write_routes(&image.routes));
+    let bytes = image.write();
     let mut words: Box<[u64; WORDS]> = vec![0; WORDS].try_into().expect("as many words");
     let mut hops: Box<[u64; HOP_WORDS]> = vec![0; HOP_WORDS].try_into().expect("as many words");
     let mut accepted = false;
     counted(&mut || {
-        accepted = proved::build(&bytes, &mut words);
-        if add {
-            accepted &= proved::add(&mut words, &routes, &mut hops);
-        }
+        accepted = if add {
+            proved::sequence(&bytes, &mut words, &mut hops)
+        } else {
+            proved::build(&bytes, &mut words)
+        };
     });
     assert!(accepted);
 }

@@ -3,7 +3,8 @@
 //! held against a plain one, on images of three sizes and on some that are
 //! refused; the build, which reads its image too, against the published build
 //! whose input was made beforehand, and against the same that reads its image
-//! too; the addition of routes after that build likewise, and alone.
+//! too; the addition of routes after that build likewise, by one call and by
+//! two, and alone.
 //!
 //! `bench list` and `bench count SIDE WORK NAME` are for `count.sh`, which
 //! counts machine instructions instead of time.
@@ -16,7 +17,6 @@ mod programs;
 mod proved;
 
 use std::hint::black_box;
-use std::time::Instant;
 
 use added::{time, Case};
 use oracle::image::{read_image, Image};
@@ -48,7 +48,10 @@ fn time_all(turns: usize) {
     for (name, image) in programs::all() {
         build(name, &image, turns);
     }
-    head_with_reading("build and add");
+    println!(
+        "{:28} {:>8} {:>10} {:>10} {:>10} {:>7} {:>10} {:>7}",
+        "build and add", "bytes", "proved ns", "two calls", "Rust ns", "ratio", "reading", "ratio"
+    );
     let cases: Vec<_> = programs::added()
         .into_iter()
         .map(|(name, image)| add(name, Case::new(name, image), turns))
@@ -68,14 +71,19 @@ fn head_with_reading(work: &str) {
 
 /// Tells the build with its addition; answers the addition alone.
 fn add(name: &'static str, mut case: Case, turns: usize) -> (&'static str, usize, f64, f64) {
-    let (mut ours, mut theirs) = ([f64::MAX; 2], [f64::MAX; 3]);
+    let (mut ours, mut theirs) = ([f64::MAX; 3], [f64::MAX; 3]);
     for _ in 0..turns {
         ours = least(ours, case.time_proved());
         theirs = least(theirs, case.time_rust());
     }
-    let [read, whole, alone] = theirs;
-    tell_with_reading(name, case.bytes(), ours[0], whole, read);
-    (name, case.bytes(), ours[1], alone)
+    let ([one, two, added], [read, whole, alone]) = (ours, theirs);
+    println!(
+        "{name:28} {:8} {one:10.1} {two:10.1} {whole:10.1} {:7.2} {read:10.1} {:7.2}",
+        case.bytes(),
+        one / whole,
+        one / read
+    );
+    (name, case.bytes(), added, alone)
 }
 
 fn least<const N: usize>(one: [f64; N], other: [f64; N]) -> [f64; N] {
@@ -102,12 +110,13 @@ fn build(name: &str, image: &Image, turns: usize) {
     let (mut ours, mut theirs, mut reading) = (f64::MAX, f64::MAX, f64::MAX);
     for _ in 0..turns {
         ours = ours.min(time(times, || proved::build(black_box(&bytes), &mut words)));
-        let mut built = Vec::with_capacity(2 * times);
+        let mut built = Vec::with_capacity(4 * times);
         reading = reading.min(time(times, || built.push(read_and_build(black_box(&bytes)))));
-        let copies = vec![inputs.clone(); times];
-        let start = Instant::now();
-        built.extend(copies.into_iter().flat_map(|copy| black_box(copy).build()));
-        theirs = theirs.min(start.elapsed().as_nanos() as f64 / times as f64);
+        let mut copies = vec![inputs.clone(); 2 * times].into_iter();
+        theirs = theirs.min(time(times, || {
+            let copy = copies.next().expect("a copy for each call");
+            built.push(black_box(copy).build().expect("an image that is accepted"));
+        }));
     }
     tell_with_reading(name, bytes.len(), ours, theirs, reading);
 }

@@ -12,6 +12,12 @@ struct Answer {
     second: u64,
 }
 
+#[repr(C)]
+struct SequenceAnswer {
+    built: u64,
+    refusal: Answer,
+}
+
 extern "C" {
     fn foldzine_read_image(bytes: *const u8, length: usize, told: *mut [u64; 10]);
     fn foldzine_build(bytes: *const u8, length: usize, words: *mut [u64; WORDS]) -> Answer;
@@ -21,6 +27,12 @@ extern "C" {
         length: usize,
         hops: *mut [u64; HOP_WORDS],
     ) -> Answer;
+    fn foldzine_sequence(
+        bytes: *const u8,
+        length: usize,
+        words: *mut [u64; WORDS],
+        hops: *mut [u64; HOP_WORDS],
+    ) -> SequenceAnswer;
 }
 
 /// Whether the build of an image was not refused.
@@ -35,6 +47,14 @@ pub fn add(words: &mut [u64; WORDS], bytes: &[u8], hops: &mut [u64; HOP_WORDS]) 
     // SAFETY: the same.
     let answer = unsafe { foldzine_add_routes(words, bytes.as_ptr(), bytes.len(), hops) };
     answer.number == 0
+}
+
+/// Whether the build of an image and the addition of its own routes, by one
+/// call, were not refused.
+pub fn sequence(bytes: &[u8], words: &mut [u64; WORDS], hops: &mut [u64; HOP_WORDS]) -> bool {
+    // SAFETY: the same.
+    let answer = unsafe { foldzine_sequence(bytes.as_ptr(), bytes.len(), words, hops) };
+    answer.built == 1 && answer.refusal.number == 0
 }
 
 pub fn read_image(bytes: &[u8]) -> Result<Counts, Refusal> {
