@@ -1,4 +1,4 @@
-// Sets of blocks, of which there are 1,024: block b is bit b % 64 of word b / 64. No other module looks into a set's words.
+// Sets of blocks, of which there are 1,024: block b is bit b % 64 of word b / 64. No other module of this crate looks into a set's words.
 ghost use mathlib.Core.Path.{_≡_};
 ghost use mathlib.Core.Bool.{true};
 ghost use Prim.Native.Nat.{ℕ, _-_, _*_, _/_, _%_, _^_, _≤_, _<_};
