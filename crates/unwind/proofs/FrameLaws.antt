@@ -2,6 +2,7 @@
 --     all-few, all-small           no routes and no graph has more
 --     framed                       a frame for no more than so many, by its lengths
 --     scratched, roomed            its room for the tries, and where they stand
+--     listed                       its stack is room for a list of the nodes
 --     nodes-checked                the checks of the nodes in scratch
 --     placements, at-hand          the instances, and then the sides
 -- Assumes nothing.
@@ -60,13 +61,13 @@ all-small w = record { blocks-few = block-most w; edges-few = edge-most w }
 
 -- a frame, by its lengths
 pub framed : {y : RouteLayout} {g : Graph} {starts nodes edges ends stack roots head next bases heads parts guards landings exits : List ℕ} (steps paths routes blocks links : ℕ)
-    → Few y steps paths routes → Small g blocks links → steps ≤ 512 → paths ≤ 128 → blocks < 6 * (steps + paths)
+    → Few y steps paths routes → Small g blocks links → steps ≤ 512 → paths ≤ 128 → routes ≤ 2 * steps → blocks < 6 * (steps + paths)
     → length starts ≡ paths + 1 → length nodes ≡ 6 * (routes + steps) → length edges ≡ 3 * steps → length ends ≡ 3 * paths → length stack ≡ 3 * steps → length roots ≡ routes
     → length head ≡ blocks → length next ≡ links → head ≡ replicate (length head) 0
     → length bases ≡ routes + steps → length heads ≡ routes + steps → length parts ≡ 16 * (routes + steps)
     → length guards ≡ 16 * routes → length landings ≡ paths → length exits ≡ 6 * (steps + paths) → exits ≡ replicate (length exits) 0
     → Frame y g starts nodes edges ends stack roots head next bases heads parts guards landings exits
-framed steps paths routes blocks links few small steps-most paths-most blocks-most starts-long nodes-long edges-long ends-long stack-long roots-long head-long next-long unlinked bases-long heads-long parts-long guards-long landings-long exits-long unplaced =
+framed steps paths routes blocks links few small steps-most paths-most routes-most blocks-most starts-long nodes-long edges-long ends-long stack-long roots-long head-long next-long unlinked bases-long heads-long parts-long guards-long landings-long exits-long unplaced =
     record {
       steps = steps;
       paths = paths;
@@ -77,6 +78,7 @@ framed steps paths routes blocks links few small steps-most paths-most blocks-mo
       small = small;
       steps-most = steps-most;
       paths-most = paths-most;
+      routes-most = routes-most;
       blocks-most = blocks-most;
       starts-long = starts-long;
       nodes-long = nodes-long;
@@ -127,6 +129,10 @@ module _ (s : List ℕ) (y : RouteLayout) (g : Graph) {starts nodes edges ends s
         firsts-fit = omega (arith, f .small .blocks-few, f .blocks-most, f .exits-long);
         unplaced = f .unplaced;
       }
+
+  -- the stack, for a list of the nodes
+  pub listed : {nodes′ edges′ ends′ roots′ : List ℕ} {c : Counts} → TriesIn (routesIn s y) nodes′ edges′ ends′ roots′ c → length nodes′ ≡ length nodes → c .nodes ≤ length stack
+  listed t nodes-kept = omega (arith, t .stored .nodes-fit, f .nodes-long, f .stack-long, f .routes-most)
 
 -- ---- what stands
 

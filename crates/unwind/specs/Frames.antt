@@ -46,6 +46,7 @@ pub record Frame (y : RouteLayout) (g : Graph) (starts nodes edges ends stack ro
   pub small : Small g blocks links
   pub steps-most : steps ≤ 512
   pub paths-most : paths ≤ 128
+  pub routes-most : routes ≤ 2 * steps
   pub blocks-most : blocks < 6 * (steps + paths)
   pub starts-long : length starts ≡ paths + 1
   pub nodes-long : length nodes ≡ 6 * (routes + steps)

@@ -102,7 +102,7 @@ fn add_tries(
     landings: &mut [u16],
     exits: &mut [u16],
 ) -> AddedRoutes
-    requires { ⌜ RoutesChecked (heldIn (now g)) built (routesIn (now s) y) × TriesIn (routesIn (now s) y) (now nodes) (now edges) (now ends) (now roots) stored × Room (heldIn (now g) .graph) (routesIn (now s) y) (now edges) (now ends) (now head) (now next) (now bases) (now heads) (now parts) (now guards) (now landings) (now exits) stored × RoutesThere (now s) y ⌝ }
+    requires { ⌜ RoutesChecked (heldIn (now g)) built (routesIn (now s) y) × TriesIn (routesIn (now s) y) (now nodes) (now edges) (now ends) (now roots) stored × Room (heldIn (now g) .graph) (routesIn (now s) y) (now edges) (now ends) (now head) (now next) (now bases) (now heads) (now parts) (now guards) (now landings) (now exits) stored × RoutesThere (now s) y × (stored .nodes ≤ length (now hints)) ⌝ }
     ensures { λ r. ⌜ Adds (routesIn (now (s .entry)) y) (now (g .entry)) (now (g .exit)) (now (h .entry)) (now (h .exit)) r ⌝ }
 {
     let n = stored.nodes;
@@ -172,11 +172,12 @@ fn place(
     )
 }
 
-// Instances that are placed: the blocks that routes guard, those of handlers, and those that return.
+// Instances that are placed: the blocks that routes guard, those of handlers, and those that return. Then no hint is
+// asked for, and `hints` is room for a list of nodes.
 fn add_instances(
     g: &mut Words,
     built: usize,
-    hints: &[u16],
+    hints: &mut [u16],
     s: &[u8],
     y: RouteLayout,
     h: &mut Hops,
@@ -194,7 +195,7 @@ fn add_instances(
     landings: &mut [u16],
     exits: &mut [u16],
 ) -> AddedRoutes
-    requires { ⌜ RoutesChecked (heldIn (now g)) built (routesIn (now s) y) × Placements (heldIn (now g) .graph) (routesIn (now s) y) (now nodes) (now edges) (now ends) (now roots) (now head) (now next) (now bases) (now heads) (now parts) (now guards) (now landings) (now exits) stored × RoutesThere (now s) y ⌝ }
+    requires { ⌜ RoutesChecked (heldIn (now g)) built (routesIn (now s) y) × Placements (heldIn (now g) .graph) (routesIn (now s) y) (now nodes) (now edges) (now ends) (now roots) (now head) (now next) (now bases) (now heads) (now parts) (now guards) (now landings) (now exits) stored × RoutesThere (now s) y × (stored .nodes ≤ length (now hints)) ⌝ }
     ensures { λ r. ⌜ Sized (routesIn (now (s .entry)) y) (now (g .entry)) (now (g .exit)) (now (h .entry)) (now (h .exit)) r ⌝ }
 {
     guard_routes(g, built, s, y, guards);
@@ -219,6 +220,7 @@ fn add_instances(
         guards,
         landings,
         stored,
+        hints,
         exits,
     )
 }

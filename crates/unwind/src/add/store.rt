@@ -21,7 +21,7 @@ use graph::store::edges::edge_count;
 use image::section::RouteLayout;
 ghost use mathlib.Core.Path.{_≡_};
 ghost use mathlib.Core.Bool.{_&&_};
-ghost use Prim.Native.Nat.{_+_};
+ghost use Prim.Native.Nat.{_+_, _≤_};
 ghost use lib.Dec.{leb};
 ghost use lib.ListN.{length};
 ghost use Rattle.image.specs.Refusal.{refusal, clear, _then_, unless};
@@ -56,9 +56,10 @@ pub fn add_placed(
     guards: &[u64],
     landings: &[u16],
     stored: Counts,
+    originals: &mut [u16],
     exits: &mut [u16],
 ) -> AddedRoutes
-    requires { ⌜ AtHand (heldIn (now g)) (routesIn (now s) y) (now nodes) (now edges) (now ends) (now roots) (now head) (now next) (now bases) (now heads) (now parts) (returnsIn (now parts) (now returners)) (now guards) (now landings) (now exits) stored × RoutesThere (now s) y ⌝ }
+    requires { ⌜ AtHand (heldIn (now g)) (routesIn (now s) y) (now nodes) (now edges) (now ends) (now roots) (now head) (now next) (now bases) (now heads) (now parts) (returnsIn (now parts) (now returners)) (now guards) (now landings) (now exits) stored × RoutesThere (now s) y × (stored .nodes ≤ length (now originals)) ⌝ }
     ensures { λ r. ⌜ Sized (routesIn (now (s .entry)) y) (now (g .entry)) (now (g .exit)) (now (h .entry)) (now (h .exit)) r ⌝ }
 {
     if let Checked::Refused(e) = check_sizes(
@@ -78,6 +79,7 @@ pub fn add_placed(
         guards,
         landings,
         stored,
+        originals,
         exits,
     ) {
         return AddedRoutes::Refused(e);
@@ -100,6 +102,7 @@ pub fn add_placed(
         guards,
         landings,
         stored,
+        originals,
         exits,
     );
     AddedRoutes::Stored
@@ -123,9 +126,10 @@ fn check_sizes(
     guards: &[u64],
     landings: &[u16],
     stored: Counts,
+    originals: &mut [u16],
     exits: &mut [u16],
 ) -> Checked
-    requires { ⌜ AtHand (heldIn (now g)) (routesIn (now s) y) (now nodes) (now edges) (now ends) (now roots) (now head) (now next) (now bases) (now heads) (now parts) (returnsIn (now parts) (now returners)) (now guards) (now landings) (now exits) stored × RoutesThere (now s) y ⌝ }
+    requires { ⌜ AtHand (heldIn (now g)) (routesIn (now s) y) (now nodes) (now edges) (now ends) (now roots) (now head) (now next) (now bases) (now heads) (now parts) (returnsIn (now parts) (now returners)) (now guards) (now landings) (now exits) stored × RoutesThere (now s) y × (stored .nodes ≤ length (now originals)) ⌝ }
     ensures { λ r. ⌜ checkOf r ≡ sizeCheck (addition (heldIn (now (g .entry)) .graph) (routesOf (routesIn (now (s .entry)) y))) ⌝ }
 {
     let copies = clone_edge_count(g, head, next, bases, parts, stored.nodes);
@@ -162,6 +166,7 @@ fn check_sizes(
         parts,
         returners,
         stored,
+        originals,
         exits,
     );
     check_counts(g, copies, sizes)
@@ -206,9 +211,10 @@ fn store_addition(
     guards: &[u64],
     landings: &[u16],
     stored: Counts,
+    originals: &mut [u16],
     exits: &mut [u16],
 )
-    requires { ⌜ AtHand (heldIn (now g)) (routesIn (now s) y) (now nodes) (now edges) (now ends) (now roots) (now head) (now next) (now bases) (now heads) (now parts) (returnsIn (now parts) (now returners)) (now guards) (now landings) (now exits) stored × (sizeCheck (addition (heldIn (now g) .graph) (routesOf (routesIn (now s) y))) ≡ clear) × RoutesThere (now s) y ⌝ }
+    requires { ⌜ AtHand (heldIn (now g)) (routesIn (now s) y) (now nodes) (now edges) (now ends) (now roots) (now head) (now next) (now bases) (now heads) (now parts) (returnsIn (now parts) (now returners)) (now guards) (now landings) (now exits) stored × (sizeCheck (addition (heldIn (now g) .graph) (routesOf (routesIn (now s) y))) ≡ clear) × RoutesThere (now s) y × (stored .nodes ≤ length (now originals)) ⌝ }
     ensures { λ _. ⌜ Laid (now (g .entry)) (now (g .exit)) (addition (heldIn (now (g .entry)) .graph) (routesOf (routesIn (now (s .entry)) y)) .graph) × HopsLaid (routesIn (now (s .entry)) y) (now (h .entry)) (now (h .exit)) (addition (heldIn (now (g .entry)) .graph) (routesOf (routesIn (now (s .entry)) y)) .hops) ⌝ }
 {
     let blocks = block_count(g);
@@ -228,6 +234,7 @@ fn store_addition(
         parts,
         returners,
         stored,
+        originals,
         exits,
     );
     add_clone_edges(g, head, next, bases, parts, stored.nodes);

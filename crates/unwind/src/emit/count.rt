@@ -37,7 +37,8 @@ pub struct Sizes {
 // No end: what stands before the first entry.
 const NOWHERE: usize = 65536;
 
-// Those of the hops out of the first `blocks` blocks, which stood before: of each that has a way out.
+// Those of the hops out of the first `blocks` blocks, which stood before: of each that has a way out. `originals` is
+// room for a list of nodes.
 pub fn count_blocks(
     s: &[u8],
     y: RouteLayout,
@@ -53,9 +54,10 @@ pub fn count_blocks(
     returners: &[u64; 16],
     stored: Counts,
     blocks: usize,
+    originals: &mut [u16],
     exits: &mut [u16],
 ) -> Sizes
-    requires { ⌜ AcceptedRoutes (routesIn (now s) y) × TriesIn (routesIn (now s) y) (now nodes) (now edges) (now ends) (now roots) stored × (blocks ≤ 1024) × Roomy (now edges) (now ends) (now exits) × BlockSets (now guards) (returnsIn (now parts) (now returners)) blocks (length (routesIn (now s) y .routes)) (stored .nodes) × RoutesThere (now s) y × (stored .nodes ≤ length (now heads)) × (stored .ends ≤ length (now landings)) × (stored .nodes ≤ length (now bases)) ⌝ }
+    requires { ⌜ AcceptedRoutes (routesIn (now s) y) × TriesIn (routesIn (now s) y) (now nodes) (now edges) (now ends) (now roots) stored × (blocks ≤ 1024) × Roomy (now edges) (now ends) (now exits) × BlockSets (now guards) (returnsIn (now parts) (now returners)) blocks (length (routesIn (now s) y .routes)) (stored .nodes) × RoutesThere (now s) y × (stored .nodes ≤ length (now heads)) × (stored .ends ≤ length (now landings)) × (stored .nodes ≤ length (now bases)) × (stored .nodes ≤ length (now originals)) ⌝ }
     ensures { λ r. ⌜ SumSize (flat (blockHops (routesIn (now (s .entry)) y) (now (nodes .entry)) (now (edges .entry)) (now (ends .entry)) (now (heads .entry)) (now (landings .entry)) (now (roots .entry)) (now (guards .entry)) (now (bases .entry)) (returnsIn (now (parts .entry)) (now (returners .entry))) stored) blocks) (now (exits .entry)) (now (exits .exit)) r ⌝ }
 {
     let routes = y.routes.count as usize;
@@ -79,7 +81,6 @@ pub fn count_blocks(
             &mut turns,
         );
     }
-    let mut originals = [0u16; 544];
     let mut listed = 0;
     let mut last = 1024;
     let mut n = 0;
@@ -89,14 +90,7 @@ pub fn count_blocks(
         };
         take_from(&mut left, b);
         if b / 64 != last / 64 {
-            listed = original_nodes(
-                bases,
-                parts,
-                returners,
-                stored.nodes,
-                b / 64,
-                &mut originals,
-            );
+            listed = original_nodes(bases, parts, returners, stored.nodes, b / 64, originals);
         }
         if !goes_on(worth, &turns, last, b) {
             n = gather_block(
@@ -113,7 +107,7 @@ pub fn count_blocks(
                 bases,
                 parts,
                 returners,
-                &originals,
+                originals,
                 listed,
                 stored,
                 b,

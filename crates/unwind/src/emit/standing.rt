@@ -26,7 +26,8 @@ ghost use Rattle.unwind.specs.Lent.{Roomy, blockHops};
 ghost use Rattle.unwind.specs.HopWords.{rowsIn, noRows, HopsHeld, HopsFit};
 ghost use Rattle.unwind.specs.Members.{BlockSets};
 
-// Those of the first `blocks` blocks, of each that has a way out, into words that hold none.
+// Those of the first `blocks` blocks, of each that has a way out, into words that hold none. `originals` is room for a
+// list of nodes.
 pub fn add_blocks(
     h: &mut Hops,
     s: &[u8],
@@ -43,9 +44,10 @@ pub fn add_blocks(
     returners: &[u64; 16],
     stored: Counts,
     blocks: usize,
+    originals: &mut [u16],
     exits: &mut [u16],
 )
-    requires { ⌜ AcceptedRoutes (routesIn (now s) y) × TriesIn (routesIn (now s) y) (now nodes) (now edges) (now ends) (now roots) stored × (blocks ≤ 1024) × Roomy (now edges) (now ends) (now exits) × (rowsIn (now h) ≡ noRows) × HopsFit (flat (blockHops (routesIn (now s) y) (now nodes) (now edges) (now ends) (now heads) (now landings) (now roots) (now guards) (now bases) (returnsIn (now parts) (now returners)) stored) blocks) × BlockSets (now guards) (returnsIn (now parts) (now returners)) blocks (length (routesIn (now s) y .routes)) (stored .nodes) × RoutesThere (now s) y × (stored .nodes ≤ length (now heads)) × (stored .ends ≤ length (now landings)) × (stored .nodes ≤ length (now bases)) ⌝ }
+    requires { ⌜ AcceptedRoutes (routesIn (now s) y) × TriesIn (routesIn (now s) y) (now nodes) (now edges) (now ends) (now roots) stored × (blocks ≤ 1024) × Roomy (now edges) (now ends) (now exits) × (rowsIn (now h) ≡ noRows) × HopsFit (flat (blockHops (routesIn (now s) y) (now nodes) (now edges) (now ends) (now heads) (now landings) (now roots) (now guards) (now bases) (returnsIn (now parts) (now returners)) stored) blocks) × BlockSets (now guards) (returnsIn (now parts) (now returners)) blocks (length (routesIn (now s) y .routes)) (stored .nodes) × RoutesThere (now s) y × (stored .nodes ≤ length (now heads)) × (stored .ends ≤ length (now landings)) × (stored .nodes ≤ length (now bases)) × (stored .nodes ≤ length (now originals)) ⌝ }
     ensures { λ _. ⌜ HopsHeld (routesIn (now (s .entry)) y) blocks (now (h .entry)) (now (h .exit)) (flat (blockHops (routesIn (now (s .entry)) y) (now (nodes .entry)) (now (edges .entry)) (now (ends .entry)) (now (heads .entry)) (now (landings .entry)) (now (roots .entry)) (now (guards .entry)) (now (bases .entry)) (returnsIn (now (parts .entry)) (now (returners .entry))) stored) blocks) × (length (now (exits .exit)) ≡ length (now (exits .entry))) ⌝ }
 {
     let routes = y.routes.count as usize;
@@ -64,7 +66,6 @@ pub fn add_blocks(
             &mut turns,
         );
     }
-    let mut originals = [0u16; 544];
     let mut listed = 0;
     let mut last = 1024;
     let mut n = 0;
@@ -74,14 +75,7 @@ pub fn add_blocks(
         };
         take_from(&mut left, b);
         if b / 64 != last / 64 {
-            listed = original_nodes(
-                bases,
-                parts,
-                returners,
-                stored.nodes,
-                b / 64,
-                &mut originals,
-            );
+            listed = original_nodes(bases, parts, returners, stored.nodes, b / 64, originals);
         }
         if !goes_on(worth, &turns, last, b) {
             n = gather_block(
@@ -98,7 +92,7 @@ pub fn add_blocks(
                 bases,
                 parts,
                 returners,
-                &originals,
+                originals,
                 listed,
                 stored,
                 b,

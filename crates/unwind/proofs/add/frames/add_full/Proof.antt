@@ -9,7 +9,7 @@ use Rattle.unwind.proofs.add.frames.add_full.Tie as tie
 add-framed-requires : tie.Need-add-framed-requires
 add-framed-requires c κs =
     let start = c .before .before .before .before .before .before .before .before .before .before .before .before .before .before .before .before .before in
-    (start .pre .0, search needs, framed 512 128 32 1024 4096 (all-few (start .args .s .now) (start .args .y) (start .pre .0 .accepted)) (all-small (start .args .g .now)) (omega arith) (omega arith) (omega arith) refl refl refl refl refl refl refl refl refl refl refl refl refl refl refl refl)
+    (start .pre .0, search needs, framed 512 128 32 1024 4096 (all-few (start .args .s .now) (start .args .y) (start .pre .0 .accepted)) (all-small (start .args .g .now)) (omega arith) (omega arith) (omega arith) (omega arith) refl refl refl refl refl refl refl refl refl refl refl refl refl refl refl refl)
 
 pub add-full-spec : {M : Type 1} → statement M
 add-full-spec =

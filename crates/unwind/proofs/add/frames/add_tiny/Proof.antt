@@ -9,7 +9,7 @@ use Rattle.unwind.proofs.add.frames.add_tiny.Tie as tie
 add-framed-requires : tie.Need-add-framed-requires
 add-framed-requires c κs =
     let start = c .before .before .before .before .before .before .before .before .before .before .before .before .before .before .before .before .before in
-    (start .pre .0, search needs, framed 6 6 2 64 256 (start .pre .1) (start .pre .2) (omega arith) (omega arith) (omega arith) refl refl refl refl refl refl refl refl refl refl refl refl refl refl refl refl)
+    (start .pre .0, search needs, framed 6 6 2 64 256 (start .pre .1) (start .pre .2) (omega arith) (omega arith) (omega arith) (omega arith) refl refl refl refl refl refl refl refl refl refl refl refl refl refl refl refl)
 
 pub add-tiny-spec : {M : Type 1} → statement M
 add-tiny-spec =

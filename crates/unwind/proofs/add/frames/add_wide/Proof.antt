@@ -9,7 +9,7 @@ use Rattle.unwind.proofs.add.frames.add_wide.Tie as tie
 add-framed-requires : tie.Need-add-framed-requires
 add-framed-requires c κs =
     let start = c .before .before .before .before .before .before .before .before .before .before .before .before .before .before .before .before .before in
-    (start .pre .0, search needs, framed 128 48 12 1024 4096 (start .pre .1) (all-small (start .args .g .now)) (omega arith) (omega arith) (omega arith) refl refl refl refl refl refl refl refl refl refl refl refl refl refl refl refl)
+    (start .pre .0, search needs, framed 128 48 12 1024 4096 (start .pre .1) (all-small (start .args .g .now)) (omega arith) (omega arith) (omega arith) (omega arith) refl refl refl refl refl refl refl refl refl refl refl refl refl refl refl refl)
 
 pub add-wide-spec : {M : Type 1} → statement M
 add-wide-spec =

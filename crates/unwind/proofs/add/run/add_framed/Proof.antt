@@ -1,7 +1,7 @@
 -- `add_framed` meets its contract: a frame has room for the tries, and for what is made of them. Assumes nothing.
 use mathlib.Core.Path.{_∙_}
 use Rattle.graph.specs.Words.{heldIn}
-use Rattle.unwind.proofs.FrameLaws.{scratched, roomed}
+use Rattle.unwind.proofs.FrameLaws.{scratched, roomed, listed}
 use borrow.Author.Needs.{needs}
 use Rattle.unwind.proofs.add.run.add_framed.Statement.{statement}
 use Rattle.unwind.proofs.add.run.add_framed.Tie as tie
@@ -18,7 +18,7 @@ add-tries-requires c κs =
     let a = start .args in
     let tries = c .before .before .before .before .before .before .before .before .before .before .before .before .before .before .before .before .before .before .before .before .before .before .before .before .before .before .before .intern-routes in
     let kept = tries .kept .1 .1 .1 in
-    (start .pre .0, tries .ensures, roomed (a .s .now) (a .y) (heldIn (a .g .now) .graph) (start .pre .2) (tries .ensures) (kept .0) (kept .1 .0) (kept .1 .1 .0), search needs)
+    (start .pre .0, tries .ensures, roomed (a .s .now) (a .y) (heldIn (a .g .now) .graph) (start .pre .2) (tries .ensures) (kept .0) (kept .1 .0) (kept .1 .1 .0), search needs, rw (kept .1 .1 .1 .0) (listed (a .s .now) (a .y) (heldIn (a .g .now) .graph) (start .pre .2) (tries .ensures) (kept .0)))
 
 same-length : tie.Need-same-length
 same-length c = c .before .before .before .before .before .before .before .before .before .before .before .before .before .before .before .before .before .before .before .before .before .before .before .before .before .before .before .before .before .before .before .before .before .before .before .before .before .before .before .before .before .before .before .before .before .before .intern-routes .kept .1 .1 .0

@@ -18,7 +18,7 @@ guard-routes-requires c κs =
 
 land-ends-requires : tie.Need-land-ends-requires
 land-ends-requires c κs =
-    let start = c .before .before .before .before .before .before .before .before .before .before .before .before .before .before .before .before .before .before .before .before .before in
+    let start = c .before .before .before .before .before .before .before .before .before .before .before .before .before .before .before .before .before .before .before .before .before .before in
     let a = start .args in
     let k = start .pre .0 in
     let p = start .pre .1 in
@@ -26,19 +26,19 @@ land-ends-requires c κs =
 
 returning-blocks-requires : tie.Need-returning-blocks-requires
 returning-blocks-requires c κs =
-    let start = c .before .before .before .before .before .before .before .before .before .before .before .before .before .before .before .before .before .before .before .before .before .before .before .before .before .before in
+    let start = c .before .before .before .before .before .before .before .before .before .before .before .before .before .before .before .before .before .before .before .before .before .before .before .before .before .before .before in
     (stands-of (heldIn (start .args .g .now)) (start .pre .0 .graphed), refl)
 
 add-placed-requires : tie.Need-add-placed-requires
 add-placed-requires c κs =
-    let start = c .before .before .before .before .before .before .before .before .before .before .before .before .before .before .before .before .before .before .before .before .before .before .before .before .before .before .before .before .before .before .before .before .before in
+    let start = c .before .before .before .before .before .before .before .before .before .before .before .before .before .before .before .before .before .before .before .before .before .before .before .before .before .before .before .before .before .before .before .before .before .before .before in
     let a = start .args in
     let k = start .pre .0 in
     let p = start .pre .1 in
-    let guarded = c .before .before .before .before .before .before .before .before .before .before .before .before .before .before .before .before .guard-routes in
-    let landed = c .before .before .before .before .before .before .before .before .before .before .before .land-ends in
-    let returned = c .before .before .before .before .before .before .returning-blocks .ensures in
-    (at-hand (heldIn (a .g .now)) (a .built) (routesIn (a .s .now) (a .y)) k (a .nodes .now) (a .edges .now) (a .ends .now) (a .roots .now) (a .stored) p _ returned (guarded .ensures) (guarded .kept .1 .1 .1 .1 .0) (landed .ensures) (landed .kept .1 .1 .1 .1 .1 .1 .1 .0), search needs)
+    let guarded = c .before .before .before .before .before .before .before .before .before .before .before .before .before .before .before .before .before .before .guard-routes in
+    let landed = c .before .before .before .before .before .before .before .before .before .before .before .before .land-ends in
+    let returned = c .before .before .before .before .before .before .before .returning-blocks .ensures in
+    (at-hand (heldIn (a .g .now)) (a .built) (routesIn (a .s .now) (a .y)) k (a .nodes .now) (a .edges .now) (a .ends .now) (a .roots .now) (a .stored) p _ returned (guarded .ensures) (guarded .kept .1 .1 .1 .1 .0) (landed .ensures) (landed .kept .1 .1 .1 .1 .1 .1 .1 .0), search needs, start .pre .3)
 
 pub add-instances-spec : {M : Type 1} → statement M
 add-instances-spec =
@@ -48,6 +48,7 @@ add-instances-spec =
     land-ends-requires
     returning-blocks-requires
     add-placed-requires
+    (λ c. search needs)
     (λ c. search needs)
     (λ c. search needs)
     (λ c. search needs)

@@ -25,61 +25,57 @@ use Rattle.unwind.proofs.emit.standing.add_blocks.Statement.{statement}
 use Rattle.unwind.proofs.emit.standing.add_blocks.Tie as tie
 
 abbrev Inv-loop : tie.InvT-loop
-Inv-loop h₀ s y nodes edges ends heads landings roots guards bases parts returners stored blocks exits₀ routes guarded left₀ worth turns originals₀ listed₀ last₀ n₀ h exits left originals listed last n =
+Inv-loop h₀ s y nodes edges ends heads landings roots guards bases parts returners stored blocks originals₀ exits₀ routes guarded left₀ worth turns listed₀ last₀ n₀ h originals exits left listed last n =
     (length exits ≡ length exits₀)
     × SetHolding (routesIn s y) (blockHops (routesIn s y) nodes edges ends heads landings roots guards bases (returnsIn parts returners) stored) (λ k. k) [] left₀ blocks left h₀ h
     × (last ≤ 1024)
     × (last < 1024 → BlockHeld (routesIn s y) last (blockRecords (routesIn s y) last nodes edges ends heads landings roots guards bases (returnsIn parts returners) stored) edges ends exits exits n)
-    × (length originals ≡ 544)
+    × (length originals ≡ length originals₀)
     × (last < 1024 → Originals bases (returnsIn parts returners) originals (stored .nodes) (last / 64) listed)
 
 abbrev μ-loop : tie.MeasureT-loop
-μ-loop h₀ s y nodes edges ends heads landings roots guards bases parts returners stored blocks exits₀ routes guarded left₀ worth turns originals₀ listed₀ last₀ n₀ h exits left originals listed last n = sizeOf left
+μ-loop h₀ s y nodes edges ends heads landings roots guards bases parts returners stored blocks originals₀ exits₀ routes guarded left₀ worth turns listed₀ last₀ n₀ h originals exits left listed last n = sizeOf left
 
 guarded-blocks-requires : tie.Need-guarded-blocks-requires Inv-loop μ-loop
 guarded-blocks-requires c κs =
-    let start = c .before .before .before .before .before .before .before .before .before .before .before .before in
+    let start = c .before .before .before .before .before .before .before .before .before .before .before .before .before in
     omega (arith, length-records routeFrom (start .args .s .now) (start .args .y .routes), start .pre .6 .guards-fit)
 
 busy-blocks-requires : tie.Need-busy-blocks-requires Inv-loop μ-loop
-busy-blocks-requires c κs = let start = c .before .before .before .before .before .before .before .before .before .before .before .before .before .before in (rw (returns-long (start .args .parts .now) (start .args .returners .now)) at (start .pre .6 .returns-fit), start .pre .10)
+busy-blocks-requires c κs = let start = c .before .before .before .before .before .before .before .before .before .before .before .before .before .before .before in (rw (returns-long (start .args .parts .now) (start .args .returners .now)) at (start .pre .6 .returns-fit), start .pre .10)
 
 -- the blocks to go over are those that have a way out
-busy : (c : tie.After-busy-blocks Inv-loop μ-loop) → let a = c .before .before .before .before .before .before .before .before .before .before .before .before .before .before .before .args in Busy (a .guards .now) (a .y .routes .count) (a .bases .now) (returnsIn (a .parts .now) (a .returners .now)) (a .stored .nodes) (c .busy-blocks .result)
+busy : (c : tie.After-busy-blocks Inv-loop μ-loop) → let a = c .before .before .before .before .before .before .before .before .before .before .before .before .before .before .before .before .args in Busy (a .guards .now) (a .y .routes .count) (a .bases .now) (returnsIn (a .parts .now) (a .returners .now)) (a .stored .nodes) (c .busy-blocks .result)
 busy c = c .busy-blocks .ensures _ _ (c .before .before .guarded-blocks .ensures)
-
-slice-aggregate-original-nodes : tie.Need-slice-aggregate-original-nodes Inv-loop μ-loop
-slice-aggregate-original-nodes c = sym (c .before .before .before .before .before .before .before .before .before .loop .inv .4)
 
 original-nodes-requires : tie.Need-original-nodes-requires Inv-loop μ-loop
 original-nodes-requires c κs =
-    let start = c .before .before .before .before .before .before .before .before .before .before .before .before .before .before .before .before .before .before .before .before .before .before .before .before .before .before .before in
+    let start = c .before .before .before .before .before .before .before .before .before .before .before .before .before .before .before .before .before .before .before .before .before .before .before .before .before .before .before .before in
     let low = rw (c .before .before .before .before .before .b .given .1) at (c .before .before .before .before .before .before .before .lowest-in .ensures) in
-    let most = start .pre .1 .nodes-most in
-    (omega (arith, most, c .before .before .before .before .before .before .before .before .before .loop .inv .4), most, rw (returns-long (start .args .parts .now) (start .args .returners .now)) at (start .pre .6 .returns-fit), omega (arith, low .0), start .pre .10)
+    (omega (arith, start .pre .11, c .before .before .before .before .before .before .before .before .before .loop .inv .4), start .pre .1 .nodes-most, rw (returns-long (start .args .parts .now) (start .args .returners .now)) at (start .pre .6 .returns-fit), omega (arith, low .0), start .pre .10)
 
 mark-turns-requires : tie.Need-mark-turns-requires Inv-loop μ-loop
 mark-turns-requires c κs =
-    let start = c .before .before .before .before .before .before .before .before .before .before .before .before .before .before .before .before .before .before in
+    let start = c .before .before .before .before .before .before .before .before .before .before .before .before .before .before .before .before .before .before .before in
     (omega (arith, length-records routeFrom (start .args .s .now) (start .args .y .routes), start .pre .6 .guards-fit), rw (returns-long (start .args .parts .now) (start .args .returners .now)) at (start .pre .6 .returns-fit), start .pre .2)
 
 -- the nodes of the block's word are listed, now or for the last block
-listed : (c : tie.Joined2 Inv-loop μ-loop) → let a = c .before .before .before .before .before .before .before .before .before .before .before .before .before .before .before .before .before .before .before .before .before .before .before .before .before .before .args in (length (c .if2 .originals) ≡ 544) × Originals (a .bases .now) (returnsIn (a .parts .now) (a .returners .now)) (c .if2 .originals) (a .stored .nodes) (c .before .before .before .before .b .given .0 .0 / 64) (c .if2 .listed)
+listed : (c : tie.Joined2 Inv-loop μ-loop) → let a = c .before .before .before .before .before .before .before .before .before .before .before .before .before .before .before .before .before .before .before .before .before .before .before .before .before .before .before .args in (length (c .if2 .originals) ≡ length (a .originals .now)) × Originals (a .bases .now) (returnsIn (a .parts .now) (a .returners .now)) (c .if2 .originals) (a .stored .nodes) (c .before .before .before .before .b .given .0 .0 / 64) (c .if2 .listed)
 listed c =
     let top = c .before .before .before .before .before .before .before .before .loop in
     let low = rw (c .before .before .before .before .b .given .1) at (c .before .before .before .before .before .before .lowest-in .ensures) in
     ⊎-elim
-    (λ w. rw (w .4, w .5) (w .2 .kept .1 .1 .1 .1 .1 .0 ∙ top .inv .4, w .2 .ensures))
+    (λ w. rw (w .5, w .6) (w .2 .kept .1 .1 .1 .1 .1 .0 ∙ top .inv .4, w .2 .ensures))
     (λ w. rw (w .1, w .2, w .0 .left) (top .inv .4, top .inv .5 (omega (arith, low .0, w .0 .left))))
     (c .if2 .came)
 
 -- what stands in scratch is gathered of this block, or of the last and the same
-gathered : (c : tie.Joined3 Inv-loop μ-loop) → let a = c .before .before .before .before .before .before .before .before .before .before .before .before .before .before .before .before .before .before .before .before .before .before .before .before .before .before .before .before .before .args in let m = routesIn (a .s .now) (a .y) in BlockHeld m (c .before .before .before .before .before .before .before .b .given .0 .0) (blockRecords m (c .before .before .before .before .before .before .before .b .given .0 .0) (a .nodes .now) (a .edges .now) (a .ends .now) (a .heads .now) (a .landings .now) (a .roots .now) (a .guards .now) (a .bases .now) (returnsIn (a .parts .now) (a .returners .now)) (a .stored)) (a .edges .now) (a .ends .now) (c .before .before .before .before .before .before .before .before .before .before .before .loop .exits) (c .if3 .exits) (c .if3 .n)
+gathered : (c : tie.Joined3 Inv-loop μ-loop) → let a = c .before .before .before .before .before .before .before .before .before .before .before .before .before .before .before .before .before .before .before .before .before .before .before .before .before .before .before .before .before .before .args in let m = routesIn (a .s .now) (a .y) in BlockHeld m (c .before .before .before .before .before .before .before .b .given .0 .0) (blockRecords m (c .before .before .before .before .before .before .before .b .given .0 .0) (a .nodes .now) (a .edges .now) (a .ends .now) (a .heads .now) (a .landings .now) (a .roots .now) (a .guards .now) (a .bases .now) (returnsIn (a .parts .now) (a .returners .now)) (a .stored)) (a .edges .now) (a .ends .now) (c .before .before .before .before .before .before .before .before .before .before .before .loop .exits) (c .if3 .exits) (c .if3 .n)
 gathered c =
     ⊎-elim
     (λ w. rw (w .7, w .8) (w .4 .ensures))
     (λ w.
-    let start = c .before .before .before .before .before .before .before .before .before .before .before .before .before .before .before .before .before .before .before .before .before .before .before .before .before .before .before .before .before in
+    let start = c .before .before .before .before .before .before .before .before .before .before .before .before .before .before .before .before .before .before .before .before .before .before .before .before .before .before .before .before .before .before in
     let a = start .args in
     let m = routesIn (a .s .now) (a .y) in
     let top = c .before .before .before .before .before .before .before .before .before .before .before .loop in
@@ -96,20 +92,20 @@ gathered c =
     (c .if3 .came)
 
 same-length : tie.Need-same-length Inv-loop μ-loop
-same-length c = c .before .before .before .before .loop .inv .0
+same-length c = c .before .before .before .before .loop .inv .4
+
+same-length-2 : tie.Need-same-length-2 Inv-loop μ-loop
+same-length-2 c = c .before .before .before .before .loop .inv .0
 
 goes-on-requires : tie.Need-goes-on-requires Inv-loop μ-loop
 goes-on-requires c κs = c .before .before .before .before .before .before .before .before .before .loop .inv .2
 
-slice-aggregate-gather-block : tie.Need-slice-aggregate-gather-block Inv-loop μ-loop
-slice-aggregate-gather-block c = sym (listed (c .before .before .before .before .before) .0)
-
 gather-block-requires : tie.Need-gather-block-requires Inv-loop μ-loop
 gather-block-requires c κs =
-    let start = c .before .before .before .before .before .before .before .before .before .before .before .before .before .before .before .before .before .before .before .before .before .before .before .before .before .before .before .before .before .before .before .before in
+    let start = c .before .before .before .before .before .before .before .before .before .before .before .before .before .before .before .before .before .before .before .before .before .before .before .before .before .before .before .before .before .before .before .before .before in
     let top = c .before .before .before .before .before .before .before .before .before .before .before .before .before .before .loop in
     let low = rw (c .before .before .before .before .before .before .before .before .before .before .b .given .1) at (c .before .before .before .before .before .before .before .before .before .before .before .before .lowest-in .ensures) in
-    (start .pre .0, start .pre .1, low .0, omega (arith, start .pre .3 .room, top .inv .0), listed (c .before .before .before .before .before .before) .1, search needs, start .pre .8, start .pre .9, omega (arith, start .pre .1 .nodes-most, listed (c .before .before .before .before .before .before) .0), start .pre .6 .guards-fit, rw (returns-long (start .args .parts .now) (start .args .returners .now)) at (start .pre .6 .returns-fit), c .before .before .before .before .before .before .before .before .before .before .before .before .before .before .before .before .before .before .before .guarded-blocks .ensures)
+    (start .pre .0, start .pre .1, low .0, omega (arith, start .pre .3 .room, top .inv .0), listed (c .before .before .before .before .before .before) .1, search needs, start .pre .8, start .pre .9, omega (arith, start .pre .11, listed (c .before .before .before .before .before .before) .0), start .pre .6 .guards-fit, rw (returns-long (start .args .parts .now) (start .args .returners .now)) at (start .pre .6 .returns-fit), c .before .before .before .before .before .before .before .before .before .before .before .before .before .before .before .before .before .before .before .guarded-blocks .ensures)
 
 loop-less : tie.Need-loop-less Inv-loop μ-loop
 loop-less c =
@@ -119,7 +115,7 @@ loop-less c =
 
 loop-holds : tie.Need-loop-holds Inv-loop μ-loop
 loop-holds c =
-    let start = c .before .before .before .before .before .before .before .before .before .before .before .before .before .before .before .before .before in
+    let start = c .before .before .before .before .before .before .before .before .before .before .before .before .before .before .before .before .before .before in
     let a = start .args in
     let m = routesIn (a .s .now) (a .y) in
     let from = c .before .before in (
@@ -133,7 +129,7 @@ loop-holds c =
 
 returns : tie.Need-returns Inv-loop μ-loop
 returns c =
-    let start = c .before .before .before .before .before .before .before .before .before .before .before .before .before .before .before .before .before .before .before .before .before .before in
+    let start = c .before .before .before .before .before .before .before .before .before .before .before .before .before .before .before .before .before .before .before .before .before .before .before in
     let a = start .args in
     let m = routesIn (a .s .now) (a .y) in
     let from = c .before .before .before .before .before .before .before in
@@ -142,7 +138,7 @@ returns c =
 
 add-exits-requires : tie.Need-add-exits-requires Inv-loop μ-loop
 add-exits-requires c κs =
-    let start = c .before .before .before .before .before .before .before .before .before .before .before .before .before .before .before .before .before .before .before .before .before .before .before .before .before .before .before .before .before .before .before in
+    let start = c .before .before .before .before .before .before .before .before .before .before .before .before .before .before .before .before .before .before .before .before .before .before .before .before .before .before .before .before .before .before .before .before in
     let a = start .args in
     let m = routesIn (a .s .now) (a .y) in
     let from = c .before .before .before .before .before .before .before .before .before .before .before .before .before .before .before .before in
@@ -157,7 +153,7 @@ add-exits-requires c κs =
 
 loop-again : tie.Need-loop-again Inv-loop μ-loop
 loop-again c =
-    let start = c .before .before .before .before .before .before .before .before .before .before .before .before .before .before .before .before .before .before .before .before .before .before .before .before .before .before .before .before .before .before .before .before in
+    let start = c .before .before .before .before .before .before .before .before .before .before .before .before .before .before .before .before .before .before .before .before .before .before .before .before .before .before .before .before .before .before .before .before .before in
     let a = start .args in
     let m = routesIn (a .s .now) (a .y) in
     let from = c .before .before .before .before .before .before .before .before .before .before .before .before .before .before .before .before .before in
@@ -192,12 +188,11 @@ add-blocks-spec =
     (λ c. search needs)
     (λ c. search needs)
     same-length
+    same-length-2
     returns
     (λ c κs. search needs)
-    slice-aggregate-original-nodes
     original-nodes-requires
     goes-on-requires
-    slice-aggregate-gather-block
     gather-block-requires
     add-exits-requires
     loop-less
