@@ -1,4 +1,5 @@
 -- The graph after the addition: its blocks, its edges, and what they lead to.
+--     sum-same                     a sum hangs on f below n alone
 --     filled-after                 as much of the table is filled before an old block
 --     built-up, built-down         the built blocks are the same afterwards
 --     old-block, image-block       the block at an old number, and where an instance has a block
@@ -38,7 +39,7 @@ use Rattle.addition.proofs.NewEdges.{Clone, copies, cloned}
 
 -- ---- built blocks
 
-sum-same : (f f′ : ℕ → ℕ) (n : ℕ) → ((i : ℕ) → i < n → f i ≡ f′ i) → sum f n ≡ sum f′ n
+pub sum-same : (f f′ : ℕ → ℕ) (n : ℕ) → ((i : ℕ) → i < n → f i ≡ f′ i) → sum f n ≡ sum f′ n
 unfolding sum
 sum-same f f′ zero same = refl
 sum-same f f′ (suc n) same = omega (arith, sum-same f f′ n (λ i h. same i (omega arith)), same n (omega arith))

@@ -20,3 +20,4 @@ pub mod AgainBlocks
 pub mod AgainEdges
 pub mod AgainWays
 pub mod Again
+pub mod Own
