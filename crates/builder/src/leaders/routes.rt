@@ -19,7 +19,7 @@ const FUNCLET: u64 = 0;
 const HANDLER: u64 = 0;
 
 pub fn mark_routes(
-    marks: [bool; 512],
+    mut marks: [bool; 512],
     s: &[u8],
     y: Layout,
     hints: &[u16],
@@ -28,26 +28,20 @@ pub fn mark_routes(
     requires { ⌜ Passed (imageIn (now s) y) × («code_end» ≡ codeEnd (tableOf (imageIn (now s) y))) × ImageThere (now s) y ⌝ }
     ensures { λ r. ⌜ Marked (y .code .instructions .count) (routeMark (imageIn (now (s .entry)) y)) marks r ⌝ }
 {
-    let marks = mark_route_ranges(marks, s, y, hints, code_end);
-    let marks = mark_funclets(marks, s, y, hints);
-    mark_path_ends(marks, s, y, hints)
+    mark_route_ranges(&mut marks, s, y, hints, code_end);
+    mark_funclets(&mut marks, s, y, hints);
+    mark_path_ends(&mut marks, s, y, hints);
+    marks
 }
 
-fn mark_route_ranges(
-    mut marks: [bool; 512],
-    s: &[u8],
-    y: Layout,
-    hints: &[u16],
-    code_end: u64,
-) -> [bool; 512]
+fn mark_route_ranges(marks: &mut [bool; 512], s: &[u8], y: Layout, hints: &[u16], code_end: u64)
     requires { ⌜ Passed (imageIn (now s) y) × («code_end» ≡ codeEnd (tableOf (imageIn (now s) y))) × ImageThere (now s) y ⌝ }
-    ensures { λ r. ⌜ Marked (y .code .instructions .count) (routeRangeMark (imageIn (now (s .entry)) y)) marks r ⌝ }
+    ensures { λ _. ⌜ Marked (y .code .instructions .count) (routeRangeMark (imageIn (now (s .entry)) y)) (now (marks .entry)) (now (marks .exit)) ⌝ }
 {
     let n = y.routes.routes.count as usize;
     for r in 0..n {
-        mark_route_range(&mut marks, s, y, hints, code_end, r);
+        mark_route_range(marks, s, y, hints, code_end, r);
     }
-    marks
 }
 
 fn mark_route_range(
@@ -74,15 +68,14 @@ fn mark_route_range(
 }
 
 // The funclets that the routes' paths enter.
-fn mark_funclets(mut marks: [bool; 512], s: &[u8], y: Layout, hints: &[u16]) -> [bool; 512]
+fn mark_funclets(marks: &mut [bool; 512], s: &[u8], y: Layout, hints: &[u16])
     requires { ⌜ Passed (imageIn (now s) y) × ImageThere (now s) y ⌝ }
-    ensures { λ r. ⌜ Marked (y .code .instructions .count) (funcletMark (imageIn (now (s .entry)) y)) marks r ⌝ }
+    ensures { λ _. ⌜ Marked (y .code .instructions .count) (funcletMark (imageIn (now (s .entry)) y)) (now (marks .entry)) (now (marks .exit)) ⌝ }
 {
     let n = y.routes.steps.count as usize;
     for k in 0..n {
-        mark_funclet(&mut marks, s, y, hints, k);
+        mark_funclet(marks, s, y, hints, k);
     }
-    marks
 }
 
 fn mark_funclet(marks: &mut [bool; 512], s: &[u8], y: Layout, hints: &[u16], k: usize)
@@ -101,15 +94,14 @@ fn mark_funclet(marks: &mut [bool; 512], s: &[u8], y: Layout, hints: &[u16], k: 
 }
 
 // The handlers at which they end.
-fn mark_path_ends(mut marks: [bool; 512], s: &[u8], y: Layout, hints: &[u16]) -> [bool; 512]
+fn mark_path_ends(marks: &mut [bool; 512], s: &[u8], y: Layout, hints: &[u16])
     requires { ⌜ Passed (imageIn (now s) y) × ImageThere (now s) y ⌝ }
-    ensures { λ r. ⌜ Marked (y .code .instructions .count) (pathEndMark (imageIn (now (s .entry)) y)) marks r ⌝ }
+    ensures { λ _. ⌜ Marked (y .code .instructions .count) (pathEndMark (imageIn (now (s .entry)) y)) (now (marks .entry)) (now (marks .exit)) ⌝ }
 {
     let n = y.routes.paths.count as usize;
     for k in 0..n {
-        mark_path_end(&mut marks, s, y, hints, k);
+        mark_path_end(marks, s, y, hints, k);
     }
-    marks
 }
 
 fn mark_path_end(marks: &mut [bool; 512], s: &[u8], y: Layout, hints: &[u16], k: usize)

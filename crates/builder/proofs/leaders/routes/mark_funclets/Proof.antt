@@ -14,11 +14,11 @@ use Rattle.builder.proofs.leaders.routes.mark_funclets.Statement.{state
 use Rattle.builder.proofs.leaders.routes.mark_funclets.Tie as tie
 
 abbrev Inv-loop : tie.InvT-loop
-Inv-loop s y hints marks₀ n k₀ marks k =
+Inv-loop marks₀ s y hints n k₀ marks k =
     (k ≤ n) × Marked (y .code .instructions .count) (λ p. some (λ i. stepMark (imageIn s y) i p) k) marks₀ marks
 
 abbrev μ-loop : tie.MeasureT-loop
-μ-loop s y hints marks₀ n k₀ marks k = n - k
+μ-loop marks₀ s y hints n k₀ marks k = n - k
 
 cast-n : tie.Need-cast-n Inv-loop μ-loop
 cast-n c = search needs

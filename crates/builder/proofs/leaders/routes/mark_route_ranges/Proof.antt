@@ -13,11 +13,11 @@ use Rattle.builder.proofs.leaders.routes.mark_route_ranges.Statement.{s
 use Rattle.builder.proofs.leaders.routes.mark_route_ranges.Tie as tie
 
 abbrev Inv-loop : tie.InvT-loop
-Inv-loop s y hints code-end marks₀ n r₀ marks r =
+Inv-loop marks₀ s y hints code-end n r₀ marks r =
     (r ≤ n) × Marked (y .code .instructions .count) (λ p. some (λ i. routeRange (imageIn s y) i p) r) marks₀ marks
 
 abbrev μ-loop : tie.MeasureT-loop
-μ-loop s y hints code-end marks₀ n r₀ marks r = n - r
+μ-loop marks₀ s y hints code-end n r₀ marks r = n - r
 
 cast-n : tie.Need-cast-n Inv-loop μ-loop
 cast-n c = search needs

@@ -8,19 +8,19 @@ use Rattle.builder.proofs.leaders.routes.mark_routes.Statement.{stateme
 use Rattle.builder.proofs.leaders.routes.mark_routes.Tie as tie
 
 mark-route-ranges-requires : tie.Need-mark-route-ranges-requires
-mark-route-ranges-requires c κs = search needs
+mark-route-ranges-requires c κs = let start = c .before .before .before in (start .pre .0, start .pre .1, search needs)
 
 mark-funclets-requires : tie.Need-mark-funclets-requires
-mark-funclets-requires c κs = (c .before .before .before .pre .0, search needs)
+mark-funclets-requires c κs = (c .before .before .before .before .before .pre .0, search needs)
 
 mark-path-ends-requires : tie.Need-mark-path-ends-requires
-mark-path-ends-requires c κs = (c .before .before .before .before .pre .0, search needs)
+mark-path-ends-requires c κs = (c .before .before .before .before .before .before .before .pre .0, search needs)
 
 returns : tie.Need-returns
 returns c =
-    let start = c .before .before .before .before .before in
+    let start = c .before .before .before .before .before .before .before .before in
     mark-as (routeMark (imageIn _ _)) (λ p h. route-marks (imageIn _ _) (start .pre .0 .sourced .accepted .routed) p)
-    (mark-then (mark-then (c .before .before .mark-route-ranges .ensures) (c .before .mark-funclets .ensures)) (c .mark-path-ends .ensures))
+    (mark-then (mark-then (c .before .before .before .before .mark-route-ranges .ensures) (c .before .before .mark-funclets .ensures)) (c .mark-path-ends .ensures))
 
 pub mark-routes-spec : {M : Type 1} → statement M
 mark-routes-spec =
