@@ -1,5 +1,6 @@
 -- What a build and an addition of the image's own routes give together.
 --     laid-on                      words that are laid over words that were laid
+--     own-checked                  the checks of an image's own routes, where its graph is built
 --     refused-gives, plain-gives   a build that is refused, and one of mode 0
 --     sequenceOf, routed-gives     a build of the other modes, and the addition to it
 -- Assumes nothing.
@@ -14,29 +15,33 @@ use borrow.Author.Tests.{eq-eqb, ne-eqb}
 use lib.Dec.{eqb}
 use lib.ListN.{length, getD, length-append}
 use Rattle.image.specs.Little.{le1}
-use Rattle.image.specs.Image.{RouteImage}
+use Rattle.image.specs.Refusal.{Check, clear}
+use Rattle.image.specs.Image.{Image, RouteImage}
 use Rattle.image.specs.Read.{Reading, read, readRoutes}
-use Rattle.image.specs.Deal.{UnwindRoute, routesOf}
+use Rattle.image.specs.Deal.{routesOf}
+use Rattle.image.specs.Accepted.{AcceptedRoutes}
 use Rattle.graph.specs.Section.{Section, place, size, Beside}
 use Rattle.graph.specs.Graph.{Graph, Held, held}
 use Rattle.graph.specs.Words.{section, heldIn}
 use Rattle.graph.specs.Stored.{Unused}
 use Rattle.graph.specs.Error.{refusalOf}
-use Rattle.graph.specs.Build.{Outcome as Building, built, refused as notBuilt, buildFrom}
-use Rattle.graph.specs.WellFormed.{wellFormed}
+use Rattle.graph.specs.Fold.{checks}
+use Rattle.graph.specs.Build.{built, refused as notBuilt, outcome, buildCheck, graphFrom, buildOf, buildFrom}
+use Rattle.graph.specs.WellFormed.{wellFormed, Built}
 use Rattle.graph.specs.Answers.{Laid}
 use Rattle.graph.specs.declared.record.Block.{Block}
 use Rattle.graph.specs.declared.record.Edge.{Edge}
 use Rattle.graph.specs.declared.error.AddressBuildError.{AddressBuildError}
 use Rattle.graph.proofs.RecordLaws.{entry-count, block-count, edge-count, region-count, handler-count, unresolved-count, call-count}
-use Rattle.addition.specs.Add.{extended, Addition, addition, Outcome as Adding, added, refused as notAdded, addRoutes}
+use Rattle.addition.specs.Add.{routeCheck, extended, Addition, addition, Outcome as Adding, added, refused as notAdded, addRoutes}
 use Rattle.addition.specs.Demand.{Conditions, Demand3}
 use Rattle.addition.proofs.Accepted.{accepted}
+use Rattle.addition.proofs.Own.{own-built, own-passed}
 use Rattle.addition.proofs.Demand.{demand3}
 use Rattle.unwind.specs.declared.add.AddedRoutes.{AddedRoutes}
 use Rattle.unwind.specs.declared.add.AddedRoutes.the-variants.{Stored, Refused as NotAdded}
 use Rattle.unwind.specs.HopWords.{rowsIn, noRows, rowHops, HopsUnused}
-use Rattle.unwind.specs.Answers.{additionIn, imageOf, AddLeaves, Graphed, Adds}
+use Rattle.unwind.specs.Answers.{additionIn, imageOf, Adds, RoutesChecked}
 use Rattle.unwind.proofs.AnswerLaws.{add-answers}
 use Rattle.text.specs.Chart.{routeBytes}
 use Rattle.sequence.specs.declared.Sequence.{Sequence}
@@ -66,6 +71,26 @@ laid-on {u} {v} {w} grows a b =
     record {
       holds = b .holds;
       kept = λ k unused. b .kept k unused ∙ a .kept k (record { behind = unused .behind; beside = λ i h. beside-on (section i) v w k (grows i h) (unused .beside i h) });
+    }
+
+-- ---- an image's own routes
+
+built-is : (m : Image) (g : Graph) → built g ≡ buildOf m → (buildCheck m ≡ clear) × (g ≡ graphFrom m)
+unfolding buildOf
+built-is m g e = go (buildCheck m) refl e
+  where
+    go : (c : Check) → buildCheck m ≡ c → built g ≡ outcome c (graphFrom m) → (c ≡ clear) × (g ≡ graphFrom m)
+    go clear is e = (refl, cc)
+    go (Check.refused r) is e = absurd (let z : _≡_ {A = ℕ} 0 1 = cc in omega arith)
+
+pub own-checked : (m : Image) (h : Held) (n : ℕ) → built (h .graph) ≡ buildOf m → wellFormed h ≡ true → AcceptedRoutes (m .routes) → n ≡ length (h .graph .blocks) → RoutesChecked h n (m .routes)
+own-checked m h n e graph accepted all =
+    let is = built-is m (h .graph) e in
+    record {
+      graphed = graph;
+      built = rw all (subst (λ (g : Graph). Built g (length (g .blocks))) (sym (is .1)) (own-built m));
+      accepted = accepted;
+      passed = subst (λ (g : Graph). checks (routeCheck g (routesOf (m .routes))) (length (routesOf (m .routes))) ≡ clear) (sym (is .1)) (own-passed m (is .0));
     }
 
 -- ---- demand 3

@@ -1,16 +1,18 @@
 // A sequence with its own routes: the graph of an image and, in modes 1 and 2, what the addition of the routes in it gives. It
-// is a build and an addition, one after the other; but the image is read once, and 21 is not asked of a graph just built.
+// is a build and an addition, one after the other; but the image is read once, and neither 21 is asked of a graph just built
+// nor 10 to 12, 15 and 17 of its own routes.
 use builder::build::Built;
 use builder::build::build_read;
 use graph::error::AddressBuildError;
 use graph::error::form_error;
 use graph::store::Words;
+use graph::store::blocks::block_count;
 use image::little::byte_at;
 use image::read::ReadImage;
 use image::read::read_image;
 use image::section::Layout;
 use unwind::add::AddedRoutes;
-use unwind::add::add_read;
+use unwind::add::frames::add_checked;
 use unwind::hops::Hops;
 use unwind::hops::empty_hops;
 ghost use mathlib.Core.Path.{_≡_};
@@ -48,7 +50,8 @@ fn build_layout(s: &[u8], y: Layout, g: &mut Words, h: &mut Hops) -> Sequence
         empty_hops(h);
         return Sequence::Whole;
     }
-    match add_read(g, s, y.routes, h) {
+    let built = block_count(g);
+    match add_checked(g, built, s, y.routes, h) {
         AddedRoutes::Refused(e) => Sequence::Unrouted(e),
         AddedRoutes::Stored => Sequence::Whole,
     }

@@ -1,5 +1,5 @@
 // `add_unwind_routes`: the edges and copies that routes want in a graph, and the hops. All is decided before the first store.
-mod frames;
+pub mod frames;
 mod most;
 mod run;
 mod store;
@@ -45,7 +45,7 @@ pub fn add_unwind_routes(g: &mut Words, s: &[u8], h: &mut Hops) -> AddedRoutes
 }
 
 // To a graph, and routes that were read.
-pub fn add_read(g: &mut Words, s: &[u8], y: RouteLayout, h: &mut Hops) -> AddedRoutes
+fn add_read(g: &mut Words, s: &[u8], y: RouteLayout, h: &mut Hops) -> AddedRoutes
     requires { ⌜ (wellFormed (heldIn (now g)) ≡ true) × AcceptedRoutes (routesIn (now s) y) × RoutesThere (now s) y ⌝ }
     ensures { λ r. ⌜ Adds (routesIn (now (s .entry)) y) (now (g .entry)) (now (g .exit)) (now (h .entry)) (now (h .exit)) r ⌝ }
 {
