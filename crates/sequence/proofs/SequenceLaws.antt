@@ -6,13 +6,12 @@
 -- Assumes nothing.
 use mathlib.Core.Path.{_≡_, refl, sym, ap, subst, _∙_}
 use mathlib.Core.Bool.{Bool, true, cond}
-use mathlib.Core.Logic.{_⊎_, inl, inr, ⊎-elim}
-use mathlib.Core.List.{List, [], _++_}
+use mathlib.Core.Logic.{inl, inr}
+use mathlib.Core.List.{List, []}
 use Prim.Native.Nat.{ℕ, zero, suc, _≤_, _<_}
 use native.Mathlib.Nat.{mul-le-mul-left}
 use native.Mathlib.Omega.{arith}
 use borrow.Author.Tests.{eq-eqb, ne-eqb}
-use lib.Dec.{eqb}
 use lib.ListN.{length, getD, length-append}
 use Rattle.image.specs.Little.{le1}
 use Rattle.image.specs.Refusal.{Check, clear}
@@ -20,10 +19,9 @@ use Rattle.image.specs.Image.{Image, RouteImage}
 use Rattle.image.specs.Read.{Reading, read, readRoutes}
 use Rattle.image.specs.Deal.{routesOf}
 use Rattle.image.specs.Accepted.{AcceptedRoutes}
-use Rattle.graph.specs.Section.{Section, place, size, Beside}
+use Rattle.graph.specs.Section.{Section, size, Beside}
 use Rattle.graph.specs.Graph.{Graph, Held, held}
 use Rattle.graph.specs.Words.{section, heldIn}
-use Rattle.graph.specs.Stored.{Unused}
 use Rattle.graph.specs.Error.{refusalOf}
 use Rattle.graph.specs.Fold.{checks}
 use Rattle.graph.specs.Build.{built, refused as notBuilt, outcome, buildCheck, graphFrom, buildOf, buildFrom}
@@ -46,7 +44,7 @@ use Rattle.unwind.proofs.AnswerLaws.{add-answers}
 use Rattle.text.specs.Chart.{routeBytes}
 use Rattle.sequence.specs.declared.Sequence.{Sequence}
 use Rattle.sequence.specs.declared.Sequence.the-variants.{Whole, Unrouted, Refused}
-use Rattle.sequence.specs.Sequences.{Outcome, whole, unrouted, refused, routed, withRoutes, sequenceFrom, answerOf, Leaves, Gives}
+use Rattle.sequence.specs.Sequences.{whole, routed, withRoutes, sequenceFrom, answerOf, Leaves, Gives}
 
 -- ---- words that are laid twice
 
