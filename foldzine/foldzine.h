@@ -108,7 +108,7 @@ foldzine_answer foldzine_build(const uint8_t *image, size_t length, uint64_t wor
  * Adds the routes of a route image to the graph in `words`, and leaves the hops
  * of this addition in `hops`. Words that the graph and the hops do not use stay
  * as they were; refused, every word does. Words that hold no graph: 21, which is
- * never the answer on a graph that foldzine_build or this function stored.
+ * never the answer on a graph that a function of this header stored.
  */
 foldzine_answer foldzine_add_routes(uint64_t words[FOLDZINE_WORDS], const uint8_t *routes, size_t length,
                                     uint64_t hops[FOLDZINE_HOP_WORDS]);
@@ -116,13 +116,14 @@ foldzine_answer foldzine_add_routes(uint64_t words[FOLDZINE_WORDS], const uint8_
 /*
  * Builds the graph of a sequence image and, in modes 1 and 2, adds the image's
  * own routes: a build and an addition in one, and faster than both. Mode 0 has
- * no hops. Where the routes are refused, the graph stands as it was built and
- * the hops stay as they were; where the build is, all words do.
+ * no hops. Where the build is refused (built 0), all words stay as they were.
+ * Where the routes are (built 1), `words` hold the graph as it was built, in
+ * place of what they held, and only the hops stay as they were.
  */
 foldzine_sequence_answer foldzine_sequence(const uint8_t *image, size_t length, uint64_t words[FOLDZINE_WORDS],
                                            uint64_t hops[FOLDZINE_HOP_WORDS]);
 
-/* Where the routes stand in a sequence image: the bytes from there on are its route image. */
+/* Where the routes stand in a sequence image: if it is not refused, the bytes from there on are its route image. */
 size_t foldzine_routes_at(const uint8_t *image, size_t length);
 
 /* Counts the blocks that edges of any kind lead to from the entry, itself among them. */
