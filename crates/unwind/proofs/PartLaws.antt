@@ -4,43 +4,43 @@
 --     part-start                   where the search begins
 --     bent-on                      the links of a block, one edge further
 --     part-has                     what is reached is the part
---     leavesBy, Leaves, leaves-none, leaves-put, leaves-skip, sources-are     the blocks that an ordinary edge goes out of
+--     Seeking, seeking-start, seeking-on, seeking-less, seeking-found, seeking-none     an ordinary edge out of a block, along its links
 --     ReturnersTo, returners-none, returners-put, returners-skip, returners-are     the blocks that return
 --     common-returns               those of a set
 -- Assumes nothing.
 use mathlib.Core.Path.{_≡_, refl, sym, ap, _∙_}
-use mathlib.Core.Bool.{Bool, true, false, cond, not, _&&_, _||_, and-false, or-false, or-comm}
+use mathlib.Core.Bool.{Bool, true, false, cond, not, _&&_, and-false}
 use mathlib.Core.Logic.{_⊎_, inl, inr, ⊎-elim}
 use mathlib.Core.List.{List, [], _∷_, map}
 use Prim.Native.Nat.{ℕ, zero, suc, _+_, _<_}
-use native.Mathlib.Numerals.{add-one}
 use native.Mathlib.Decide.{decLt, ℕ-discrete}
 use native.Mathlib.Omega.{arith}
 use borrow.Author.Tests.{eq-eqb, ne-eqb, lt-ltb, le-ltb}
-use lib.Dec.{eqb, ltb}
+use lib.Dec.{ltb}
 use lib.ListN.{length, getD, drop, length-map, List·getD-map}
 use Rattle.image.specs.Deal.{UnwindRoute}
 use Rattle.graph.specs.declared.record.Edge.{Edge}
 use Rattle.graph.specs.Graph.{Graph, edge}
 use Rattle.graph.specs.Words.{edgeOf}
-use Rattle.graph.specs.Fold.{some as any, all, among}
+use Rattle.graph.specs.Fold.{all, among}
 use Rattle.graph.specs.BlockSet.{member, none, including, Common}
 use Rattle.graph.specs.Reached.{Reached, start, step}
-use Rattle.graph.specs.Search.{Finds, Ends, linkIn, link, Linked, Works, seeing}
+use Rattle.graph.specs.Search.{Finds, Ends, linkIn, link, Linked, Roomy, Works, seeing}
 use Rattle.graph.specs.WellFormed.{isBlock, edgeEndsExist, isBuilt}
-use Rattle.graph.proofs.FoldLaws.{decided, some-front}
+use Rattle.graph.proofs.FoldLaws.{decided}
 use Rattle.graph.proofs.BlockLaws.{member-none, member-including, length-including}
 use Rattle.graph.proofs.SearchLaws as search-laws
 use Rattle.addition.specs.Lists.{keep, isEmpty}
 use Rattle.addition.specs.Blocks.{firstOf}
 use Rattle.addition.specs.Part.{funclets, ordinary, outgoing, part, returning}
 use Rattle.unwind.specs.Stands.{Stands, Has}
-use Rattle.unwind.specs.PartSearch.{Barriers, Sources, Returners, Exist, Returns, followed, bent, bounded}
+use Rattle.unwind.specs.PartSearch.{Barriers, Returners, Exist, Returns, followed, bent, bounded}
 use Rattle.addition.specs.Walk.{_∈_, Built as BuiltBlock, Other, Reach, start as enter, step as onward}
 use Rattle.addition.proofs.Lists.{both-ways, and-both, and-true, not-so, mem-getD, mem-at, at-lt, at-getD, mem-among, among-mem}
 use Rattle.addition.proofs.Sound.{ends-exist}
 use Rattle.addition.proofs.Closure.{funclets-mem, ordinary-kind, kind-ordinary, mem-funclets, part-reach, reach-part}
 use Rattle.unwind.proofs.Standing.{begins-one}
+use Rattle.unwind.proofs.ChainLaws.{chain, OnChain, chain-start, chain-next, chain-none}
 
 -- ---- edges of the bounded graph
 
@@ -250,53 +250,40 @@ module _ (g : Graph) (stands : Stands g) (w : List ℕ) (e : ℕ) (entry : Built
       (λ m. mem-among (reach-part g rs f e targets (entry .exists) (forth (finds .sound b m))))
       (λ m. finds .complete b (back (part-reach g rs f e b (among-mem _ b m))))
 
--- ---- sources
+-- ---- an ordinary edge out of a block
 
-module _ (b : ℕ) where
-  -- an ordinary edge goes out of b
-  abbrev pub leavesBy : Edge → Bool
-  leavesBy d = ordinary d && eqb (d .source) b
+module _ (g : Graph) (b : ℕ) where
+  -- no ordinary edge out of b stands before the link `at`
+  pub record Seeking (at : ℕ) : Type 0 where
+    pub on : OnChain g b at
+    pub rest : keep ordinary (chain g b at) ≡ keep ordinary (outgoing g b)
 
-  in-list : (l : List Edge) → any (λ (k : ℕ). leavesBy (getD l k (edgeOf []))) (length l) ≡ not (isEmpty (keep ordinary (keep (λ (d : Edge). eqb (d .source) b) l)))
-  unfolding any keep isEmpty
-  in-list [] = refl
-  in-list (d ∷ l) = some-front _ (length l) ∙ rw (in-list l) (go (ordinary d) (eqb (d .source) b) refl)
-    where
-      go : (o t : Bool) → ordinary d ≡ o → (o && t || not (isEmpty (keep ordinary (keep (λ (d : Edge). eqb (d .source) b) l)))) ≡ not (isEmpty (keep ordinary (cond t (d ∷ keep (λ (d : Edge). eqb (d .source) b) l) (keep (λ (d : Edge). eqb (d .source) b) l))))
-      go true true is = rw is
-      go false true is = rw is
-      go true false is = refl
-      go false false is = refl
+  pub seeking-none : (at : ℕ) → at ≡ 0 → Seeking at → not (isEmpty (keep ordinary (outgoing g b))) ≡ false
+  unfolding keep isEmpty
+  seeking-none at z s = rw (← s .rest, chain-none g b at z)
 
-  sources-is : (g : Graph) → any (λ (k : ℕ). leavesBy (edge g k)) (length (g .edges)) ≡ not (isEmpty (keep ordinary (outgoing g b)))
-  unfolding outgoing
-  sources-is g = in-list (g .edges)
+  module _ (head next : List ℕ) (ends : Ends g) (roomy : Roomy g head next) (linked : Linked g head next 0) where
+    pub seeking-start : (at : ℕ) → at ≡ getD head b 0 → Seeking at
+    seeking-start at is =
+        let s = chain-start g b head next ends roomy linked at is in
+        record { on = s .0; rest = ap (keep ordinary) (s .1) }
 
--- the set with the blocks that the edges below i leave by an ordinary one
-pub record Leaves (g : Graph) (i : ℕ) (w : List ℕ) : Type 0 where
-  pub long : length w ≡ 16
-  pub has : (b : ℕ) → member w b ≡ any (λ (k : ℕ). leavesBy b (edge g k)) i
+    module _ (at e : ℕ) (eq : at ≡ suc e) (s : Seeking at) where
+      further : (at′ : ℕ) → at′ ≡ getD next e 0 → OnChain g b at′ × (chain g b at ≡ edge g e ∷ chain g b at′)
+      further at′ is = chain-next g b head next ends roomy linked at e at′ eq (s .on) is
 
-module _ (g : Graph) where
-  pub leaves-none : Leaves g 0 none
-  unfolding any
-  leaves-none = record { long = refl; has = member-none }
+      pub seeking-found : ordinary (edge g e) ≡ true → not (isEmpty (keep ordinary (outgoing g b))) ≡ true
+      unfolding keep isEmpty
+      seeking-found is = rw (← s .rest, further _ refl .1, is)
 
-  module _ (i : ℕ) (w : List ℕ) (x : Leaves g i w) where
-    pub leaves-put : edge g i .source < 1024 → ordinary (edge g i) ≡ true → Leaves g (i + 1) (including w (edge g i .source))
-    unfolding any
-    leaves-put few is =
-        record {
-          long = length-including w _ ∙ x .long;
-          has = λ b. member-including w (x .long) (edge g i .source) few b ∙ or-comm (eqb (edge g i .source) b) (member w b) ∙ rw (add-one, x .has b, is);
-        }
+      pub seeking-on : (at′ : ℕ) → at′ ≡ getD next e 0 → ordinary (edge g e) ≡ false → Seeking at′
+      unfolding keep
+      seeking-on at′ next′ out =
+          let k = further at′ next′ in
+          record { on = k .0; rest = sym (ap (keep ordinary) (k .1) ∙ rw out) ∙ s .rest }
 
-    pub leaves-skip : ordinary (edge g i) ≡ false → Leaves g (i + 1) w
-    unfolding any
-    leaves-skip out = record { long = x .long; has = λ b. x .has b ∙ sym (rw (add-one, out) (or-false _)) }
-
-  pub sources-are : (w : List ℕ) → Leaves g (length (g .edges)) w → Sources g w
-  sources-are w x = record { goes = λ b. x .has b ∙ sources-is b g }
+      pub seeking-less : (at′ : ℕ) → at′ ≡ getD next e 0 → length (chain g b at′) < length (chain g b at)
+      seeking-less at′ next′ = omega (arith, ap length (further at′ next′ .1))
 
 -- ---- the blocks that return
 

@@ -11,18 +11,13 @@ use Rattle.graph.specs.Fold.{among}
 use Rattle.graph.specs.BlockSet.{member}
 use Rattle.graph.specs.Search.{seeing}
 use Rattle.graph.specs.WellFormed.{isBuilt}
-use Rattle.addition.specs.Lists.{keep, isEmpty}
 use Rattle.addition.specs.Blocks.{firstOf}
 use Rattle.unwind.specs.Stands.{Has}
-use Rattle.addition.specs.Part.{funclets, ordinary, outgoing, part, returning}
+use Rattle.addition.specs.Part.{funclets, ordinary, part, returning}
 
 -- the built blocks that start a funclet of the routes
 pub record Barriers (g : Graph) (rs : List UnwindRoute) (w : List ℕ) : Type 0 where
   pub bars : (b : ℕ) → b < length (g .blocks) → member w b ≡ (isBuilt g b && among (funclets rs) (firstOf g b .address))
-
--- the blocks that an ordinary edge goes out of
-pub record Sources (g : Graph) (w : List ℕ) : Type 0 where
-  pub goes : (b : ℕ) → member w b ≡ not (isEmpty (keep ordinary (outgoing g b)))
 
 -- the blocks that return, of those that there are
 pub record Returners (g : Graph) (w : List ℕ) : Type 0 where

@@ -10,7 +10,6 @@ use graph::blockset::take_from;
 use graph::reach::see;
 use graph::store::Words;
 use graph::store::blocks::block_count;
-use graph::store::edges::edge_count;
 use graph::store::edges::edge_in;
 use image::section::RouteLayout;
 ghost use mathlib.Core.Path.{_≡_};
@@ -26,10 +25,11 @@ ghost use Rattle.graph.specs.Graph.{edge};
 ghost use Rattle.graph.specs.Words.{heldIn};
 ghost use Rattle.graph.specs.Search.{Linked, Roomy, Follows};
 ghost use Rattle.graph.specs.WellFormed.{isBuilt};
-ghost use Rattle.addition.specs.Part.{returning as isReturning};
+ghost use Rattle.addition.specs.Lists.{keep, isEmpty};
+ghost use Rattle.addition.specs.Part.{ordinary, outgoing, returning as isReturning};
 ghost use Rattle.addition.specs.Add.{funcletCheck};
 ghost use Rattle.unwind.specs.Stands.{Stands};
-ghost use Rattle.unwind.specs.PartSearch.{Barriers, Sources, Returners, PartFrom, bounded, Takes};
+ghost use Rattle.unwind.specs.PartSearch.{Barriers, Returners, PartFrom, bounded, Takes};
 ghost use Rattle.unwind.specs.Placed.{funcletAt, Named, Entered};
 
 // 'without an ExceptionUnwind or Call edge'
@@ -69,43 +69,45 @@ pub fn funclet_entries(
     }
 }
 
-// The blocks that an ordinary edge goes out of.
-fn ordinary_sources(g: &Words) -> [u64; 16]
-    requires { ⌜ Stands (heldIn (now g) .graph) ⌝ }
-    ensures { λ r. ⌜ Sources (heldIn (now (g .entry)) .graph) r ⌝ }
+// Whether an ordinary edge goes out of block b, along edges that are linked by their source.
+fn leads_on(g: &Words, head: &[u16], next: &[u16], b: usize) -> bool
+    requires { ⌜ Stands (heldIn (now g) .graph) × Roomy (heldIn (now g) .graph) (now head) (now next) × Linked (heldIn (now g) .graph) (now head) (now next) 0 × (b < length (heldIn (now g) .graph .blocks)) ⌝ }
+    ensures { λ r. ⌜ r ≡ not (isEmpty (keep ordinary (outgoing (heldIn (now (g .entry)) .graph) b))) ⌝ }
 {
-    let n = edge_count(g);
-    let mut set = [0u64; 16];
-    for i in 0..n {
-        let e = edge_in(g, i);
-        if is_ordinary(e.kind) {
-            put_in(&mut set, e.source as usize);
+    let mut at = number_in(head, b);
+    while at != 0 {
+        let e = at - 1;
+        if is_ordinary(edge_in(g, e).kind) {
+            return true;
         }
+        at = number_in(next, e);
     }
-    set
+    false
 }
 
-// Whether block b returns, told which blocks an ordinary edge goes out of.
-fn returning(g: &Words, sources: &[u64; 16], b: usize) -> bool
-    requires { ⌜ Stands (heldIn (now g) .graph) × Sources (heldIn (now g) .graph) (now sources) × (b < length (heldIn (now g) .graph .blocks)) ⌝ }
+// Whether block b returns. Its edges are looked at only if it ends in a jump.
+fn returning(g: &Words, head: &[u16], next: &[u16], b: usize) -> bool
+    requires { ⌜ Stands (heldIn (now g) .graph) × Roomy (heldIn (now g) .graph) (now head) (now next) × Linked (heldIn (now g) .graph) (now head) (now next) 0 × (b < length (heldIn (now g) .graph .blocks)) ⌝ }
     ensures { λ r. ⌜ r ≡ isReturning (heldIn (now (g .entry)) .graph) b ⌝ }
 {
     let flow = last_of(g, b).flow;
     if flow == RETURN {
         return true;
     }
-    (flow == JUMP) & !has_in(sources, b)
+    if flow != JUMP {
+        return false;
+    }
+    !leads_on(g, head, next, b)
 }
 
 // The blocks that return, put into an empty set.
-pub fn returning_blocks(g: &Words, set: &mut [u64; 16])
-    requires { ⌜ Stands (heldIn (now g) .graph) × (now set ≡ none) ⌝ }
+pub fn returning_blocks(g: &Words, head: &[u16], next: &[u16], set: &mut [u64; 16])
+    requires { ⌜ Stands (heldIn (now g) .graph) × (now set ≡ none) × Roomy (heldIn (now g) .graph) (now head) (now next) × Linked (heldIn (now g) .graph) (now head) (now next) 0 ⌝ }
     ensures { λ _. ⌜ Returners (heldIn (now (g .entry)) .graph) (now (set .exit)) ⌝ }
 {
-    let sources = ordinary_sources(g);
     let n = block_count(g);
     for b in 0..n {
-        if returning(g, &sources, b) {
+        if returning(g, head, next, b) {
             put_in(set, b);
         }
     }

@@ -201,7 +201,7 @@ fn add_instances(
     guard_routes(g, built, s, y, guards);
     land_ends(g, built, hints, s, y, ends, stored.ends, landings);
     let mut returners = [0u64; 16];
-    returning_blocks(g, &mut returners);
+    returning_blocks(g, head, next, &mut returners);
     add_placed(
         g,
         s,

@@ -1,20 +1,17 @@
--- `returning` meets its contract. Assumes nothing.
+-- `returning` meets its contract, test by test. Assumes nothing.
 use mathlib.Core.Path.{_≡_, refl, sym, ap, _∙_}
-use mathlib.Core.Bool.{Bool, true, false, not, _&&_}
+use mathlib.Core.Bool.{Bool, true, false, not}
 use borrow.Author.Needs.{needs}
-use lib.Dec.{eqb}
 use borrow.Author.Tests.{eq-eqb, ne-eqb}
 use Rattle.graph.specs.declared.record.TableEntry.{TableEntry}
 use Rattle.graph.specs.Words.{heldIn}
-use Rattle.addition.specs.Lists.{keep, isEmpty}
-use Rattle.addition.specs.Blocks.{lastOf}
-use Rattle.addition.specs.Part.{ordinary, outgoing, returning}
+use Rattle.addition.specs.Part.{returning}
 use Rattle.unwind.proofs.Standing.{run-fits}
 use Rattle.unwind.proofs.part.returning.Statement.{statement}
 use Rattle.unwind.proofs.part.returning.Tie as tie
 
 last-of-requires : tie.Need-last-of-requires
-last-of-requires c κs = (record { fits = run-fits (heldIn (c .args .g .now) .graph) (c .pre .0) }, c .pre .2)
+last-of-requires c κs = let start = c .before .before in (record { fits = run-fits (heldIn (start .args .g .now) .graph) (start .pre .0) }, start .pre .3)
 
 returns : tie.Need-returns
 unfolding returning
@@ -25,15 +22,20 @@ returns c =
 returns-2 : tie.Need-returns-2
 unfolding returning
 returns-2 c =
-    let g = heldIn (c .before .before .before .args .g .now) .graph in
     let read = c .before .before .last-of .ensures in
-    let not-return = ne-eqb (c .before .before .last-of .result .flow) 1 (c .before .if1 .left) in
-    rw (c .has-in .ensures ∙ c .before .before .before .pre .1 .goes (c .before .before .before .args .b), read)
-    (rw (rw read at not-return) (ap (λ (t : Bool). eqb (lastOf g (c .before .before .before .args .b) .flow) 6 && t) (not-not (isEmpty (keep ordinary (outgoing g (c .before .before .before .args .b)))))))
+    let flow = c .before .before .last-of .result .flow in
+    sym (rw (rw read at (ne-eqb flow 1 (c .before .if1 .left)), rw read at (ne-eqb flow 6 (c .if2 .taken))))
+
+returns-3 : tie.Need-returns-3
+unfolding returning
+returns-3 c =
+    let read = c .before .before .before .last-of .ensures in
+    let flow = c .before .before .before .last-of .result .flow in
+    rw (rw read at (ne-eqb flow 1 (c .before .before .if1 .left)), rw read at (eq-eqb flow 6 (c .before .if2 .left))) (ap not (c .leads-on .ensures) ∙ not-not _)
   where
     not-not : (t : Bool) → not (not t) ≡ t
     not-not true = refl
     not-not false = refl
 
 pub returning-spec : {M : Type 1} → statement M
-returning-spec = tie.close (tie.spec last-of-requires returns (λ c κs. search needs) returns-2)
+returning-spec = tie.close (tie.spec last-of-requires returns returns-2 (λ c κs. search needs) returns-3)

@@ -12,13 +12,13 @@ use Rattle.unwind.proofs.part.returning_blocks.Statement.{statement}
 use Rattle.unwind.proofs.part.returning_blocks.Tie as tie
 
 abbrev Inv-loop : tie.InvT-loop
-Inv-loop g set₀ sources n b₀ set b = (b ≤ length (heldIn g .graph .blocks)) × ReturnersTo (heldIn g .graph) b set
+Inv-loop g head next set₀ n b₀ set b = (b ≤ length (heldIn g .graph .blocks)) × ReturnersTo (heldIn g .graph) b set
 
 abbrev μ-loop : tie.MeasureT-loop
-μ-loop g set₀ sources n b₀ set b = n - b
+μ-loop g head next set₀ n b₀ set b = n - b
 
 loop-holds : tie.Need-loop-holds Inv-loop μ-loop
-loop-holds c = (omega arith, rw (c .before .before .pre .1) (returners-none _))
+loop-holds c = (omega arith, rw (c .before .before .before .pre .1) (returners-none _))
 
 add-b : tie.Need-add-b Inv-loop μ-loop
 add-b c = omega (arith, block-most (c .before .before .before .before .before .before .before .args .g .now))
@@ -27,8 +27,8 @@ loop-again : tie.Need-loop-again Inv-loop μ-loop
 loop-again c =
     let start = c .before .before .before .before .before .before .before in
     let g = heldIn (start .args .g .now) .graph in
-    let top = c .before .before .before .before .loop in
-    let count = c .before .before .before .before .before .block-count .ensures in
+    let top = c .before .before .before .loop in
+    let count = c .before .before .before .before .block-count .ensures in
     let is = sym (c .before .returning .ensures) in
     let few : top .b < 1024 = omega (arith, count, block-most (start .args .g .now)) in (
       omega (arith, count),
@@ -40,7 +40,7 @@ loop-again c =
 
 returns : tie.Need-returns Inv-loop μ-loop
 returns c =
-    let g = heldIn (c .before .before .before .before .args .g .now) .graph in
+    let g = heldIn (c .before .before .before .before .before .args .g .now) .graph in
     let end = c .before .loop in
     let all : end .b ≡ length (g .blocks) = omega (arith, c .before .before .block-count .ensures) in
     returners-are g (end .set) (rw all at (end .inv .1))
@@ -51,7 +51,6 @@ returning-blocks-spec =
     (tie.spec
     Inv-loop
     μ-loop
-    (λ c κs. search needs)
     (λ c κs. search needs)
     loop-holds
     (λ c κs. search needs)

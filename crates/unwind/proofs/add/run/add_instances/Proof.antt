@@ -27,7 +27,7 @@ land-ends-requires c κs =
 returning-blocks-requires : tie.Need-returning-blocks-requires
 returning-blocks-requires c κs =
     let start = c .before .before .before .before .before .before .before .before .before .before .before .before .before .before .before .before .before .before .before .before .before .before .before .before .before .before .before in
-    (stands-of (heldIn (start .args .g .now)) (start .pre .0 .graphed), refl)
+    (stands-of (heldIn (start .args .g .now)) (start .pre .0 .graphed), refl, start .pre .1 .links, start .pre .1 .linked)
 
 add-placed-requires : tie.Need-add-placed-requires
 add-placed-requires c κs =
@@ -40,6 +40,9 @@ add-placed-requires c κs =
     let returned = c .before .before .before .before .before .before .before .returning-blocks .ensures in
     (at-hand (heldIn (a .g .now)) (a .built) (routesIn (a .s .now) (a .y)) k (a .nodes .now) (a .edges .now) (a .ends .now) (a .roots .now) (a .stored) p _ returned (guarded .ensures) (guarded .kept .1 .1 .1 .1 .0) (landed .ensures) (landed .kept .1 .1 .1 .1 .1 .1 .1 .0), search needs, start .pre .3)
 
+same-length-2 : tie.Need-same-length-2
+same-length-2 c = c .before .before .before .before .before .before .before .before .before .before .before .before .before .before .before .before .before .before .before .before .before .before .before .guard-routes .kept .1 .1 .1 .1 .0
+
 pub add-instances-spec : {M : Type 1} → statement M
 add-instances-spec =
     tie.close
@@ -49,7 +52,7 @@ add-instances-spec =
     returning-blocks-requires
     add-placed-requires
     (λ c. search needs)
-    (λ c. search needs)
+    same-length-2
     (λ c. search needs)
     (λ c. search needs)
     (λ c. search needs))
