@@ -3,7 +3,7 @@
 --     Walked, walked-start, walked-here, walked-below, walked-next     the members below k are gone over
 --     SetCounting, counting-start, counting-few, counting-next, counting-end     the hops of members, counted
 --     SetHolding, holding-start, holding-here, holding-fit, holding-next, holding-end     and stored
---     LowestIs, in-set, set-long   a set as it is read
+--     LowestIs, in-set             a set as it is read
 --     copy-rank, copy-rises, copy-more     the number of a copy by the members below
 --     copy-here, copy-quiet        the hops out of a copy, and of a block from which the node does not return
 --     sets-quiet, sets-below, sets-few, sets-number, sets-here, sets-more     the same by the sets of a node
@@ -35,7 +35,7 @@ use Rattle.graph.specs.Graph.{Graph}
 use Rattle.graph.specs.Fold.{flat, some, count}
 use Rattle.graph.specs.Route.{routeAt}
 use Rattle.graph.specs.BlockSet.{member, none, excluding, Union}
-use Rattle.graph.proofs.FoldLaws.{decided, some-none, some-where, flat-none, flat-same, flat-more, count-yes, count-no, length-table}
+use Rattle.graph.proofs.FoldLaws.{decided, some-none, some-where, flat-none, flat-same, flat-more, count-yes, count-no}
 use Rattle.graph.proofs.BlockLaws.{member-none, member-excluding, length-excluding}
 use Rattle.unwind.specs.declared.emit.count.Sizes.{Sizes}
 use Rattle.unwind.specs.declared.tries.store.Counts.{Counts}
@@ -196,10 +196,6 @@ module _ (m : RouteImage) (f : ℕ → List Hop) (first : ℕ → ℕ) (hs : Lis
 
 pub in-set : (l : List ℕ) (i b : ℕ) → 16 * i + 16 ≤ length l → inSet l i b ≡ member (setAt l i) b
 in-set l i b fit = ap (λ (w : List ℕ). member w b) (sym (set-run l i fit))
-
-pub set-long : (l : List ℕ) (i : ℕ) → length (setAt l i) ≡ 16
-unfolding setAt
-set-long l i = length-table (λ k. getD l (16 * i + k) 0) 16
 
 -- ---- copies
 

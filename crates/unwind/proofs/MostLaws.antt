@@ -19,7 +19,7 @@ use lib.ListN.{length, getD, length-append}
 use Rattle.image.specs.Image.{RouteImage}
 use Rattle.graph.specs.Fold.{flat, count, sum}
 use Rattle.graph.specs.BlockSet.{member, sizeOf}
-use Rattle.graph.proofs.FoldLaws.{length-table, getD-table, decided, count-yes, count-no, count-add, count-le}
+use Rattle.graph.proofs.FoldLaws.{length-table, decided, count-yes, count-no, count-add, count-le}
 use Rattle.graph.proofs.BlockLaws.{size-more}
 use Rattle.addition.specs.Lists.{joined}
 use Rattle.addition.specs.Order.{sorted}
@@ -37,6 +37,7 @@ use Rattle.unwind.specs.Most.{waysOf, membersOf, guardedWays, returnedWa
 use Rattle.unwind.proofs.Rising.{sorted-length}
 use Rattle.unwind.proofs.Sources.{lists-then}
 use Rattle.unwind.proofs.MemberLaws.{in-set}
+use Rattle.unwind.proofs.SlotLaws.{set-word}
 
 -- ---- so many hops at most
 
@@ -121,9 +122,8 @@ members-less w m n h =
 
 -- one word more
 pub members-next : (sets : List ℕ) (i k : ℕ) → k < 16 → getD sets (16 * i + k) 0 < 2 ^ 64 → count (member (setAt sets i)) (64 * (k + 1)) ≡ count (member (setAt sets i)) (64 * k) + ones (getD sets (16 * i + k) 0)
-unfolding setAt
 members-next sets i k h fits =
-    let here = getD-table (λ k. getD sets (16 * i + k) 0) 16 k 0 h in
+    let here = set-word sets i k h in
     size-more (setAt sets i) k (rw here fits) ∙ ap (λ (x : ℕ). count (member (setAt sets i)) (64 * k) + ones x) here
 
 -- one block more

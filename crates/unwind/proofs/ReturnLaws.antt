@@ -30,7 +30,8 @@ use Rattle.unwind.specs.Gather.{recordExits, inSet, returnRecords}
 use Rattle.unwind.specs.Members.{originalReturns, Joins}
 use Rattle.unwind.proofs.PartLaws.{common-returns}
 use Rattle.unwind.proofs.Sets.{returns-has}
-use Rattle.unwind.proofs.MemberLaws.{in-set, set-long}
+use Rattle.unwind.proofs.MemberLaws.{in-set}
+use Rattle.unwind.proofs.SlotLaws.{set-long}
 
 some-and : (f : ℕ → Bool) (z : Bool) (n : ℕ) → (some f n && z) ≡ some (λ i. f i && z) n
 unfolding some

@@ -1,6 +1,7 @@
 // Look-up in a graph's own table and among its built blocks, which stand in the table's order.
+use crate::slots::empty_set;
+use crate::slots::put_block;
 use crate::tries::store::number_at;
-use graph::blockset::put_in;
 use graph::found::Found;
 use graph::record::TableEntry;
 use graph::store::Words;
@@ -10,7 +11,7 @@ use graph::store::table::table_count;
 use graph::store::table::table_in;
 ghost use mathlib.Core.Path.{_≡_};
 ghost use mathlib.Core.Bool.{_&&_};
-ghost use Prim.Native.Nat.{_≤_, _<_};
+ghost use Prim.Native.Nat.{_+_, _*_, _≤_, _<_};
 ghost use lib.Dec.{eqb, ltb};
 ghost use lib.ListN.{length};
 ghost use Rattle.graph.specs.Graph.{block};
@@ -19,7 +20,8 @@ ghost use Rattle.graph.specs.Table.{below, isStart};
 ghost use Rattle.graph.specs.Lookup.{Finds};
 ghost use Rattle.graph.specs.WellFormed.{Built};
 ghost use Rattle.addition.specs.Blocks.{firstOf, lastOf, blockIn, leading};
-ghost use Rattle.unwind.specs.Stands.{Stands, Before, Guards, leadingOf};
+ghost use Rattle.unwind.specs.Stands.{Stands, Before, leadingOf};
+ghost use Rattle.unwind.specs.Sides.{GuardsPut};
 ghost use Rattle.unwind.specs.Wanted.{RunsFit};
 
 // Whether an address starts a built block, lies inside one, or starts no instruction.
@@ -167,27 +169,26 @@ fn search(g: &Words, built: usize, a: u64) -> Lead
     Lead::Inside
 }
 
-// The built blocks that a route from `start` to `end` covers and that keep their exception edge.
-pub fn guarded_by(g: &Words, built: usize, start: u64, end: u64) -> [u64; 16]
-    requires { ⌜ Stands (heldIn (now g) .graph) × Built (heldIn (now g) .graph) built ⌝ }
-    ensures { λ r. ⌜ Guards (heldIn (now (g .entry)) .graph) start end r ⌝ }
+// Into set r the built blocks that a route from `start` to `end` covers and that keep their exception edge.
+pub fn guard_blocks(g: &Words, built: usize, start: u64, end: u64, guards: &mut [u64], r: usize)
+    requires { ⌜ Stands (heldIn (now g) .graph) × Built (heldIn (now g) .graph) built × (16 * r + 16 ≤ length (now guards)) ⌝ }
+    ensures { λ _. ⌜ GuardsPut (heldIn (now (g .entry)) .graph) start end (now (guards .entry)) r (now (guards .exit)) ⌝ }
 {
-    let mut set = [0u64; 16];
+    empty_set(guards, r);
     // The block of an empty table has no first instruction.
     if table_count(g) == 0 {
-        return set;
+        return;
     }
     let first = block_from(g, built, position(g, start));
     for b in first..built {
         let entry = first_of(g, b);
         if end <= entry.address {
-            return set;
+            return;
         }
         if entry.keeps == 1 {
-            put_in(&mut set, b);
+            put_block(guards, r, b);
         }
     }
-    set
 }
 
 // The first instruction of block b, which stands in the table.

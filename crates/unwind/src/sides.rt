@@ -1,10 +1,9 @@
 // What routes and ends say of blocks: the blocks that each route guards, and where each end lands.
-use crate::blocks::guarded_by;
+use crate::blocks::guard_blocks;
 use crate::blocks::leading_block;
 use crate::blocks::led_block;
 use crate::emit::entries::LEAVE;
 use crate::routes::path_of;
-use crate::slots::put_set;
 use crate::tries::store::branch_in;
 use graph::resume::HANDLER;
 use graph::store::Words;
@@ -35,8 +34,7 @@ pub fn guard_routes(g: &Words, built: usize, s: &[u8], y: RouteLayout, guards: &
     let n = y.routes.count as usize;
     for r in 0..n {
         let route = route_in(s, y.routes, r);
-        let set = guarded_by(g, built, route.start, route.end);
-        put_set(guards, r, &set);
+        guard_blocks(g, built, route.start, route.end, guards, r);
     }
 }
 

@@ -4,7 +4,7 @@ ghost use mathlib.Core.Path.{_≡_};
 ghost use Prim.Native.Nat.{_+_, _*_, _/_, _≤_, _<_};
 ghost use lib.Bits.{bitXor};
 ghost use lib.ListN.{length, getD};
-ghost use Rattle.graph.specs.BlockSet.{sizeOf};
+ghost use Rattle.graph.specs.BlockSet.{none, including, sizeOf};
 ghost use Rattle.unwind.specs.Gather.{inSet};
 ghost use Rattle.unwind.specs.Most.{membersOf};
 ghost use Rattle.unwind.specs.Placed.{setAt, returnsIn, SetPut};
@@ -44,6 +44,26 @@ pub fn put_set(sets: &mut [u64], i: usize, w: &[u64; 16])
     for k in 0..16 {
         sets[at + k] = w[k];
     }
+}
+
+// Empties set i.
+pub fn empty_set(sets: &mut [u64], i: usize)
+    requires { ⌜ 16 * i + 16 ≤ length (now sets) ⌝ }
+    ensures { λ _. ⌜ SetPut (now (sets .entry)) i none (now (sets .exit)) ⌝ }
+{
+    let at = 16 * i;
+    for k in 0..16 {
+        sets[at + k] = 0;
+    }
+}
+
+// Block b into set i.
+pub fn put_block(sets: &mut [u64], i: usize, b: usize)
+    requires { ⌜ (16 * i + 16 ≤ length (now sets)) × (b < 1024) ⌝ }
+    ensures { λ _. ⌜ SetPut (now (sets .entry)) i (including (setAt (now (sets .entry)) i) b) (now (sets .exit)) ⌝ }
+{
+    let k = 16 * i + b / 64;
+    sets[k] = sets[k] | (1 << (b % 64));
 }
 
 // Whether set i has block b.

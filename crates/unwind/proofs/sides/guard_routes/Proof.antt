@@ -26,18 +26,17 @@ loop-holds c = let a = c .before .before .before .args in (omega arith, refl, gu
 among : (c : tie.In-loop Inv-loop μ-loop) → c .before .loop .r < length (recordsIn routeFrom (c .before .before .before .before .before .args .s .now) (c .before .before .before .before .before .args .y .routes))
 among c = rw (length-records routeFrom (c .before .before .before .before .before .args .s .now) (c .before .before .before .before .before .args .y .routes)) (omega arith)
 
-put-set-requires : tie.Need-put-set-requires Inv-loop μ-loop
-put-set-requires c κs = omega (arith, among (c .before .before .before .before), c .before .before .before .before .before .loop .inv .1, c .before .before .before .before .before .before .before .before .before .pre .2)
+guard-blocks-requires : tie.Need-guard-blocks-requires Inv-loop μ-loop
+guard-blocks-requires c κs =
+    let pre = c .before .before .before .before .before .before .before .pre in
+    (pre .0, pre .1, omega (arith, among (c .before .before), c .before .before .before .loop .inv .1, pre .2))
 
 loop-again : tie.Need-loop-again Inv-loop μ-loop
 loop-again c =
-    let a = c .before .before .before .before .before .before .before .before .before .before .before .before .args in
-    let top = c .before .before .before .before .before .before .before .before .loop in
-    let found = rw (c .before .before .before .before .before .before .route-in .ensures) at (c .before .before .before .before .before .guarded-by .ensures) in (
-      omega arith,
-      c .before .before .put-set .ensures .long ∙ top .inv .1,
-      guards-more (heldIn (a .g .now) .graph) (routesIn (a .s .now) (a .y)) (top .guards) _ _ (top .r) (among (c .before .before .before .before .before .before .before)) found (c .before .before .put-set .ensures) (top .inv .2),
-    )
+    let a = c .before .before .before .before .before .before .before .before .before .before .args in
+    let top = c .before .before .before .before .before .before .loop in
+    let put = rw (c .before .before .before .before .route-in .ensures) at (c .before .before .guard-blocks .ensures) in
+    (omega arith, put .long ∙ top .inv .1, guards-more (heldIn (a .g .now) .graph) (routesIn (a .s .now) (a .y)) (top .guards) _ (top .r) (among (c .before .before .before .before .before)) put (top .inv .2))
 
 same-length : tie.Need-same-length Inv-loop μ-loop
 same-length c = c .before .loop .inv .1
@@ -58,8 +57,7 @@ guard-routes-spec =
     (λ c. search needs)
     loop-holds
     (λ c κs. search needs)
-    (λ c κs. search needs)
-    put-set-requires
+    guard-blocks-requires
     (λ c. search needs)
     (λ c. search needs)
     loop-again

@@ -14,7 +14,8 @@ use Rattle.unwind.specs.Copies.{copyNumber, hopsFrom, copyHops}
 use Rattle.unwind.specs.HopWords.{hopsIn, HopsFit, HopsBelow}
 use Rattle.unwind.proofs.CopyLaws.{copy-first}
 use Rattle.unwind.proofs.HeldLaws.{held-below, held-then}
-use Rattle.unwind.proofs.MemberLaws.{SetHolding, holding-start, holding-here, holding-fit, holding-next, holding-end, walked-here, copy-rises, set-long, sets-quiet, sets-below, sets-few, sets-number, sets-here, sets-more}
+use Rattle.unwind.proofs.MemberLaws.{SetHolding, holding-start, holding-here, holding-fit, holding-next, holding-end, walked-here, copy-rises, sets-quiet, sets-below, sets-few, sets-number, sets-here, sets-more}
+use Rattle.unwind.proofs.SlotLaws.{set-long}
 use Rattle.unwind.proofs.emit.cloned.add_copies.Statement.{statement}
 use Rattle.unwind.proofs.emit.cloned.add_copies.Tie as tie
 

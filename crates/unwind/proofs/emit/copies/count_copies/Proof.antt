@@ -10,7 +10,8 @@ use Rattle.addition.specs.Ways.{Hop}
 use Rattle.unwind.specs.Placed.{setAt, returnsIn}
 use Rattle.unwind.specs.Sizes.{HopsSize}
 use Rattle.unwind.specs.Copies.{copyHops}
-use Rattle.unwind.proofs.MemberLaws.{SetCounting, counting-start, counting-few, counting-next, counting-end, walked-here, set-long, sets-quiet, sets-below, sets-few, sets-here}
+use Rattle.unwind.proofs.MemberLaws.{SetCounting, counting-start, counting-few, counting-next, counting-end, walked-here, sets-quiet, sets-below, sets-few, sets-here}
+use Rattle.unwind.proofs.SlotLaws.{set-long}
 use borrow.Author.Needs.{needs}
 use Rattle.unwind.proofs.emit.copies.count_copies.Statement.{statement}
 use Rattle.unwind.proofs.emit.copies.count_copies.Tie as tie
