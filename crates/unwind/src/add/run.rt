@@ -172,7 +172,7 @@ fn place(
     )
 }
 
-// Instances that are placed: the blocks that routes guard, those of handlers, and those that return. Then no hint is
+// Instances that are placed: the blocks that return, those that routes guard, and those of handlers. Then no hint is
 // asked for, and `hints` is room for a list of nodes.
 fn add_instances(
     g: &mut Words,
@@ -198,10 +198,10 @@ fn add_instances(
     requires { ⌜ RoutesChecked (heldIn (now g)) built (routesIn (now s) y) × Placements (heldIn (now g) .graph) (routesIn (now s) y) (now nodes) (now edges) (now ends) (now roots) (now head) (now next) (now bases) (now heads) (now parts) (now guards) (now landings) (now exits) stored × RoutesThere (now s) y × (stored .nodes ≤ length (now hints)) ⌝ }
     ensures { λ r. ⌜ Sized (routesIn (now (s .entry)) y) (now (g .entry)) (now (g .exit)) (now (h .entry)) (now (h .exit)) r ⌝ }
 {
-    guard_routes(g, built, s, y, guards);
-    land_ends(g, built, hints, s, y, ends, stored.ends, landings);
     let mut returners = [0u64; 16];
     returning_blocks(g, head, next, &mut returners);
+    guard_routes(g, built, s, y, guards);
+    land_ends(g, built, hints, s, y, ends, stored.ends, landings);
     add_placed(
         g,
         s,
