@@ -2,7 +2,8 @@
 --     Fits                         so many hops and lists at most
 --     members-less, members-next   a set has no more blocks below fewer; a word more of it
 --     sum-more, product-most       one more of a sum, and a product with the size of a set
---     sum-most                     a sum of products with the sizes of sets, by how many there are
+--     sum-part, sum-each           a number of a sum, and a sum of numbers that are m or less
+--     sum-most                     a sum of products with the sizes of sets
 --     most-hops                    all hops that routes give
 -- Assumes nothing.
 use mathlib.Core.Path.{_≡_, refl, sym, ap, _∙_}
@@ -12,6 +13,7 @@ use mathlib.Core.List.{List, [], _∷_, _++_}
 use Prim.Native.Nat.{ℕ, zero, suc, _+_, _-_, _*_, _^_, _≤_, _<_}
 use native.Mathlib.Nat.{mul-suc, zero-mul, mul-le-mul, mul-le-mul-left}
 use native.Mathlib.Numerals.{add-one}
+use native.Mathlib.Decide.{decLt}
 use native.Mathlib.Omega.{arith}
 use lib.Count.{ones}
 use lib.Dec.{eqb, isEq}
@@ -27,13 +29,13 @@ use Rattle.addition.specs.Ways.{Hop, compareLeaps}
 use Rattle.unwind.proofs.TrieKeys.{joined-append}
 use Rattle.unwind.specs.declared.tries.store.NodeRecord.{NodeRecord}
 use Rattle.unwind.specs.declared.tries.store.Counts.{Counts}
-use Rattle.unwind.specs.Nodes.{recordIn}
+use Rattle.unwind.specs.Nodes.{recordIn, waysOf}
 use Rattle.unwind.specs.Placed.{setAt}
 use Rattle.unwind.specs.Sources.{Exit, compareExits, leapOf, firstHop, withList, hopsThen, hopsOn}
 use Rattle.unwind.specs.Gather.{inSet, edgeExits, endExits, recordExits, routeRecords, nodeRecords}
 use Rattle.unwind.specs.Lent.{blockRecords, blockHops}
 use Rattle.unwind.specs.Copies.{hopsFrom, hopsIf, copyHops, copyNumber, nodeHops}
-use Rattle.unwind.specs.Most.{waysOf, membersOf, guardedWays, returnedWays}
+use Rattle.unwind.specs.Most.{membersOf, guardedWays, returnedWays}
 use Rattle.unwind.proofs.Rising.{sorted-length}
 use Rattle.unwind.proofs.Sources.{lists-then}
 use Rattle.unwind.proofs.MemberLaws.{in-set}
@@ -99,11 +101,24 @@ product-most w a b h k =
     let most : b ≤ 1024 = omega (arith, k, count-le (member w) 1024) in
     omega (arith, mul-le-mul h most)
 
--- n products, each of m or less and of how many of b blocks a set has
-pub sum-most : (w : ℕ → ℕ) (f : ℕ → ℕ → Bool) (m b n : ℕ) → ((k : ℕ) → k < n → w k ≤ m) → sum (λ k. w k * count (f k) b) n ≤ n * m * b
+pub sum-part : (w : ℕ → ℕ) (n k : ℕ) → k < n → w k ≤ sum w n
 unfolding sum
-sum-most w f m b zero each = omega arith
-sum-most w f m b (suc n) each = omega (arith, sum-most w f m b n (λ k h. each k (omega arith)), mul-le-mul (each n (omega arith)) (count-le (f n) b))
+sum-part w zero k h = absurd (omega arith)
+sum-part w (suc n) k h = elim (decLt k n) [
+  | yes lt ↦ omega (arith, sum-part w n k lt)
+  | no ge ↦ let z : k ≡ n = omega arith in rw z (omega arith)
+]
+
+pub sum-each : (w : ℕ → ℕ) (m n : ℕ) → ((k : ℕ) → k < n → w k ≤ m) → sum w n ≤ n * m
+unfolding sum
+sum-each w m zero each = omega arith
+sum-each w m (suc n) each = omega (arith, sum-each w m n (λ k h. each k (omega arith)), each n (omega arith))
+
+-- n products, each with how many of b blocks a set has
+pub sum-most : (w : ℕ → ℕ) (f : ℕ → ℕ → Bool) (b n : ℕ) → sum (λ k. w k * count (f k) b) n ≤ sum w n * b
+unfolding sum
+sum-most w f b zero = omega arith
+sum-most w f b (suc n) = omega (arith, sum-most w f b n, mul-le-mul-left (w n) (count-le (f n) b))
 
 sum-add : (f h s : ℕ → ℕ) (n : ℕ) → ((k : ℕ) → k < n → f k + h k ≡ s k) → sum f n + sum h n ≡ sum s n
 unfolding sum

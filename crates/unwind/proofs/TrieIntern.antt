@@ -59,6 +59,7 @@ stored-still nodes edges ends edges′ ends′ c stored e d =
       ends-fit = omega (arith, stored .ends-fit);
       edges-in = stored .edges-in;
       ends-in = stored .ends-in;
+      ways-in = stored .ways-in;
     }
 
 module _ (m : RouteImage) (l : List ℕ) (g : Group) (grouped : Grouped m l g) (nodes edges ends stack : List ℕ) (c : Counts) (top n : ℕ)

@@ -7,7 +7,7 @@
 --     behind-fits, stored-fits                            the edges and ends of nodes stand in the lists
 --     kept-present, kept-new                              a node stands already, or is stored
 -- Assumes nothing.
-use mathlib.Core.Path.{_≡_, refl, sym, ap, _∙_}
+use mathlib.Core.Path.{_≡_, refl, sym, ap, ap₂, _∙_}
 use mathlib.Core.Bool.{Bool, true, false, cond, _&&_, and-false}
 use mathlib.Core.List.{List, [], _∷_, _++_, map}
 use mathlib.Core.Option.{Option, none, some, Option·map, Option·none-ne-some}
@@ -20,12 +20,13 @@ use lib.Dec.{eqb, isEq}
 use lib.ListN.{length, getD, drop, drop-of-length-le}
 use lib.Seq.{drop-cons}
 use Rattle.image.specs.Image.{RouteImage, table}
+use Rattle.graph.specs.Fold.{sum}
 use Rattle.graph.proofs.FoldLaws.{length-table, getD-table, table-same}
 use Rattle.unwind.specs.declared.tries.store.NodeRecord.{NodeRecord}
 use Rattle.unwind.specs.declared.tries.store.Counts.{Counts}
 use Rattle.addition.specs.Order.{same}
 use Rattle.addition.specs.Trie.{Node, sameFunclet, sameNode, placeOf, created, create, nodeAt}
-use Rattle.unwind.specs.Nodes.{stepIn, funcletIn, valueOf, recordIn, branchIn, edgeOf, endAt, nodeIn, nodesIn, Stored, NodeFits, AllFit, NodePut}
+use Rattle.unwind.specs.Nodes.{stepIn, funcletIn, valueOf, recordIn, waysOf, branchIn, edgeOf, endAt, nodeIn, nodesIn, Stored, NodeFits, AllFit, NodePut}
 use Rattle.unwind.specs.Kept.{Behind, Kept}
 use Rattle.unwind.proofs.TrieRuns.{branches-same}
 
@@ -145,6 +146,18 @@ nodes-same m nodes′ nodes edges ends n same =
     table-same (λ i. nodeIn m edges ends (recordIn nodes′ i)) (λ i. nodeIn m edges ends (recordIn nodes i)) n
     (λ i h. ap (nodeIn m edges ends) (same i h))
 
+ways-same : (nodes′ nodes : List ℕ) (n : ℕ) → ((i : ℕ) → i < n → recordIn nodes′ i ≡ recordIn nodes i) → sum (waysOf nodes′) n ≡ sum (waysOf nodes) n
+unfolding sum
+ways-same nodes′ nodes zero same = refl
+ways-same nodes′ nodes (suc n) same = ap₂ _+_ (ways-same nodes′ nodes n (λ i h. same i (omega arith))) (ap (λ (x : NodeRecord). x .edges + x .ends) (same n (omega arith)))
+
+-- the edges and ends of a node more
+ways-more : (nodes nodes′ : List ℕ) (n : ℕ) (x : NodeRecord) → NodePut nodes n x nodes′ → sum (waysOf nodes′) (n + 1) ≡ sum (waysOf nodes) n + (x .edges + x .ends)
+unfolding sum
+ways-more nodes nodes′ n x done =
+    ap (sum (waysOf nodes′)) (add-one n)
+    ∙ ap₂ _+_ (ways-same nodes′ nodes n (λ i h. done .others i (λ z. omega arith))) (ap (λ (x : NodeRecord). x .edges + x .ends) (done .here))
+
 -- stores behind the edges and ends that are counted leave the nodes as they are
 pub nodes-still : (m : RouteImage) (nodes edges ends edges′ ends′ : List ℕ) (c : Counts) → Stored nodes edges ends c
     → ((k : ℕ) → k < c .edges → branchIn edges′ k ≡ branchIn edges k) → ((k : ℕ) → k < c .ends → branchIn ends′ k ≡ branchIn ends k)
@@ -209,6 +222,7 @@ module _ (m : RouteImage) (nodes edges ends : List ℕ) (c : Counts) (x : NodeRe
             | yes lt ↦ rw (done .others i (λ z. omega arith)) (omega (arith, stored .ends-in i lt))
             | no ge ↦ let z : i ≡ c .nodes = omega arith in rw (z, done .here) (omega (arith, behind .first-end))
           ];
+          ways-in = omega (arith, ways-more nodes nodes′ (c .nodes) x done, stored .ways-in);
         };
         grown = omega arith;
       }

@@ -17,7 +17,7 @@ use Rattle.image.specs.Image.{RouteImage, table}
 use Rattle.image.specs.Deal.{total, propagate, UnwindPath, UnwindRoute, routesOf}
 use Rattle.image.specs.Accepted.{AcceptedRoutes}
 use Rattle.image.proofs.Deals.{total-within}
-use Rattle.graph.specs.Fold.{flat}
+use Rattle.graph.specs.Fold.{flat, sum}
 use Rattle.graph.specs.Route.{routeAt, pathsBefore, stepsBefore, pathIn}
 use Rattle.graph.proofs.FoldLaws.{length-table, getD-table}
 use Rattle.graph.proofs.RouteLaws.{length-routes, paths-of, path-of, paths-in, paths-next, steps-of, steps-next}
@@ -131,7 +131,7 @@ pub record Routed (m : RouteImage) (nodes₀ edges₀ ends₀ stack₀ roots₀ 
 module _ (m : RouteImage) (ok : AcceptedRoutes m) (starts₀ nodes₀ edges₀ ends₀ stack₀ roots₀ : List ℕ)
     (scratch : Scratch m starts₀ nodes₀ edges₀ ends₀ stack₀ roots₀) where
   pub route-start : Routed m nodes₀ edges₀ ends₀ stack₀ roots₀ nodes₀ edges₀ ends₀ stack₀ roots₀ (record { nodes = 0; edges = 0; ends = 0 }) 0 0
-  unfolding tries pathsBefore total nodesIn table
+  unfolding tries pathsBefore total nodesIn table sum
   route-start =
       record {
         nodes-long = refl;
@@ -146,6 +146,7 @@ module _ (m : RouteImage) (ok : AcceptedRoutes m) (starts₀ nodes₀ edges₀ e
           ends-fit = omega arith;
           edges-in = λ i h. absurd (omega arith);
           ends-in = λ i h. absurd (omega arith);
+          ways-in = omega arith;
         };
         lower = lower-none;
         nodes-done = refl;

@@ -1,15 +1,11 @@
 -- The most ways out of blocks that routes can give.
 use mathlib.Core.List.{List}
-use Prim.Native.Nat.{ℕ, _+_, _*_}
+use Prim.Native.Nat.{ℕ, _*_}
 use lib.ListN.{getD}
 use Rattle.graph.specs.Fold.{count, sum}
 use Rattle.graph.specs.BlockSet.{member}
-use Rattle.unwind.specs.Nodes.{recordIn}
+use Rattle.unwind.specs.Nodes.{waysOf}
 use Rattle.unwind.specs.Placed.{setAt}
-
--- the ways of node i out of one block
-abbrev pub waysOf : List ℕ → ℕ → ℕ
-waysOf nodes i = recordIn nodes i .edges + recordIn nodes i .ends
 
 -- how many blocks of set i are below n
 abbrev pub membersOf : List ℕ → ℕ → ℕ → ℕ

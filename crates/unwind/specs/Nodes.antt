@@ -10,6 +10,7 @@ use Rattle.image.specs.Image.{RouteImage, table}
 use Rattle.image.specs.Deal.{UnwindEnd, endOf}
 use Rattle.image.specs.declared.record.Path.{Path}
 use Rattle.image.specs.declared.record.Step.{Step}
+use Rattle.graph.specs.Fold.{sum}
 use Rattle.unwind.specs.declared.tries.store.NodeRecord.{NodeRecord}
 use Rattle.unwind.specs.declared.tries.store.Branch.{Branch}
 use Rattle.unwind.specs.declared.tries.store.Counts.{Counts}
@@ -35,6 +36,10 @@ branchIn l k = record { step = getD l (3 * k) 0; calls = getD l (3 * k + 1) 0; w
 -- the n branches from a on
 unfoldable pub branches : List ℕ → ℕ → ℕ → List Branch
 branches l a n = table (λ k. branchIn l (a + k)) n
+
+-- the ways of node i out of one block: its edges and ends
+abbrev pub waysOf : List ℕ → ℕ → ℕ
+waysOf nodes i = recordIn nodes i .edges + recordIn nodes i .ends
 
 -- the number that names a funclet, or 0 if there is none
 abbrev pub valueOf : Option ℕ → ℕ
@@ -88,6 +93,8 @@ pub record Stored (nodes edges ends : List ℕ) (c : Counts) : Type 0 where
   -- the edges and ends of each node stand among those that are stored
   pub edges-in : (i : ℕ) → i < c .nodes → recordIn nodes i .«first_edge» + recordIn nodes i .edges ≤ c .edges
   pub ends-in : (i : ℕ) → i < c .nodes → recordIn nodes i .«first_end» + recordIn nodes i .ends ≤ c .ends
+  -- so do those of all nodes together: no two share one
+  pub ways-in : sum (waysOf nodes) (c .nodes) ≤ c .edges + c .ends
 
 -- the edges and ends of x stand in two lists
 pub record NodeFits (edges ends : List ℕ) (x : NodeRecord) : Type 0 where

@@ -8,11 +8,13 @@ use crate::tries::store::number_in;
 ghost use mathlib.Core.Path.{_≡_};
 ghost use Prim.Native.Nat.{ℕ, _+_, _*_, _≤_, _<_};
 ghost use lib.ListN.{length, getD};
+ghost use Rattle.graph.specs.Fold.{sum};
+ghost use Rattle.unwind.specs.Nodes.{waysOf};
 ghost use Rattle.unwind.specs.Placed.{returnsIn};
-ghost use Rattle.unwind.specs.Most.{waysOf, guardedWays, returnedWays};
+ghost use Rattle.unwind.specs.Most.{guardedWays, returnedWays};
 
-// Of each route out of the blocks that it guards, and of each node out of those from which it returns. Where all edges and ends
-// out of all blocks, for each of them, are few, no set is counted.
+// Of each route out of the blocks that it guards, and of each node out of those from which it returns. No two nodes share an
+// edge or an end. Where all edges and ends out of all blocks, for each route and once for the nodes, are few, no set is counted.
 pub fn most_ways(
     nodes: &[u16],
     roots: &[u16],
@@ -23,16 +25,15 @@ pub fn most_ways(
     stored: Counts,
     blocks: usize,
 ) -> usize
-    requires { ⌜ (routes ≤ 1024) × (stored .nodes ≤ 1024) × (stored .edges ≤ 512) × (stored .ends ≤ 128) × (blocks ≤ 1024) × (16 * routes ≤ length (now guards)) × (16 * stored .nodes ≤ length (now parts)) × ((r : ℕ) → r < routes → getD (now roots) r 0 < stored .nodes) × (routes ≤ length (now roots)) × (6 * stored .nodes ≤ length (now nodes)) × ((i : ℕ) → i < stored .nodes → waysOf (now nodes) i ≤ stored .edges + stored .ends) ⌝ }
+    requires { ⌜ (routes ≤ 1024) × (stored .nodes ≤ 1024) × (stored .edges ≤ 512) × (stored .ends ≤ 128) × (blocks ≤ 1024) × (16 * routes ≤ length (now guards)) × (16 * stored .nodes ≤ length (now parts)) × ((r : ℕ) → r < routes → getD (now roots) r 0 < stored .nodes) × (routes ≤ length (now roots)) × (6 * stored .nodes ≤ length (now nodes)) × (sum (waysOf (now nodes)) (stored .nodes) ≤ stored .edges + stored .ends) ⌝ }
     ensures { λ r. ⌜ guardedWays (now (nodes .entry)) (now (roots .entry)) (now (guards .entry)) blocks routes + returnedWays (now (nodes .entry)) (returnsIn (now (parts .entry)) (now (returners .entry))) blocks (stored .nodes) ≤ r ⌝ }
 {
-    let n = stored.nodes;
-    let rough = (routes + n) * (stored.edges + stored.ends) * blocks;
+    let rough = (routes + 1) * (stored.edges + stored.ends) * blocks;
     if rough <= HOP_MOST {
         return rough;
     }
     most_guarded(nodes, roots, guards, routes, blocks)
-        + most_returned(nodes, parts, returners, n, blocks)
+        + most_returned(nodes, parts, returners, stored.nodes, blocks)
 }
 
 // Those of the routes.

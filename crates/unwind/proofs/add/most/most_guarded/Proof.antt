@@ -5,7 +5,8 @@ use native.Mathlib.Omega.{arith}
 use borrow.Author.Needs.{needs}
 use lib.ListN.{getD}
 use Rattle.graph.specs.Fold.{sum}
-use Rattle.unwind.specs.Most.{waysOf, membersOf, guardedWays}
+use Rattle.unwind.specs.Nodes.{waysOf}
+use Rattle.unwind.specs.Most.{membersOf, guardedWays}
 use Rattle.unwind.proofs.MostLaws.{sum-more, product-most}
 use Rattle.unwind.proofs.add.most.most_guarded.Statement.{statement}
 use Rattle.unwind.proofs.add.most.most_guarded.Tie as tie

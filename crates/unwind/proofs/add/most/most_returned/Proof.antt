@@ -5,7 +5,8 @@ use native.Mathlib.Omega.{arith}
 use borrow.Author.Needs.{needs}
 use Rattle.graph.specs.Fold.{sum}
 use Rattle.unwind.specs.Placed.{returnsIn}
-use Rattle.unwind.specs.Most.{waysOf, membersOf, returnedWays}
+use Rattle.unwind.specs.Nodes.{waysOf}
+use Rattle.unwind.specs.Most.{membersOf, returnedWays}
 use Rattle.unwind.proofs.MostLaws.{sum-more, product-most}
 use Rattle.unwind.proofs.add.most.most_returned.Statement.{statement}
 use Rattle.unwind.proofs.add.most.most_returned.Tie as tie

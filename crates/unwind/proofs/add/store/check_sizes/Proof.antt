@@ -32,7 +32,7 @@ most-ways-requires c κs =
     let x = start .pre .0 in
     let i = x .instances in
     let many = routes (c .before .before .before .before .before .before .before .before .before .before .before .before .before .before .before .before .before) in
-    (omega (arith, many, x .accepted .routes-most), omega (arith, i .trie .nodes-most), i .trie .edges-most, i .trie .ends-most, omega (arith, c .block-count .ensures, block-most (start .args .g .now)), omega (arith, many, i .guards-fit), i .slots .parts-fit, λ r h. i .trie .roots-in r (omega (arith, many, h)), omega (arith, many, roots-fit _ (a .nodes .now) (a .edges .now) (a .ends .now) (a .roots .now) (a .stored) (i .trie)), i .trie .stored .nodes-fit, λ k h. omega (arith, i .trie .stored .edges-in k h, i .trie .stored .ends-in k h))
+    (omega (arith, many, x .accepted .routes-most), omega (arith, i .trie .nodes-most), i .trie .edges-most, i .trie .ends-most, omega (arith, c .block-count .ensures, block-most (start .args .g .now)), omega (arith, many, i .guards-fit), i .slots .parts-fit, λ r h. i .trie .roots-in r (omega (arith, many, h)), omega (arith, many, roots-fit _ (a .nodes .now) (a .edges .now) (a .ends .now) (a .roots .now) (a .stored) (i .trie)), i .trie .stored .nodes-fit, i .trie .stored .ways-in)
 
 above : (c : tie.After-most-ways) → let a = c .before .before .before .before .before .before .before .before .before .before .before .before .before .before .before .before .before .before .args in
     guardedWays (a .nodes .now) (a .roots .now) (a .guards .now) (length (heldIn (a .g .now) .graph .blocks)) (length (routesIn (a .s .now) (a .y) .routes)) + returnedWays (a .nodes .now) (returnsIn (a .parts .now) (a .returners .now)) (length (heldIn (a .g .now) .graph .blocks)) (a .stored .nodes) ≤ c .most-ways .result
