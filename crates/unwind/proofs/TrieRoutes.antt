@@ -1,6 +1,6 @@
 -- The routes, one after the other.
 --     steps-below, paths-all, rooted-lt     where the children of a route and a path start; roots stand among the nodes
---     rootGroup, root-paths, root-count, root-weight, root-funclet     the group of a route's paths
+--     root-paths, root-count, root-weight, root-funclet     the group of a route's paths
 --     Routed, route-start, route-grouped, route-room, place-small, route-next, route-done     the routes before r are interned
 -- Assumes nothing.
 use mathlib.Core.Path.{_≡_, refl, sym, ap, ap₂, subst, _∙_}
@@ -28,7 +28,7 @@ use Rattle.addition.specs.Trie.{Node, Interned as Made, Tries, internRoutes, tr
 use Rattle.unwind.specs.Nodes.{funcletIn, nodesIn, Stored}
 use Rattle.unwind.specs.Interning.{strip, stepsIn, leftAt, pathsOf, Starts}
 use Rattle.unwind.specs.Lower.{Lower}
-use Rattle.unwind.specs.Interns.{interned, weight, funcletOf, Grouped, Room, Interns}
+use Rattle.unwind.specs.Interns.{interned, weight, rootGroup, funcletOf, Grouped, Room, Interns}
 use Rattle.unwind.specs.Routed.{Scratch, TriesIn}
 use Rattle.addition.proofs.Lists.{at-lt}
 use Rattle.addition.proofs.Intern.{Rooted, no-more, rooted, tries-law}
@@ -70,9 +70,6 @@ weight-append : (l k : List UnwindPath) → weight (l ++ k) ≡ weight l + weigh
 unfolding weight
 weight-append [] k = omega arith
 weight-append (p ∷ l) k = omega (arith, weight-append l k)
-
-abbrev pub rootGroup : ℕ → ℕ → ℕ → Group
-rootGroup r first count = record { route = r; first = first; count = count; from = 0; depth = 0 }
 
 module _ (m : RouteImage) (r first count : ℕ) where
   root-table : pathsOf m (rootGroup r first count) ≡ table (λ (k : ℕ). pathIn m (first + k)) count

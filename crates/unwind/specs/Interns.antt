@@ -28,6 +28,10 @@ unfoldable pub weight : List UnwindPath → ℕ
 weight [] = 0
 weight (p ∷ ps) = length (p .steps) + weight ps
 
+-- all paths of a route
+abbrev pub rootGroup : ℕ → ℕ → ℕ → Group
+rootGroup r first count = record { route = r; first = first; count = count; from = 0; depth = 0 }
+
 -- the paths that go on behind the calls and the funclet of a key
 unfoldable pub groupBehind : Group → Key → Group
 groupBehind g k =

@@ -14,12 +14,14 @@ use crate::tries::paths::path_starts;
 use crate::tries::store::Counts;
 use image::access::route_in;
 use image::section::RouteLayout;
+ghost use mathlib.Core.Path.{_≡_};
 ghost use Rattle.image.specs.Image.{routesIn};
 ghost use Rattle.image.specs.Accepted.{AcceptedRoutes};
 ghost use Rattle.image.specs.There.{RoutesThere};
+ghost use Rattle.unwind.specs.Interns.{rootGroup};
 ghost use Rattle.unwind.specs.Routed.{Scratch, TriesIn};
 
-// The nodes of all routes, and the root of each; how much is stored of them.
+// The nodes of all routes, and the root of each; how much is stored of them, which is counted in three numbers as in `intern`.
 pub fn intern_routes(
     s: &[u8],
     y: RouteLayout,
@@ -35,22 +37,14 @@ pub fn intern_routes(
 {
     path_starts(s, y, starts);
     let n = y.routes.count as usize;
-    let mut stored = Counts {
-        nodes: 0,
-        edges: 0,
-        ends: 0,
-    };
+    let mut node_count = 0;
+    let mut edge_count = 0;
+    let mut end_count = 0;
     let mut seen = [0u64; 16];
     let mut first = 0;
     for r in 0..n {
         let count = route_in(s, y.routes, r).paths;
-        let group = Group {
-            route: r,
-            first,
-            count,
-            from: 0,
-            depth: 0,
-        };
+        let group = root_group(r, first, count);
         let root = intern(
             s,
             y,
@@ -61,12 +55,35 @@ pub fn intern_routes(
             ends,
             stack,
             &mut seen,
-            stored,
+            Counts {
+                nodes: node_count,
+                edges: edge_count,
+                ends: end_count,
+            },
             0,
         );
         roots[r] = root.place as u16;
-        stored = root.counts;
+        node_count = root.counts.nodes;
+        edge_count = root.counts.edges;
+        end_count = root.counts.ends;
         first += count;
     }
-    stored
+    Counts {
+        nodes: node_count,
+        edges: edge_count,
+        ends: end_count,
+    }
+}
+
+// All paths of a route: none has gone a step yet.
+fn root_group(route: usize, first: usize, count: usize) -> Group
+    ensures { λ r. ⌜ r ≡ rootGroup route first count ⌝ }
+{
+    Group {
+        route,
+        first,
+        count,
+        from: 0,
+        depth: 0,
+    }
 }
