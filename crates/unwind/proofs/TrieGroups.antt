@@ -4,7 +4,7 @@
 --     rest-left, rest-paths            the group behind a key has the paths that are left
 --     sumOf, ahead, stepsAhead, pathsAhead     how many steps and paths there are whose key comes after `last`
 --     steps-start, paths-start, steps-step, paths-step     none is passed, and one key more
---     rest-some                        something is left of a key's paths
+--     rest-some, paths-few             something is left of a key's paths; a group has no more paths than it counts
 -- Assumes nothing.
 use mathlib.Core.Path.{_≡_, refl, sym, ap, ap₂, _∙_}
 use mathlib.Core.Bool.{Bool, true, false, cond}
@@ -269,3 +269,21 @@ rest-some ps x m = go (rest x ps) (groups-mem ps x (mem-sorted order exact-key m
     go : (qs : List UnwindPath) → (q : UnwindPath) × (q ∈ qs) → 1 ≤ length qs
     go [] q = absurd (none-in (q .1))
     go (p ∷ qs) q = omega arith
+
+module _ (m : RouteImage) (g : Group) where
+  left-few : (q : ℕ) → length (leftAt m g q) ≤ 1
+  unfolding leftAt
+  left-few q = go (strip (stepsIn m (g .from) (g .depth)) (pathIn m q .steps))
+    where
+      go : (o : Option (List UnwindStep)) → length (leftWith (pathIn m q .end) o) ≤ 1
+      go none = omega arith
+      go (some s) = omega arith
+
+  paths-below : (n : ℕ) → length (flat (λ k. leftAt m g (g .first + k)) n) ≤ n
+  unfolding flat
+  paths-below zero = omega arith
+  paths-below (suc n) = omega (arith, length-append (flat (λ k. leftAt m g (g .first + k)) n) (leftAt m g (g .first + n)), paths-below n, left-few (g .first + n))
+
+  pub paths-few : length (pathsOf m g) ≤ g .count
+  unfolding pathsOf
+  paths-few = paths-below (g .count)

@@ -3,13 +3,14 @@
 --     end-outside, end-enters, end-over     the end of a path: it is none of the group's, goes on, or is over
 --     end-none, end-put                no end is put, or one
 --     endsBelow, EndsBelow, ends-start, ends-more, ends-all     the ends of the paths before k
+--     ends-nothing                     no path ends
 --     EdgesBelow, edges-start, edges-more     the edges of a stack before k
 -- Assumes nothing.
 use mathlib.Core.Path.{_≡_, refl, sym, ap, _∙_}
 use mathlib.Core.List.{List, [], _∷_, map, append-nil, map-append}
 use Prim.Native.Nat.{ℕ, _+_, _<_, _≤_, compare}
 use native.Mathlib.Omega.{arith}
-use lib.ListN.{length, length-append}
+use lib.ListN.{length, length-append, drop-of-length-le}
 use Rattle.image.specs.Image.{RouteImage, table}
 use Rattle.image.specs.Deal.{UnwindEnd, UnwindPath}
 use Rattle.image.specs.Accepted.{AcceptedRoutes}
@@ -122,6 +123,14 @@ module _ (m : RouteImage) (g : Group) where
           most = rw all at (laid .most);
           others = laid .others;
         }
+
+    -- ---- no path ends
+
+    pub ends-nothing : length (endsList (pathsOf m g)) ≡ 0 → EndsLaid m g l a l 0
+    unfolding endsOf endsList branches table sorted
+    ends-nothing e =
+        let none : endsList (pathsOf m g) ≡ [] = drop-of-length-le (endsList (pathsOf m g)) {i = 0} (omega arith) in
+        record { run = sym (ap (sorted (compareTagged compareEnds)) none); most = omega arith; others = λ i h. refl }
 
 -- ---- the edges of a stack before k
 

@@ -3,7 +3,7 @@
 --     Working, work-start          the groups up to `last` are interned
 --     next-left, next-falls        the next of them, and that its paths have fewer steps left
 --     child-grouped, child-room, push-room, branch-small, left-falls, edge, work-next     it is interned too
---     close-room, work-done        there is none: the node is closed
+--     close-room, close-few, work-done     there is none: the node is closed
 -- Assumes nothing.
 use mathlib.Core.Path.{_≡_, refl, sym, ap, ap₂, subst, _∙_}
 use mathlib.Core.Bool.{true, false≢true}
@@ -38,7 +38,7 @@ use Rattle.unwind.proofs.TrieOrder.{total-key, next-none, next-in, next
 use Rattle.unwind.proofs.TrieRuns.{branches-more, branches-same}
 use Rattle.unwind.proofs.LowerLaws.{interned-lower}
 use Rattle.unwind.proofs.TrieFuel.{rest-falls, interned-is}
-use Rattle.unwind.proofs.TrieGroups.{rest-paths, stepsAhead, pathsAhead, steps-start, paths-start, steps-step, paths-step, rest-some}
+use Rattle.unwind.proofs.TrieGroups.{rest-paths, stepsAhead, pathsAhead, steps-start, paths-start, steps-step, paths-step, rest-some, paths-few}
 use Rattle.unwind.proofs.TrieIntern.{funclet-behind}
 
 abbrev order : Tagged ℕ → Tagged ℕ → Ordering
@@ -129,6 +129,8 @@ module _ (m : RouteImage) (g : Group) where
       pub nodes-most : c .nodes + stepsAhead (keyOf m last) (pathsOf m g) ≤ c₀ .nodes + weight (pathsOf m g)
       pub edges-most : c .edges + n + stepsAhead (keyOf m last) (pathsOf m g) ≤ c₀ .edges + weight (pathsOf m g)
       pub stack-most : n + stepsAhead (keyOf m last) (pathsOf m g) ≤ weight (pathsOf m g)
+      -- each edge is that of a path that goes on
+      pub paths-most : n + pathsAhead (keyOf m last) (pathsOf m g) + length (endsList (pathsOf m g)) ≤ length (pathsOf m g)
       pub ends-most : c .ends + pathsAhead (keyOf m last) (pathsOf m g) + length (endsList (pathsOf m g)) ≤ c₀ .ends + length (pathsOf m g)
 
     pub work-start : Stored nodes₀ edges₀ ends₀ c₀ → Lower (nodesIn m nodes₀ edges₀ ends₀ (c₀ .nodes)) → Working nodes₀ edges₀ ends₀ stack₀ c₀ 0 Nothing
@@ -149,6 +151,7 @@ module _ (m : RouteImage) (g : Group) where
           nodes-most = omega (arith, steps-start (pathsOf m g));
           edges-most = omega (arith, steps-start (pathsOf m g));
           stack-most = omega (arith, steps-start (pathsOf m g));
+          paths-most = omega (arith, paths-start (pathsOf m g));
           ends-most = omega (arith, paths-start (pathsOf m g));
         }
 
@@ -270,6 +273,7 @@ module _ (m : RouteImage) (g : Group) where
                   nodes-most = omega (arith, done .grown .nodes-most, work .nodes-most);
                   edges-most = omega (arith, done .grown .edges-most, work .edges-most);
                   stack-most = omega (arith, work .stack-most);
+                  paths-most = omega (arith, work .paths-most);
                   ends-most = omega (arith, done .grown .ends-most, work .ends-most);
                 }
 
@@ -279,6 +283,9 @@ module _ (m : RouteImage) (g : Group) where
         pub close-room : Room nodes edges ends stack c top 1 n (length (endsList (pathsOf m g)))
         close-room =
             room-left top _ _ _ (omega (arith, work .nodes-most)) (omega (arith, work .edges-most)) (omega (arith, work .ends-most)) (omega (arith, work .stack-most))
+
+        pub close-few : n + length (endsList (pathsOf m g)) ≤ g .count
+        close-few = omega (arith, work .paths-most, paths-few m g)
 
         none-is : internEach made (pathsOf m g) (left last) (nodesIn m nodes edges ends (c .nodes)) ≡ record { edges = []; trie = nodesIn m nodes edges ends (c .nodes) }
         unfolding internEach

@@ -3,7 +3,7 @@ use crate::tries::keys::Key;
 use crate::tries::keys::NextKey;
 use crate::tries::keys::next_key;
 use crate::tries::lay::lay_edges;
-use crate::tries::lay::lay_ends;
+use crate::tries::lay::lay_ends_beside;
 use crate::tries::nodes::Interned;
 use crate::tries::nodes::keep_node;
 use crate::tries::paths::Group;
@@ -120,13 +120,13 @@ fn close_node(
     top: usize,
     n: usize,
 ) -> Interned
-    requires { ⌜ Grouped (routesIn (now s) y) (now starts) g × Stored (now nodes) (now edges) (now ends) counts × Room (now nodes) (now edges) (now ends) (now stack) counts top 1 n (length (endsList (pathsOf (routesIn (now s) y) g))) × Lower (nodesIn (routesIn (now s) y) (now nodes) (now edges) (now ends) (counts .nodes)) × Seen (routesIn (now s) y) (now nodes) (counts .nodes) (now seen) × RoutesThere (now s) y ⌝ }
+    requires { ⌜ Grouped (routesIn (now s) y) (now starts) g × Stored (now nodes) (now edges) (now ends) counts × Room (now nodes) (now edges) (now ends) (now stack) counts top 1 n (length (endsList (pathsOf (routesIn (now s) y) g))) × Lower (nodesIn (routesIn (now s) y) (now nodes) (now edges) (now ends) (counts .nodes)) × Seen (routesIn (now s) y) (now nodes) (counts .nodes) (now seen) × RoutesThere (now s) y × (n + length (endsList (pathsOf (routesIn (now s) y) g)) ≤ g .count) ⌝ }
     ensures { λ r. ⌜ Closes (routesIn (now (s .entry)) y) g (now (nodes .entry)) (now (edges .entry)) (now (ends .entry)) (now (stack .entry)) counts top n (now (nodes .exit)) (now (edges .exit)) (now (ends .exit)) r × Seen (routesIn (now (s .entry)) y) (now (nodes .exit)) (r .counts .nodes) (now (seen .exit)) ⌝ }
 {
     let first_edge = counts.edges;
     let first_end = counts.ends;
     let edge_count = lay_edges(s, y, stack, top, n, edges, first_edge);
-    let end_count = lay_ends(s, y, starts, g, ends, first_end);
+    let end_count = lay_ends_beside(s, y, starts, g, ends, first_end, n);
     let node = NodeRecord {
         funclet: funclet_of(g),
         route: g.route,

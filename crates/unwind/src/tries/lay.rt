@@ -23,8 +23,28 @@ pub enum Ending {
     Nothing,
 }
 
+// The ends of the paths of a group that has n edges, from `at` on; how many there are. A path that leads on does not end here:
+// where there are as many edges as paths, no end is looked for.
+pub fn lay_ends_beside(
+    s: &[u8],
+    y: RouteLayout,
+    starts: &[u16],
+    g: Group,
+    ends: &mut [u16],
+    at: usize,
+    n: usize,
+) -> usize
+    requires { ⌜ AcceptedRoutes (routesIn (now s) y) × Starts (routesIn (now s) y) (now starts) × GroupIn (routesIn (now s) y) g × (at + length (endsList (pathsOf (routesIn (now s) y) g)) < 65536) × (3 * (at + length (endsList (pathsOf (routesIn (now s) y) g))) ≤ length (now ends)) × RoutesThere (now s) y × (n + length (endsList (pathsOf (routesIn (now s) y) g)) ≤ g .count) ⌝ }
+    ensures { λ r. ⌜ EndsLaid (routesIn (now (s .entry)) y) g (now (ends .entry)) at (now (ends .exit)) r ⌝ }
+{
+    if n == g.count {
+        return 0;
+    }
+    lay_ends(s, y, starts, g, ends, at)
+}
+
 // The ends of a group's paths, from `at` on; how many there are.
-pub fn lay_ends(
+fn lay_ends(
     s: &[u8],
     y: RouteLayout,
     starts: &[u16],

@@ -18,7 +18,7 @@ use Rattle.addition.specs.Trie.{longest}
 use Rattle.unwind.specs.Interning.{pathsOf}
 use Rattle.unwind.specs.Keys.{NextOf}
 use Rattle.unwind.specs.Seen.{Seen}
-use Rattle.unwind.proofs.TrieWork.{left, Working, work-start, next-falls, child-grouped, child-room, push-room, left-falls, branch-small, work-next, close-room, work-done}
+use Rattle.unwind.proofs.TrieWork.{left, Working, work-start, next-falls, child-grouped, child-room, push-room, left-falls, branch-small, work-next, close-room, close-few, work-done}
 use Rattle.unwind.proofs.tries.intern.intern.Reads as intern
 use Rattle.unwind.proofs.tries.intern.intern.Kinds as intern-kinds
 use Rattle.unwind.proofs.tries.intern.+intern.Lts-intern as intern-lts
@@ -119,9 +119,19 @@ intern-close-node-requires : (t : ℕ) → intern-lts.Need-close-node-requires (
   put-branch-reads.Learnt,
 ) (intern-at t) intern.Post intern-Inv-loop intern-μ-loop
 intern-close-node-requires t c κs =
-    let m = routesIn (c .before .before .before .before .before .before .before .before .before .before .before .before .before .before .before .args .s .now) (c .before .before .before .before .before .before .before .before .before .before .before .before .before .before .before .args .y) in
-    let next : NextOf m (c .before .before .before .before .before .before .before .before .before .before .before .before .before .before .before .args .g) (c .before .before .before .before .before .before .before .before .loop .last) Nothing = rw (c .before .before .before .before .before .enum-told .given .1) at (c .before .before .before .before .before .before .before .next-key .ensures) in
-    (c .before .before .before .before .before .before .before .before .before .before .before .before .before .before .before .pre .1 .0, c .before .before .before .before .before .before .before .before .loop .inv .0 .stored, close-room m (c .before .before .before .before .before .before .before .before .before .before .before .before .before .before .before .args .g) (c .before .before .before .before .before .before .before .before .before .before .before .before .before .before .before .args .nodes .now) (c .before .before .before .before .before .before .before .before .before .before .before .before .before .before .before .args .edges .now) (c .before .before .before .before .before .before .before .before .before .before .before .before .before .before .before .args .ends .now) (c .before .before .before .before .before .before .before .before .before .before .before .before .before .before .before .args .stack .now) (c .before .before .before .before .before .before .before .before .before .before .before .before .before .before .before .args .counts) (c .before .before .before .before .before .before .before .before .before .before .before .before .before .before .before .args .top) (c .before .before .before .before .before .before .before .before .before .before .before .before .before .before .before .pre .1 .2) (c .before .before .before .before .before .before .before .before .loop .nodes) (c .before .before .before .before .before .before .before .before .loop .edges) (c .before .before .before .before .before .before .before .before .loop .ends) (c .before .before .before .before .before .before .before .before .loop .stack) _ (c .before .before .before .before .before .before .before .before .loop .n) (c .before .before .before .before .before .before .before .before .loop .last) (c .before .before .before .before .before .before .before .before .loop .inv .0) next, c .before .before .before .before .before .before .before .before .loop .inv .0 .lower, c .before .before .before .before .before .before .before .before .loop .inv .1, c .before .before .before .before .before .before .before .before .before .before .before .before .before .before .before .pre .1 .5)
+    let start = c .before .before .before .before .before .before .before .before .before .before .before .before .before .before .before in
+    let a = start .args in
+    let top = c .before .before .before .before .before .before .before .before .loop in
+    let m = routesIn (a .s .now) (a .y) in
+    let next : NextOf m (a .g) (top .last) Nothing = rw (c .before .before .before .before .before .enum-told .given .1) at (c .before .before .before .before .before .before .before .next-key .ensures) in (
+      start .pre .1 .0,
+      top .inv .0 .stored,
+      close-room m (a .g) (a .nodes .now) (a .edges .now) (a .ends .now) (a .stack .now) (a .counts) (a .top) (start .pre .1 .2) (top .nodes) (top .edges) (top .ends) (top .stack) _ (top .n) (top .last) (top .inv .0) next,
+      top .inv .0 .lower,
+      top .inv .1,
+      start .pre .1 .5,
+      close-few m (a .g) (a .nodes .now) (a .edges .now) (a .ends .now) (a .stack .now) (a .counts) (a .top) (start .pre .1 .2) (top .nodes) (top .edges) (top .ends) (top .stack) _ (top .n) (top .last) (top .inv .0) next,
+    )
 
 intern-same-length : (t : ℕ) → intern-lts.Need-same-length (
   next-key-reads.Asked,
