@@ -35,6 +35,10 @@ pub record SetPut (l : List ℕ) (i : ℕ) (w l′ : List ℕ) : Type 0 where
   pub here : setAt l′ i ≡ w
   pub others : (j : ℕ) → (j ≡ i → ⊥) → setAt l′ j ≡ setAt l j
 
+-- set i may have changed, and all others are as they were
+abbrev pub SetChanged : List ℕ → ℕ → List ℕ → Type 0
+SetChanged l i l′ = SetPut l i (setAt l′ i) l′
+
 -- there is room for n nodes
 pub record Slots (n : ℕ) (bases entries parts : List ℕ) : Type 0 where
   pub bases-fit : n ≤ length bases

@@ -1,5 +1,7 @@
 // Parts of funclets: the blocks that are reached from an entry, and those of them that return.
 use crate::blocks::last_of;
+use crate::slots::in_set;
+use crate::slots::put_block;
 use crate::tries::store::node_in;
 use crate::tries::store::number_in;
 use graph::blockset::Lowest;
@@ -7,14 +9,13 @@ use graph::blockset::has_in;
 use graph::blockset::lowest_in;
 use graph::blockset::put_in;
 use graph::blockset::take_from;
-use graph::reach::see;
 use graph::store::Words;
 use graph::store::blocks::block_count;
 use graph::store::edges::edge_in;
 use image::section::RouteLayout;
 ghost use mathlib.Core.Path.{_≡_};
 ghost use mathlib.Core.Bool.{true, not, _&&_};
-ghost use Prim.Native.Nat.{ℕ, _*_, _≤_, _<_};
+ghost use Prim.Native.Nat.{ℕ, _+_, _*_, _≤_, _<_};
 ghost use lib.Dec.{eqb};
 ghost use lib.ListN.{length};
 ghost use Rattle.image.specs.Refusal.{clear};
@@ -23,14 +24,14 @@ ghost use Rattle.image.specs.Deal.{routesOf};
 ghost use Rattle.graph.specs.BlockSet.{none};
 ghost use Rattle.graph.specs.Graph.{edge};
 ghost use Rattle.graph.specs.Words.{heldIn};
-ghost use Rattle.graph.specs.Search.{Linked, Roomy, Follows};
+ghost use Rattle.graph.specs.Search.{Ends, Linked, Roomy, Follows};
 ghost use Rattle.graph.specs.WellFormed.{isBuilt};
 ghost use Rattle.addition.specs.Lists.{keep, isEmpty};
 ghost use Rattle.addition.specs.Part.{ordinary, outgoing, returning as isReturning};
 ghost use Rattle.addition.specs.Add.{funcletCheck};
 ghost use Rattle.unwind.specs.Stands.{Stands};
 ghost use Rattle.unwind.specs.PartSearch.{Barriers, Returners, PartFrom, bounded, Takes};
-ghost use Rattle.unwind.specs.Placed.{funcletAt, Named, Entered};
+ghost use Rattle.unwind.specs.Placed.{setAt, SetChanged, funcletAt, Named, Entered};
 
 // 'without an ExceptionUnwind or Call edge'
 const CALL: u64 = 5;
@@ -113,63 +114,67 @@ pub fn returning_blocks(g: &Words, head: &[u16], next: &[u16], set: &mut [u64; 1
     }
 }
 
-// The part of the funclet whose entry is block `start`, along edges that are linked by their source.
+// Puts into set i of `parts`, which is empty, the part of the funclet whose entry is block `start`, along edges that are linked by
+// their source.
 pub fn part_of(
     g: &Words,
     head: &[u16],
     next: &[u16],
     barriers: &[u64; 16],
     start: usize,
-) -> [u64; 16]
-    requires { ⌜ Stands (heldIn (now g) .graph) × Roomy (heldIn (now g) .graph) (now head) (now next) × Linked (heldIn (now g) .graph) (now head) (now next) 0 × (start < length (heldIn (now g) .graph .blocks)) × (isBuilt (heldIn (now g) .graph) start ≡ true) ⌝ }
-    ensures { λ r. ⌜ PartFrom (heldIn (now (g .entry)) .graph) (now (barriers .entry)) start r ⌝ }
+    parts: &mut [u64],
+    i: usize,
+)
+    requires { ⌜ Stands (heldIn (now g) .graph) × Roomy (heldIn (now g) .graph) (now head) (now next) × Linked (heldIn (now g) .graph) (now head) (now next) 0 × (start < length (heldIn (now g) .graph .blocks)) × (isBuilt (heldIn (now g) .graph) start ≡ true) × (16 * i + 16 ≤ length (now parts)) × (setAt (now parts) i ≡ none) ⌝ }
+    ensures { λ _. ⌜ PartFrom (heldIn (now (g .entry)) .graph) (now (barriers .entry)) start (setAt (now (parts .exit)) i) × SetChanged (now (parts .entry)) i (now (parts .exit)) ⌝ }
 {
-    let mut seen = [0u64; 16];
     let mut pending = [0u64; 16];
-    put_in(&mut seen, start);
+    put_block(parts, i, start);
     put_in(&mut pending, start);
     loop {
         let Lowest::At(b) = lowest_in(&pending) else {
-            return seen;
+            return;
         };
         take_from(&mut pending, b);
-        follow(g, head, next, barriers, b, &mut seen, &mut pending);
+        follow(g, head, next, barriers, b, parts, i, &mut pending);
     }
 }
 
-// Follows the edges from b.
+// Follows the edges from b; what is seen is set i.
 fn follow(
     g: &Words,
     head: &[u16],
     next: &[u16],
     barriers: &[u64; 16],
     b: usize,
-    seen: &mut [u64; 16],
+    parts: &mut [u64],
+    i: usize,
     pending: &mut [u64; 16],
 )
-    requires { ⌜ Stands (heldIn (now g) .graph) × Roomy (heldIn (now g) .graph) (now head) (now next) × Linked (heldIn (now g) .graph) (now head) (now next) 0 × (b < length (heldIn (now g) .graph .blocks)) ⌝ }
-    ensures { λ _. ⌜ ((e : ℕ) → Follows (bounded (heldIn (now (g .entry)) .graph) (now (barriers .entry)) e) b (length (heldIn (now (g .entry)) .graph .edges)) (now (seen .entry)) (now (pending .entry)) (now (seen .exit)) (now (pending .exit))) ⌝ }
+    requires { ⌜ Stands (heldIn (now g) .graph) × Roomy (heldIn (now g) .graph) (now head) (now next) × Linked (heldIn (now g) .graph) (now head) (now next) 0 × (b < length (heldIn (now g) .graph .blocks)) × (16 * i + 16 ≤ length (now parts)) ⌝ }
+    ensures { λ _. ⌜ ((e : ℕ) → Follows (bounded (heldIn (now (g .entry)) .graph) (now (barriers .entry)) e) b (length (heldIn (now (g .entry)) .graph .edges)) (setAt (now (parts .entry)) i) (now (pending .entry)) (setAt (now (parts .exit)) i) (now (pending .exit))) × SetChanged (now (parts .entry)) i (now (parts .exit)) ⌝ }
 {
     let mut at = head[b] as usize;
     while at != 0 {
         let e = at - 1;
-        take_edge(g, e, barriers, seen, pending);
+        take_edge(g, e, barriers, parts, i, pending);
         at = next[e] as usize;
     }
 }
 
-// Edge i: where it is followed, its target is seen.
+// Edge k: where it is followed, its target is seen, and is pending unless it was seen before.
 fn take_edge(
     g: &Words,
-    i: usize,
+    k: usize,
     barriers: &[u64; 16],
-    seen: &mut [u64; 16],
+    parts: &mut [u64],
+    i: usize,
     pending: &mut [u64; 16],
 )
-    requires { ⌜ i < length (heldIn (now g) .graph .edges) ⌝ }
-    ensures { λ _. ⌜ Takes (now (barriers .entry)) (edge (heldIn (now (g .entry)) .graph) i) (now (seen .entry)) (now (pending .entry)) (now (seen .exit)) (now (pending .exit)) ⌝ }
+    requires { ⌜ (k < length (heldIn (now g) .graph .edges)) × Ends (heldIn (now g) .graph) × (16 * i + 16 ≤ length (now parts)) ⌝ }
+    ensures { λ _. ⌜ Takes (now (barriers .entry)) (edge (heldIn (now (g .entry)) .graph) k) (setAt (now (parts .entry)) i) (now (pending .entry)) (setAt (now (parts .exit)) i) (now (pending .exit)) × SetChanged (now (parts .entry)) i (now (parts .exit)) ⌝ }
 {
-    let e = edge_in(g, i);
+    let e = edge_in(g, k);
     if !is_ordinary(e.kind) {
         return;
     }
@@ -177,5 +182,9 @@ fn take_edge(
     if has_in(barriers, t) {
         return;
     }
-    see(seen, pending, t);
+    if in_set(parts, i, t) {
+        return;
+    }
+    put_block(parts, i, t);
+    put_in(pending, t);
 }

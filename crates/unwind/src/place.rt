@@ -1,5 +1,6 @@
 // Instances in scratch: for each node of the trie the first of its copies, its entry and its blocks.
 use crate::part::part_of;
+use crate::slots::empty_set;
 use crate::slots::members_of;
 use crate::slots::put_set;
 use crate::slots::set_at;
@@ -104,9 +105,33 @@ fn place_node(
         return place_clone(blocks, first - 1, i, base, bases, entries, parts);
     }
     firsts[slot] = (i + 1) as u16;
-    let part = part_at(g, head, next, barriers, f, entry);
-    store_node(i, 0, entry, &part, bases, entries, parts);
+    place_first(g, head, next, barriers, f, i, entry, bases, entries, parts);
     0
+}
+
+// Node i, the first of the funclet that step f - 1 names, whose entry is block `entry`: it has the original blocks, those of the
+// funclet's part; none at the root of a route.
+fn place_first(
+    g: &Words,
+    head: &[u16],
+    next: &[u16],
+    barriers: &[u64; 16],
+    f: usize,
+    i: usize,
+    entry: usize,
+    bases: &mut [u16],
+    entries: &mut [u16],
+    parts: &mut [u64],
+)
+    requires { ⌜ Stands (heldIn (now g) .graph) × Roomy (heldIn (now g) .graph) (now head) (now next) × Linked (heldIn (now g) .graph) (now head) (now next) 0 × ((f ≡ 0 → ⊥) → (entry < length (heldIn (now g) .graph .blocks)) × (isBuilt (heldIn (now g) .graph) entry ≡ true)) × Slots (i + 1) (now bases) (now entries) (now parts) × (entry ≤ 1024) ⌝ }
+    ensures { λ _. ⌜ NodePlaced i 0 entry (setAt (now (parts .exit)) i) (now (bases .entry)) (now (entries .entry)) (now (parts .entry)) (now (bases .exit)) (now (entries .exit)) (now (parts .exit)) × (f ≡ 0 → setAt (now (parts .exit)) i ≡ none) × ((f ≡ 0 → ⊥) → PartFrom (heldIn (now (g .entry)) .graph) (now (barriers .entry)) entry (setAt (now (parts .exit)) i)) ⌝ }
+{
+    bases[i] = 0;
+    entries[i] = entry as u16;
+    empty_set(parts, i);
+    if f != 0 {
+        part_of(g, head, next, barriers, entry, parts, i);
+    }
 }
 
 // Node i, a later one of the funclet of node `first`: it has copies, the first of which is block `base`. How many? As many as
@@ -141,25 +166,7 @@ fn slot_of(f: usize, entry: usize) -> usize
     entry + 1
 }
 
-// The part of that funclet; none at the root of a route.
-fn part_at(
-    g: &Words,
-    head: &[u16],
-    next: &[u16],
-    barriers: &[u64; 16],
-    f: usize,
-    entry: usize,
-) -> [u64; 16]
-    requires { ⌜ Stands (heldIn (now g) .graph) × Roomy (heldIn (now g) .graph) (now head) (now next) × Linked (heldIn (now g) .graph) (now head) (now next) 0 × ((f ≡ 0 → ⊥) → (entry < length (heldIn (now g) .graph .blocks)) × (isBuilt (heldIn (now g) .graph) entry ≡ true)) ⌝ }
-    ensures { λ r. ⌜ (f ≡ 0 → r ≡ none) × ((f ≡ 0 → ⊥) → PartFrom (heldIn (now (g .entry)) .graph) (now (barriers .entry)) entry r) ⌝ }
-{
-    if f == 0 {
-        return [0; 16];
-    }
-    part_of(g, head, next, barriers, entry)
-}
-
-// Stores node i: the first of its copies, or 0, its entry and its blocks.
+// Stores node i: the first of its copies, its entry and its blocks.
 fn store_node(
     i: usize,
     base: usize,

@@ -96,50 +96,41 @@ mul-firsts c = omega (arith, within (c .before .before .before), block-most (c .
 slice-write-firsts : tie.Need-slice-write-firsts
 slice-write-firsts c = omega (arith, within (c .before .before .before), c .before .before .before .before .before .before .before .before .before .before .before .before .before .before .before .pre .3 .room)
 
-part-at-requires : tie.Need-part-at-requires
-part-at-requires c κs =
-    let a = c .before .before .before .before .before .before .before .before .before .before .before .before .before .before .before .args in
-    let pre = c .before .before .before .before .before .before .before .before .before .before .before .before .before .before .before .pre in
+place-first-requires : tie.Need-place-first-requires
+place-first-requires c κs =
+    let a = c .before .before .before .before .before .before .before .before .before .before .before .before .before .before .before .before .before .before .args in
+    let pre = c .before .before .before .before .before .before .before .before .before .before .before .before .before .before .before .before .before .before .pre in
     let g = heldIn (a .g .now) .graph in
     let m = routesIn (a .s .now) (a .y) in
-    let lead = rw (sym (funclet (c .before .before .before .before .before .before))) at (leads (c .before .before .before .before .before .before .before .before .before .before .before .before .before .before .before)) in
-    let is = by-step (c .before .before .before .before) in
-    (pre .0 .stands, pre .0 .roomy, pre .0 .linked, λ ne. (rw is (entry-lt g m _ ne lead), rw is (entry-built g m _ ne lead)))
-
-store-node-requires : tie.Need-store-node-requires
-store-node-requires c κs =
-    let s = c .before .before .before .before .before .before .before .before .before .before .before .before .before .before .before .before .before .before .before .before .pre .2 in
-    (omega (arith, s .bases-fit), omega (arith, s .entries-fit), omega (arith, s .parts-fit), omega arith, omega (arith, few (c .before .before .before .before .before .before .before .before .before)))
+    let lead = rw (sym (funclet (c .before .before .before .before .before .before .before .before .before))) at (leads (c .before .before .before .before .before .before .before .before .before .before .before .before .before .before .before .before .before .before)) in
+    let is = by-step (c .before .before .before .before .before .before .before) in
+    (pre .0 .stands, pre .0 .roomy, pre .0 .linked, λ ne. (rw is (entry-lt g m _ ne lead), rw is (entry-built g m _ ne lead)), pre .2, few (c .before .before .before .before .before .before .before))
 
 same-length-5 : tie.Need-same-length-5
-same-length-5 c = sizes-kept (c .before .before .before .before .before .before .store-node .ensures) .bases-long
+same-length-5 c = sizes-kept (c .before .before .before .before .before .before .place-first .ensures .0) .bases-long
 
 same-length-6 : tie.Need-same-length-6
-same-length-6 c = sizes-kept (c .before .before .before .before .before .before .store-node .ensures) .entries-long
+same-length-6 c = sizes-kept (c .before .before .before .before .before .before .place-first .ensures .0) .entries-long
 
 same-length-7 : tie.Need-same-length-7
-same-length-7 c = sizes-kept (c .before .before .before .before .before .before .store-node .ensures) .parts-long
+same-length-7 c = sizes-kept (c .before .before .before .before .before .before .place-first .ensures .0) .parts-long
 
 returns-2 : tie.Need-returns-2
 returns-2 c =
-    let a = c .before .before .before .before .before .before .before .before .before .before .before .before .before .before .before .before .before .before .before .before .before .before .before .before .before .before .before .args in
-    let pre = c .before .before .before .before .before .before .before .before .before .before .before .before .before .before .before .before .before .before .before .before .before .before .before .before .before .before .before .pre in
+    let a = c .before .before .before .before .before .before .before .before .before .before .before .before .before .before .before .before .before .before .before .before .before .before .before .before .before .args in
+    let pre = c .before .before .before .before .before .before .before .before .before .before .before .before .before .before .before .before .before .before .before .before .before .before .before .before .before .pre in
     let g = heldIn (a .g .now) .graph in
     let m = routesIn (a .s .now) (a .y) in
-    let f = funclet (c .before .before .before .before .before .before .before .before .before .before .before .before .before .before .before .before .before .before) in
-    let part = c .before .before .before .before .before .before .before .before .before .before .before .part-at in
-    let lead = rw (sym f) at (leads (c .before .before .before .before .before .before .before .before .before .before .before .before .before .before .before .before .before .before .before .before .before .before .before .before .before .before .before)) in
-    let has = rw f at (part-is g m _ _ _ _ lead (pre .0 .bars) (by-step (c .before .before .before .before .before .before .before .before .before .before .before .before .before .before .before .before)) (part .ensures .0) (part .ensures .1)) in
-    let left = c .before .before .before .before .before .before .before .before .before .before .before .before .if1 .left in
-    let at = slot (c .before .before .before .before .before .before .before .before .before .before .before .before .before .before .before) in
-    let v = c .before .before .before .before .before .before .before .before .before .before .before .before .before .number-in2 .ensures .0 in (
+    let f = funclet (c .before .before .before .before .before .before .before .before .before .before .before .before .before .before .before .before) in
+    let stored = c .before .before .before .before .before .before .place-first .ensures in
+    let lead = rw (sym f) at (leads (c .before .before .before .before .before .before .before .before .before .before .before .before .before .before .before .before .before .before .before .before .before .before .before .before .before)) in
+    let has = rw f at (part-is g m _ _ _ _ lead (pre .0 .bars) (by-step (c .before .before .before .before .before .before .before .before .before .before .before .before .before .before)) (stored .1) (stored .2)) in
+    let left = c .before .before .before .before .before .before .before .before .before .before .if1 .left in
+    let at = slot (c .before .before .before .before .before .before .before .before .before .before .before .before .before) in
+    let v = c .before .before .before .before .before .before .before .before .before .before .before .number-in2 .ensures .0 in (
       first-next g m (a .nodes .now) (a .i) _ _ _ _ _ _ (pre .2) (a .base)
           (none-yet g m (a .nodes .now) (a .firsts .now) (a .i) _ _ at v (pre .1) (pre .3) left)
-          (record {
-            part = part .result;
-            part-has = has;
-            placed = rw (entry (c .before .before .before .before .before .before .before .before .before .before .before .before .before .before .before .before)) at (c .before .before .before .before .before .before .store-node .ensures);
-          }),
+          (record { part = _; part-has = has; placed = rw (entry (c .before .before .before .before .before .before .before .before .before .before .before .before .before .before)) at (stored .0) }),
       firsts-more g m (a .nodes .now) (a .firsts .now) (a .i) _ _ at v (pre .1) (pre .3) left,
     )
 
@@ -163,8 +154,7 @@ place-node-spec =
     (λ c. search needs)
     mul-firsts
     slice-write-firsts
-    part-at-requires
-    store-node-requires
+    place-first-requires
     same-length-5
     same-length-6
     same-length-7
