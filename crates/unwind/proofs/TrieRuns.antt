@@ -3,12 +3,11 @@
 --     meant-of, map-inserted           what the branches stand for, with one more among them
 --     Beyond, spot-start, spot-on, spot-less, spot-equal, spot-end         where one goes, from place j on
 --     Moved, insert-start, insert-on, insert-end                   one more among them, each behind it moved up after the other
---     run-present, run-inserted, run-first     a branch is put: it stands there, or goes to its place, or is the first
+--     run-present, run-inserted        a branch is put: it stands there, or goes to its place
 -- Assumes nothing.
 use mathlib.Core.Path.{_≡_, refl, sym, ap, _∙_}
 use mathlib.Core.List.{List, [], _∷_, _++_, map, map-append}
 use Prim.Native.Nat.{ℕ, zero, suc, _+_, _<_, _≤_, Ordering, Ordering·lt, Ordering·eq, Ordering·gt}
-use native.Mathlib.Nat.{add-zero}
 use native.Mathlib.Numerals.{add-one}
 use native.Mathlib.Omega.{arith}
 use lib.ListN.{length, getD, take, drop, take-append-drop, drop-of-length-le}
@@ -175,12 +174,3 @@ module _ {A : Type 0} (c : A → A → Ordering) (of : Branch → A) (l : List �
         most = omega arith;
         others = done .others;
       }
-
-pub run-first : {A : Type 0} (c : A → A → Ordering) (of : Branch → A) (l : List ℕ) (a : ℕ) (b : Branch) (l′ : List ℕ) → BranchPut l a b l′ → RunPut c of l a 0 b l′ 1
-unfolding branches table put
-run-first c of l a b l′ done =
-    record {
-      run = rw (add-zero a, done .here);
-      most = omega arith;
-      others = λ k h. done .others k (λ e. omega arith);
-    }

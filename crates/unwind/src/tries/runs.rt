@@ -22,28 +22,8 @@ pub enum Spot {
     Present,
 }
 
-// Puts a branch into the n from `at` on; how many there are then. Mostly there are none yet.
+// Puts a branch into the n from `at` on; how many there are then.
 pub fn put_sorted(
-    s: &[u8],
-    y: RouteLayout,
-    kind: Kind,
-    list: &mut [u16],
-    at: usize,
-    n: usize,
-    b: Branch,
-) -> usize
-    requires { ⌜ AcceptedRoutes (routesIn (now s) y) × BranchSmall b × (at + n < 65536) × (3 * (at + n) + 3 ≤ length (now list)) × RoutesThere (now s) y ⌝ }
-    ensures { λ r. ⌜ RunPut (ordered kind) (meaning (routesIn (now (s .entry)) y) kind) (now (list .entry)) at n b (now (list .exit)) r ⌝ }
-{
-    if n == 0 {
-        put_branch(list, at, b);
-        return 1;
-    }
-    put_among(s, y, kind, list, at, n, b)
-}
-
-// The same for any n.
-fn put_among(
     s: &[u8],
     y: RouteLayout,
     kind: Kind,
