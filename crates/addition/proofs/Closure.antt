@@ -1,4 +1,5 @@
 -- The executable part and returning block are those of the statement.
+--     on-path                      the funclets of a path
 --     mem-funclets, funclets-mem   the funclets of the routes
 --     barred-other, other-barred   'the built block that starts another funclet'
 --     ordinary-kind, kind-ordinary 'without an ExceptionUnwind or Call edge'
@@ -29,7 +30,7 @@ use Rattle.addition.proofs.Lists.{and-both, and-true, or-either, or-lef
 
 -- ---- funclets
 
-on-path : (a : ℕ) (p : UnwindPath) → funclet a ∈ p .steps → a ∈ onPath p
+pub on-path : (a : ℕ) (p : UnwindPath) → funclet a ∈ p .steps → a ∈ onPath p
 unfolding onPath
 on-path a p m =
     let j = mem-at m in

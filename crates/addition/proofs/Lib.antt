@@ -21,3 +21,4 @@ pub mod AgainEdges
 pub mod AgainWays
 pub mod Again
 pub mod Own
+pub mod OwnNodes

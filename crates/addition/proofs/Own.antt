@@ -1,7 +1,10 @@
 -- The routes of an image pass their checks against the graph that is built of it: its leaders' marks put a block at each
 -- instruction that a route protects.
---     own-built     all blocks of a graph just built are built
---     own-passed    10 to 12, 15 and 17 refuse none of the image's routes
+--     own-built                    all blocks of a graph just built are built
+--     route-leader                 what a route marks leads its block
+--     led-clear                    a leader is found where it stands
+--     entries-clear                the build's check 14 of a route is clear
+--     own-passed                   10 to 12, 15 and 17 refuse none of the image's routes
 -- Assumes nothing.
 use mathlib.Core.Path.{_≡_, refl, sym, _∙_, ap}
 use mathlib.Core.Logic.{⊎-elim, inl, inr}
@@ -14,14 +17,14 @@ use borrow.Author.Tests.{eq-eqb, lt-ltb, le-leb, leb-true, ltb-true}
 use lib.Dec.{eqb, ltb, leb}
 use lib.ListN.{length, getD, length-append, List·getD-append}
 use lib.Seq.{getD-append-seam}
-use Rattle.image.specs.Refusal.{refusal, clear, _then_, unless}
+use Rattle.image.specs.Refusal.{refusal, Check, clear, _then_, unless}
 use Rattle.image.specs.Image.{Image}
 use Rattle.image.specs.Deal.{UnwindRoute, routesOf}
 use Rattle.image.proofs.Checks.{then-left, then-right, unless-clear}
 use Rattle.graph.specs.declared.record.TableEntry.{TableEntry}
 use Rattle.graph.specs.declared.record.Block.{Block}
 use Rattle.graph.specs.Graph.{Graph, block}
-use Rattle.graph.specs.Fold.{flat, among, checks, sum}
+use Rattle.graph.specs.Fold.{flat, among, checks, checkEach, sum}
 use Rattle.graph.specs.Table.{entryAt, isStart, below, rangeCheck}
 use Rattle.graph.specs.Transfer.{tableOf, size, addressAt}
 use Rattle.graph.specs.Route.{routeAt, resumesLate, entries, routeCheck as imageCheck}
@@ -112,6 +115,10 @@ module _ (m : Image) where
 
   -- ---- a leader leads its block
 
+  pub route-leader : (p : ℕ) → routeMark m p ≡ true → isLeader m p ≡ true
+  unfolding isLeader
+  route-leader p e = or-left _ (or-right (entryMark m p || sequenceMark m p || flowMark m p || exceptionalMark m p || handlerMark m p) e)
+
   begin-led : (p : ℕ) → isLeader m p ≡ true → beginOf m p ≡ p
   unfolding beginOf
   begin-led zero e = refl
@@ -159,7 +166,7 @@ module _ (m : Image) (clears : buildCheck m ≡ clear) where
   passed : Parts m
   passed = parts m (input-clear m clears)
 
-  led-clear : (p : ℕ) → p < length t → isLeader m p ≡ true → leadCheck (graphFrom m) (address p) ≡ clear
+  pub led-clear : (p : ℕ) → p < length t → isLeader m p ≡ true → leadCheck (graphFrom m) (address p) ≡ clear
   unfolding firstOf graphFrom
   led-clear p h e =
       let r = block-led m p (rw (← (length-entries (m .instructions))) h) e in
@@ -176,9 +183,17 @@ module _ (m : Image) (clears : buildCheck m ≡ clear) where
     route-clear : imageCheck t (routes m) k ≡ clear
     route-clear = checks-at (imageCheck t (routes m)) (length (routes m)) k (passed .routed) h
 
-    range-clear : (rangeCheck t (own .start) (own .end) then unless (not (resumesLate own)) (refusal 15 k 0)) ≡ clear
+    -- 10 to 12 and 15
+    abbrev ranged : Check
+    ranged = rangeCheck t (own .start) (own .end) then unless (not (resumesLate own)) (refusal 15 k 0)
+
+    range-clear : ranged ≡ clear
     unfolding imageCheck
-    range-clear = then-left (rangeCheck t (own .start) (own .end) then unless (not (resumesLate own)) (refusal 15 k 0)) _ route-clear
+    range-clear = then-left ranged _ route-clear
+
+    pub entries-clear : checkEach (λ a. unless (isStart t a) (refusal 14 a 0)) (entries own) ≡ clear
+    unfolding imageCheck
+    entries-clear = then-right ranged _ route-clear
 
     start-starts : isStart t (own .start) ≡ true
     unfolding rangeCheck
@@ -216,14 +231,10 @@ module _ (m : Image) (clears : buildCheck m ≡ clear) where
       route-marked =
           some-at _ (length (routes m)) k h (or-left (among (entries own) (addressAt m p)) marked)
 
-      is-leader : isLeader m p ≡ true
-      unfolding isLeader
-      is-leader = or-left _ (or-right (entryMark m p || sequenceMark m p || flowMark m p || exceptionalMark m p || handlerMark m p) route-marked)
-
     range-leads : (p : ℕ) → p < length t → rangeLeads (graphFrom m) own p ≡ clear
     unfolding rangeLeads graphFrom
     range-leads p lt =
-        ⊎-elim (λ e. rw e (led-clear p lt (is-leader p lt e))) (λ e. rw e) (decided (within own (address p)))
+        ⊎-elim (λ e. rw e (led-clear p lt (route-leader m p (route-marked p lt e)))) (λ e. rw e) (decided (within own (address p)))
 
     own-clear : routeCheck (graphFrom m) (routes m) k ≡ clear
     unfolding routeCheck graphFrom
