@@ -117,8 +117,9 @@ foldzine_answer foldzine_add_routes(uint64_t words[FOLDZINE_WORDS], const uint8_
  * Builds the graph of a sequence image and, in modes 1 and 2, adds the image's
  * own routes: a build and an addition in one, and faster than both. Mode 0 has
  * no hops. Where the build is refused (built 0), all words stay as they were.
- * Where the routes are (built 1), `words` hold the graph as it was built, in
- * place of what they held, and only the hops stay as they were.
+ * Where the routes are (built 1; 18, 19 or 20, for want of room), `words` hold
+ * the graph as it was built, in place of what they held, and only the hops stay
+ * as they were.
  */
 foldzine_sequence_answer foldzine_sequence(const uint8_t *image, size_t length, uint64_t words[FOLDZINE_WORDS],
                                            uint64_t hops[FOLDZINE_HOP_WORDS]);

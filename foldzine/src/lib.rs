@@ -43,7 +43,8 @@ impl fmt::Display for Refusal {
 impl std::error::Error for Refusal {}
 
 /// A sequence without its routes: `built` says whether its graph stands, whose
-/// routes were refused then, or nothing was built and all is as it was.
+/// routes were refused then (18, 19 or 20, for want of room), or nothing was
+/// built and all is as it was.
 #[derive(Debug, Clone, Copy, PartialEq, Eq)]
 pub struct Unrouted {
     pub built: bool,

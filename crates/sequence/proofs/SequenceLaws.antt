@@ -1,22 +1,24 @@
 -- What a build and an addition of the image's own routes give together.
 --     laid-on                      words that are laid over words that were laid
 --     own-checked                  the checks of an image's own routes, where its graph is built
+--     unrouted-limits              routes that are refused behind a build are so by 18, 19 or 20
 --     refused-gives, plain-gives   a build that is refused, and one of mode 0
 --     sequenceOf, routed-gives     a build of the other modes, and the addition to it
 -- Assumes nothing.
 use mathlib.Core.Path.{_≡_, refl, sym, ap, subst, _∙_}
-use mathlib.Core.Bool.{Bool, true, cond}
+use mathlib.Core.Bool.{Bool, true, false, cond}
 use mathlib.Core.Logic.{inl, inr}
 use mathlib.Core.List.{List, []}
 use Prim.Native.Nat.{ℕ, zero, suc, _≤_, _<_}
 use native.Mathlib.Nat.{mul-le-mul-left}
 use native.Mathlib.Omega.{arith}
 use borrow.Author.Tests.{eq-eqb, ne-eqb}
+use lib.Dec.{eqb}
 use lib.ListN.{length, getD, length-append}
 use Rattle.image.specs.Little.{le1}
-use Rattle.image.specs.Refusal.{Check, clear}
+use Rattle.image.specs.Refusal.{Refusal, Check, clear}
 use Rattle.image.specs.Image.{Image, RouteImage}
-use Rattle.image.specs.Read.{Reading, read, readRoutes}
+use Rattle.image.specs.Read.{Reading, read, refusing, readImage, readRoutes}
 use Rattle.image.specs.Deal.{routesOf}
 use Rattle.image.specs.Accepted.{AcceptedRoutes}
 use Rattle.graph.specs.Section.{Section, size, Beside}
@@ -24,27 +26,30 @@ use Rattle.graph.specs.Graph.{Graph, Held, held}
 use Rattle.graph.specs.Words.{section, heldIn}
 use Rattle.graph.specs.Error.{refusalOf}
 use Rattle.graph.specs.Fold.{checks}
-use Rattle.graph.specs.Build.{built, refused as notBuilt, outcome, buildCheck, graphFrom, buildOf, buildFrom}
+use Rattle.graph.specs.Build.{Outcome as Building, built, refused as notBuilt, outcome, buildCheck, graphFrom, buildOf, buildRead, buildFrom}
 use Rattle.graph.specs.WellFormed.{wellFormed, Built}
 use Rattle.graph.specs.Answers.{Laid}
 use Rattle.graph.specs.declared.record.Block.{Block}
 use Rattle.graph.specs.declared.record.Edge.{Edge}
 use Rattle.graph.specs.declared.error.AddressBuildError.{AddressBuildError}
 use Rattle.graph.proofs.RecordLaws.{entry-count, block-count, edge-count, region-count, handler-count, unresolved-count, call-count}
-use Rattle.addition.specs.Add.{routeCheck, extended, Addition, addition, Outcome as Adding, added, refused as notAdded, addRoutes}
+use Rattle.addition.specs.Add.{routeCheck, extended, Addition, addition, Outcome as Adding, added, refused as notAdded, addRoutesTo, addRead, addRoutes}
 use Rattle.addition.specs.Demand.{Conditions, Demand3}
 use Rattle.addition.proofs.Accepted.{accepted}
 use Rattle.addition.proofs.Own.{own-built, own-passed}
+use Rattle.addition.proofs.OwnNodes.{Limit, own-limits}
 use Rattle.addition.proofs.Demand.{demand3}
+use Rattle.builder.proofs.Passes.{build-passes}
 use Rattle.unwind.specs.declared.add.AddedRoutes.{AddedRoutes}
 use Rattle.unwind.specs.declared.add.AddedRoutes.the-variants.{Stored, Refused as NotAdded}
 use Rattle.unwind.specs.HopWords.{rowsIn, noRows, rowHops, HopsUnused}
 use Rattle.unwind.specs.Answers.{additionIn, imageOf, Adds, RoutesChecked}
 use Rattle.unwind.proofs.AnswerLaws.{add-answers}
 use Rattle.text.specs.Chart.{routeBytes}
+use Rattle.text.proofs.RouteBytesLaws.{routes-alone}
 use Rattle.sequence.specs.declared.Sequence.{Sequence}
 use Rattle.sequence.specs.declared.Sequence.the-variants.{Whole, Unrouted, Refused}
-use Rattle.sequence.specs.Sequences.{whole, routed, withRoutes, sequenceFrom, answerOf, Leaves, Gives}
+use Rattle.sequence.specs.Sequences.{whole, unrouted, routed, withRoutes, sequenceFrom, answerOf, Leaves, Gives}
 
 -- ---- words that are laid twice
 
@@ -91,6 +96,40 @@ own-checked m h n e graph accepted all =
       passed = subst (λ (g : Graph). checks (routeCheck g (routesOf (m .routes))) (length (routesOf (m .routes))) ≡ clear) (sym (is .1)) (own-passed m (is .0));
     }
 
+-- the image that a graph is built of
+built-from : (l : List ℕ) (g : Graph) → built g ≡ buildFrom l → (m : Image) × (readImage l ≡ read m) × (built g ≡ buildOf m)
+unfolding buildFrom buildRead
+built-from l g e = go (readImage l) refl e
+  where
+    go : (x : Reading Image) → readImage l ≡ x → built g ≡ buildRead x → (m : Image) × (readImage l ≡ read m) × (built g ≡ buildOf m)
+    go (read m) is e = (m, is, e)
+    go (refusing r) is e = absurd (let z : _≡_ {A = ℕ} 0 1 = cc in omega arith)
+
+module _ (l : List ℕ) where
+  added-limits : (g : Graph) (r : Refusal) → built g ≡ buildFrom l → addRoutes (held g) (routeBytes l) ≡ notAdded r → Limit r
+  unfolding addRoutes addRead held
+  added-limits g r is e =
+      let image = built-from l g is in
+      let of-image = built-is (image .0) g (image .2) in
+      own-limits (image .0) (of-image .0) r
+      (subst (λ (x : Graph). addRoutesTo x (routesOf (image .0 .routes)) ≡ notAdded r) (of-image .1) (rw (build-passes l g is, routes-alone l (image .0) (image .1)) at e))
+
+  pub unrouted-limits : (g : Graph) (r : Refusal) → unrouted g r ≡ sequenceFrom l → Limit r
+  unfolding withRoutes sequenceFrom
+  unrouted-limits g r e = of-build (buildFrom l) refl e
+    where
+      not-added : (b : Graph) (o : Adding) → unrouted g r ≡ routed b o → o ≡ notAdded r
+      not-added b (added a) e = absurd (let z : _≡_ {A = ℕ} 0 1 = cc in omega arith)
+      not-added b (notAdded s) e = cc
+
+      of-mode : (b : Graph) → buildFrom l ≡ built b → (plain : Bool) → unrouted g r ≡ cond plain (whole (record { graph = b; hops = [] })) (routed b (addRoutes (held b) (routeBytes l))) → Limit r
+      of-mode b is true e = absurd (let z : _≡_ {A = ℕ} 0 1 = cc in omega arith)
+      of-mode b is false e = added-limits b r (sym is) (not-added b (addRoutes (held b) (routeBytes l)) e)
+
+      of-build : (x : Building) → buildFrom l ≡ x → unrouted g r ≡ withRoutes l x → Limit r
+      of-build (notBuilt s) is e = absurd (let z : _≡_ {A = ℕ} 0 1 = cc in omega arith)
+      of-build (built b) is e = of-mode b is (eqb (le1 l 1) 0) e
+
 -- ---- demand 3
 
 whole-added : (g : Graph) (a : Addition) (o : Adding) → whole a ≡ routed g o → o ≡ added a
@@ -110,7 +149,13 @@ module _ (l w h : List ℕ) (r : Sequence) where
       demand3 (held g) (routeBytes l) m (additionIn m w h) found (whole-added g (additionIn m w h) (addRoutes (held g) (routeBytes l)) told) conditions
 
   gives : {w₀ h₀ : List ℕ} → answerOf l w h r ≡ sequenceFrom l → Leaves w₀ w h₀ h r → Gives l w₀ w h₀ h r
-  gives answer leaves = record { answer = answer; leaves = leaves; spells = spelled answer }
+  gives answer leaves =
+      record {
+        answer = answer;
+        leaves = leaves;
+        spells = spelled answer;
+        limits = λ e is. unrouted-limits l (heldIn w .graph) (refusalOf e) (ap (answerOf l w h) (sym is) ∙ answer);
+      }
 
 -- ---- what is given
 

@@ -2,7 +2,7 @@
 use mathlib.Core.Bool.{true, cond}
 use mathlib.Core.Path.{_≡_}
 use mathlib.Core.List.{List, []}
-use Prim.Native.Nat.{ℕ}
+use Prim.Native.Nat.{ℕ, _≤_}
 use lib.Dec.{eqb}
 use lib.ListN.{getD}
 use Rattle.image.specs.Little.{le1}
@@ -16,6 +16,7 @@ use Rattle.graph.specs.Error.{refusalOf}
 use Rattle.graph.specs.Build.{Outcome as Building, built, refused as notBuilt, buildFrom}
 use Rattle.graph.specs.WellFormed.{wellFormed}
 use Rattle.graph.specs.Answers.{Laid}
+use Rattle.graph.specs.declared.error.AddressBuildError.{AddressBuildError}
 use Rattle.addition.specs.Add.{Addition, Outcome as Adding, added, refused as notAdded, addRoutes}
 use Rattle.addition.specs.Demand.{Conditions, Demand3}
 use Rattle.unwind.specs.HopWords.{HopsUnused}
@@ -60,3 +61,5 @@ pub record Gives (l w w′ h h′ : List ℕ) (r : Sequence) : Type 0 where
   pub leaves : Leaves w w′ h h′ r
   -- DEMAND 3 of the graph that is built and the routes in the image
   pub spells : (g : Graph) (m : RouteImage) → buildFrom l ≡ built g → (le1 l 1 ≡ 0 → ⊥) → readRoutes (routeBytes l) ≡ read m → r ≡ Whole → Conditions g (routesOf m) → Demand3 (routesOf m) (additionIn m w′ h′)
+  -- routes that the image has itself are refused for want of room alone: 18, 19 or 20
+  pub limits : (e : AddressBuildError) → r ≡ Unrouted e → (18 ≤ refusalOf e .number) × (refusalOf e .number ≤ 20)
