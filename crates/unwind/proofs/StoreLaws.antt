@@ -22,7 +22,6 @@ use lib.ListN.{length, getD, length-append, length-map}
 use Rattle.image.specs.Refusal.{refusal, Check, clear, _then_, unless}
 use Rattle.image.specs.Image.{RouteImage}
 use Rattle.image.specs.Deal.{UnwindRoute, routesOf}
-use Rattle.image.specs.Accepted.{AcceptedRoutes}
 use Rattle.image.proofs.Checks.{then-left, then-right, unless-clear}
 use Rattle.graph.specs.declared.error.AddressBuildError.{AddressBuildError}
 use Rattle.graph.specs.declared.record.Block.{Block}
@@ -145,10 +144,9 @@ module _ (w : List ℕ) (m : RouteImage) {nodes edges ends roots head next bases
         exits-fit = record { edges-few = x .exits-fit .edges-few; ends-few = x .exits-fit .ends-few; room = omega (arith, x .exits-fit .room, long) };
       }
 
-  pub all-lent : AcceptedRoutes m × TriesIn m nodes edges ends roots c × Leads g m ends heads landings c × Sides g m guards bases returns c × PartsIn g m parts c × BasesFew bases (c .nodes) × Bounded g rs × Roomy edges ends exits × (16 * c .nodes ≤ length parts) × (16 * length (m .routes) ≤ length guards)
+  pub all-lent : TriesIn m nodes edges ends roots c × Leads g m ends heads landings c × Sides g m guards bases returns c × PartsIn g m parts c × BasesFew bases (c .nodes) × Bounded g rs × Roomy edges ends exits × (16 * c .nodes ≤ length parts) × (16 * length (m .routes) ≤ length guards)
   all-lent =
       let i = x .instances in (
-        x .accepted,
         i .trie,
         leads-in g m nodes edges ends roots bases heads parts returns guards landings c i,
         sides-in g m nodes edges ends roots bases heads parts returns guards landings c i,
@@ -209,8 +207,8 @@ module _ (w : List ℕ) (m : RouteImage) {nodes edges ends roots head next bases
       → clear ≡ countsCheck (length (g .edges) + k + most) (record { hops = most; lists = most; blocks = most }) → clear ≡ sizeCheck (addition g rs)
   most-check k most cloned above fit =
       let all = all-lent in
-      let total = total-hops g m nodes edges ends roots heads landings guards bases parts returns c (all .1) (all .2) (all .3) (all .4) (omega (arith, all .6 .few)) (all .6 .some) in
-      let fits : Fits (hopsOf (ways g rs)) _ = subst (λ (hs : List Hop). Fits hs (guardedWays nodes roots guards (length (g .blocks)) (length (m .routes)) + returnedWays nodes returns (length (g .blocks)) (c .nodes))) total (most-hops m nodes edges ends heads landings roots guards bases parts returns c (all .9) (x .instances .returns-fit) (length (g .blocks))) in
+      let total = total-hops g m nodes edges ends roots heads landings guards bases parts returns c (all .0) (all .1) (all .2) (all .3) (omega (arith, all .5 .few)) (all .5 .some) in
+      let fits : Fits (hopsOf (ways g rs)) _ = subst (λ (hs : List Hop). Fits hs (guardedWays nodes roots guards (length (g .blocks)) (length (m .routes)) + returnedWays nodes returns (length (g .blocks)) (c .nodes))) total (most-hops m nodes edges ends heads landings roots guards bases parts returns c (all .8) (x .instances .returns-fit) (length (g .blocks))) in
       let sz : Sizes = record { hops = length (hopsOf (ways g rs)); lists = length (joined (λ h. h .calls) (hopsOf (ways g rs))); blocks = length (keep (λ h. toBlock (h .end)) (hopsOf (ways g rs))) } in
       let few = counts-clear (length (g .edges) + k + most) (record { hops = most; lists = most; blocks = most }) fit in
       let blocks = keep-most (λ (h : Hop). toBlock (h .end)) (hopsOf (ways g rs)) in

@@ -14,7 +14,6 @@ ghost use Prim.Native.Nat.{_+_, _*_, _≤_, _<_};
 ghost use lib.ListN.{length};
 ghost use Rattle.image.specs.Image.{routesIn};
 ghost use Rattle.image.specs.Deal.{routesOf};
-ghost use Rattle.image.specs.Accepted.{AcceptedRoutes};
 ghost use Rattle.image.specs.There.{RoutesThere};
 ghost use Rattle.graph.specs.Words.{heldIn};
 ghost use Rattle.graph.specs.Fold.{flat};
@@ -49,7 +48,7 @@ pub fn add_hops(
     originals: &mut [u16],
     exits: &mut [u16],
 )
-    requires { ⌜ AcceptedRoutes (routesIn (now s) y) × TriesIn (routesIn (now s) y) (now nodes) (now edges) (now ends) (now roots) stored × Leads (heldIn (now g) .graph) (routesIn (now s) y) (now ends) (now heads) (now landings) stored × Sides (heldIn (now g) .graph) (routesIn (now s) y) (now guards) (now bases) (returnsIn (now parts) (now returners)) stored × PartsIn (heldIn (now g) .graph) (routesIn (now s) y) (now parts) stored × Bounded (heldIn (now g) .graph) (routesOf (routesIn (now s) y)) × Roomy (now edges) (now ends) (now exits) × HopsFit (hopsOf (ways (heldIn (now g) .graph) (routesOf (routesIn (now s) y)))) × (16 * stored .nodes ≤ length (now parts)) × (16 * length (routesIn (now s) y .routes) ≤ length (now guards)) × RoutesThere (now s) y × (stored .nodes ≤ length (now heads)) × (stored .ends ≤ length (now landings)) × (stored .nodes ≤ length (now bases)) × (stored .nodes ≤ length (now originals)) ⌝ }
+    requires { ⌜ TriesIn (routesIn (now s) y) (now nodes) (now edges) (now ends) (now roots) stored × Leads (heldIn (now g) .graph) (routesIn (now s) y) (now ends) (now heads) (now landings) stored × Sides (heldIn (now g) .graph) (routesIn (now s) y) (now guards) (now bases) (returnsIn (now parts) (now returners)) stored × PartsIn (heldIn (now g) .graph) (routesIn (now s) y) (now parts) stored × Bounded (heldIn (now g) .graph) (routesOf (routesIn (now s) y)) × Roomy (now edges) (now ends) (now exits) × HopsFit (hopsOf (ways (heldIn (now g) .graph) (routesOf (routesIn (now s) y)))) × (16 * stored .nodes ≤ length (now parts)) × (16 * length (routesIn (now s) y .routes) ≤ length (now guards)) × RoutesThere (now s) y × (stored .nodes ≤ length (now heads)) × (stored .ends ≤ length (now landings)) × (stored .nodes ≤ length (now bases)) × (stored .nodes ≤ length (now originals)) ⌝ }
     ensures { λ _. ⌜ HopsLaid (routesIn (now (s .entry)) y) (now (h .entry)) (now (h .exit)) (hopsOf (ways (heldIn (now (g .entry)) .graph) (routesOf (routesIn (now (s .entry)) y)))) ⌝ }
 {
     let blocks = block_count(g);

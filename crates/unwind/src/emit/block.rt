@@ -8,7 +8,6 @@ use image::section::RouteLayout;
 ghost use Prim.Native.Nat.{ℕ, _+_, _*_, _/_, _≤_, _<_};
 ghost use lib.ListN.{length, getD};
 ghost use Rattle.image.specs.Image.{routesIn};
-ghost use Rattle.image.specs.Accepted.{AcceptedRoutes};
 ghost use Rattle.image.specs.There.{RoutesThere};
 ghost use Rattle.graph.specs.Fold.{flat};
 ghost use Rattle.unwind.specs.Nodes.{recordIn, NodeFits, AllFit};
@@ -40,7 +39,7 @@ pub fn gather_block(
     b: usize,
     exits: &mut [u16],
 ) -> usize
-    requires { ⌜ AcceptedRoutes (routesIn (now s) y) × TriesIn (routesIn (now s) y) (now nodes) (now edges) (now ends) (now roots) stored × (b < 1024) × (2 * (length (now edges) + length (now ends)) ≤ length (now exits)) × Originals (now bases) (returnsIn (now parts) (now returners)) (now originals) (stored .nodes) (b / 64) listed × RoutesThere (now s) y × (stored .nodes ≤ length (now heads)) × (stored .ends ≤ length (now landings)) × (stored .nodes ≤ length (now originals)) × (16 * length (routesIn (now s) y .routes) ≤ length (now guards)) × (16 * stored .nodes ≤ length (now parts)) × Joins (λ r k. inSet (now guards) r k) (y .routes .count) (now guarded) ⌝ }
+    requires { ⌜ TriesIn (routesIn (now s) y) (now nodes) (now edges) (now ends) (now roots) stored × (b < 1024) × (2 * (length (now edges) + length (now ends)) ≤ length (now exits)) × Originals (now bases) (returnsIn (now parts) (now returners)) (now originals) (stored .nodes) (b / 64) listed × RoutesThere (now s) y × (stored .nodes ≤ length (now heads)) × (stored .ends ≤ length (now landings)) × (stored .nodes ≤ length (now originals)) × (16 * length (routesIn (now s) y .routes) ≤ length (now guards)) × (16 * stored .nodes ≤ length (now parts)) × Joins (λ r k. inSet (now guards) r k) (y .routes .count) (now guarded) ⌝ }
     ensures { λ r. ⌜ BlockHeld (routesIn (now (s .entry)) y) b (blockRecords (routesIn (now (s .entry)) y) b (now (nodes .entry)) (now (edges .entry)) (now (ends .entry)) (now (heads .entry)) (now (landings .entry)) (now (roots .entry)) (now (guards .entry)) (now (bases .entry)) (returnsIn (now (parts .entry)) (now (returners .entry))) stored) (now (edges .entry)) (now (ends .entry)) (now (exits .entry)) (now (exits .exit)) r ⌝ }
 {
     let count = y.routes.count as usize;

@@ -17,7 +17,6 @@ ghost use mathlib.Core.Path.{_≡_};
 ghost use Prim.Native.Nat.{_≤_};
 ghost use lib.ListN.{length};
 ghost use Rattle.image.specs.Image.{routesIn};
-ghost use Rattle.image.specs.Accepted.{AcceptedRoutes};
 ghost use Rattle.image.specs.There.{RoutesThere};
 ghost use Rattle.graph.specs.Fold.{flat};
 ghost use Rattle.unwind.specs.Routed.{TriesIn};
@@ -47,7 +46,7 @@ pub fn add_blocks(
     originals: &mut [u16],
     exits: &mut [u16],
 )
-    requires { ⌜ AcceptedRoutes (routesIn (now s) y) × TriesIn (routesIn (now s) y) (now nodes) (now edges) (now ends) (now roots) stored × (blocks ≤ 1024) × Roomy (now edges) (now ends) (now exits) × (rowsIn (now h) ≡ noRows) × HopsFit (flat (blockHops (routesIn (now s) y) (now nodes) (now edges) (now ends) (now heads) (now landings) (now roots) (now guards) (now bases) (returnsIn (now parts) (now returners)) stored) blocks) × BlockSets (now guards) (returnsIn (now parts) (now returners)) blocks (length (routesIn (now s) y .routes)) (stored .nodes) × RoutesThere (now s) y × (stored .nodes ≤ length (now heads)) × (stored .ends ≤ length (now landings)) × (stored .nodes ≤ length (now bases)) × (stored .nodes ≤ length (now originals)) ⌝ }
+    requires { ⌜ TriesIn (routesIn (now s) y) (now nodes) (now edges) (now ends) (now roots) stored × (blocks ≤ 1024) × Roomy (now edges) (now ends) (now exits) × (rowsIn (now h) ≡ noRows) × HopsFit (flat (blockHops (routesIn (now s) y) (now nodes) (now edges) (now ends) (now heads) (now landings) (now roots) (now guards) (now bases) (returnsIn (now parts) (now returners)) stored) blocks) × BlockSets (now guards) (returnsIn (now parts) (now returners)) blocks (length (routesIn (now s) y .routes)) (stored .nodes) × RoutesThere (now s) y × (stored .nodes ≤ length (now heads)) × (stored .ends ≤ length (now landings)) × (stored .nodes ≤ length (now bases)) × (stored .nodes ≤ length (now originals)) ⌝ }
     ensures { λ _. ⌜ HopsHeld (routesIn (now (s .entry)) y) blocks (now (h .entry)) (now (h .exit)) (flat (blockHops (routesIn (now (s .entry)) y) (now (nodes .entry)) (now (edges .entry)) (now (ends .entry)) (now (heads .entry)) (now (landings .entry)) (now (roots .entry)) (now (guards .entry)) (now (bases .entry)) (returnsIn (now (parts .entry)) (now (returners .entry))) stored) blocks) × (length (now (exits .exit)) ≡ length (now (exits .entry))) ⌝ }
 {
     let routes = y.routes.count as usize;

@@ -48,7 +48,7 @@ count-hops-requires : tie.Need-count-hops-requires
 count-hops-requires c κs =
     let start = c .before .before .before .before .before .before .before .before .before .before .before .before .before .before .before .before .before .before .before .before .before .before .before in
     let l = all-lent (start .args .g .now) (routesIn (start .args .s .now) (start .args .y)) (start .pre .0) in
-    (l .0, l .1, l .2, l .3, l .4, l .5, l .6, l .7, l .8, l .9, start .pre .1, start .pre .0 .instances .slots .entries-fit, start .pre .0 .instances .landings-fit, start .pre .0 .instances .slots .bases-fit, start .pre .2)
+    (l .0, l .1, l .2, l .3, l .4, l .5, l .6, l .7, l .8, start .pre .1, start .pre .0 .instances .slots .entries-fit, start .pre .0 .instances .landings-fit, start .pre .0 .instances .slots .bases-fit, start .pre .2)
 
 returns-2 : tie.Need-returns-2
 returns-2 c =

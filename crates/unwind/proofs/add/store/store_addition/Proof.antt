@@ -15,7 +15,7 @@ add-hops-requires c κs =
     let w = start .args .g .now in
     let m = routesIn (start .args .s .now) (start .args .y) in
     let l = all-lent w m (start .pre .0) in
-    (l .0, l .1, l .2, l .3, l .4, l .6, l .7, hops-fit (heldIn w .graph) m (start .pre .1), l .8, l .9, search needs, start .pre .0 .instances .slots .entries-fit, start .pre .0 .instances .landings-fit, start .pre .0 .instances .slots .bases-fit, start .pre .3)
+    (l .0, l .1, l .2, l .3, l .5, l .6, hops-fit (heldIn w .graph) m (start .pre .1), l .7, l .8, search needs, start .pre .0 .instances .slots .entries-fit, start .pre .0 .instances .landings-fit, start .pre .0 .instances .slots .bases-fit, start .pre .3)
 
 add-clone-edges-requires : tie.Need-add-clone-edges-requires
 add-clone-edges-requires c κs =
@@ -37,13 +37,13 @@ add-route-edges-requires c κs =
     let l = all-lent w m x in (
       joins-stood w m x (c .before .before .before .before .add-clone-edges .ensures) (start .pre .1) (c .before .before .add-clone-blocks .ensures) (c .before .before .before .before .before .before .before .before .before .before .add-hops .ensures),
       x .instances .slots .parts-fit,
-      l .5 .few,
+      l .4 .few,
       hops-lent w m x (c .before .before .before .before .before .before .before .before .before .before .add-hops .ensures),
       x .instances .trie,
       x .instances .slots .entries-fit,
       x .instances .landings-fit,
       x .instances .slots .bases-fit,
-      rw (c .before .before .before .before .before .before .before .before .before .before .before .before .before .before .before .block-count .ensures) (block-sets (heldIn w .graph) m _ _ _ (start .args .stored) (l .3) (l .9) (x .instances .returns-fit)),
+      rw (c .before .before .before .before .before .before .before .before .before .before .before .before .before .before .before .block-count .ensures) (block-sets (heldIn w .graph) m _ _ _ (start .args .stored) (l .2) (l .8) (x .instances .returns-fit)),
       omega (arith, c .before .before .before .before .before .before .before .before .before .before .before .before .before .before .before .block-count .ensures, block-most w),
     )
 

@@ -38,10 +38,10 @@ abbrev μ-loop : tie.MeasureT-loop
 guarded-blocks-requires : tie.Need-guarded-blocks-requires Inv-loop μ-loop
 guarded-blocks-requires c κs =
     let start = c .before .before .before .before .before .before .before .before .before .before .before .before .before in
-    omega (arith, length-records routeFrom (start .args .s .now) (start .args .y .routes), start .pre .4 .guards-fit)
+    omega (arith, length-records routeFrom (start .args .s .now) (start .args .y .routes), start .pre .3 .guards-fit)
 
 busy-blocks-requires : tie.Need-busy-blocks-requires Inv-loop μ-loop
-busy-blocks-requires c κs = let start = c .before .before .before .before .before .before .before .before .before .before .before .before .before .before .before in (rw (returns-long (start .args .parts .now) (start .args .returners .now)) at (start .pre .4 .returns-fit), start .pre .8)
+busy-blocks-requires c κs = let start = c .before .before .before .before .before .before .before .before .before .before .before .before .before .before .before in (rw (returns-long (start .args .parts .now) (start .args .returners .now)) at (start .pre .3 .returns-fit), start .pre .7)
 
 -- the blocks to go over are those that have a way out
 busy : (c : tie.After-busy-blocks Inv-loop μ-loop) → let a = c .before .before .before .before .before .before .before .before .before .before .before .before .before .before .before .before .args in Busy (a .guards .now) (a .y .routes .count) (a .bases .now) (returnsIn (a .parts .now) (a .returners .now)) (a .stored .nodes) (c .busy-blocks .result)
@@ -51,12 +51,12 @@ original-nodes-requires : tie.Need-original-nodes-requires Inv-loop μ-loop
 original-nodes-requires c κs =
     let start = c .before .before .before .before .before .before .before .before .before .before .before .before .before .before .before .before .before .before .before .before .before .before .before .before .before .before .before .before in
     let low = rw (c .before .before .before .before .before .b .given .1) at (c .before .before .before .before .before .before .before .lowest-in .ensures) in
-    (omega (arith, start .pre .9, c .before .before .before .before .before .before .before .before .before .loop .inv .4), start .pre .1 .nodes-most, rw (returns-long (start .args .parts .now) (start .args .returners .now)) at (start .pre .4 .returns-fit), omega (arith, low .0), start .pre .8)
+    (omega (arith, start .pre .8, c .before .before .before .before .before .before .before .before .before .loop .inv .4), start .pre .0 .nodes-most, rw (returns-long (start .args .parts .now) (start .args .returners .now)) at (start .pre .3 .returns-fit), omega (arith, low .0), start .pre .7)
 
 mark-turns-requires : tie.Need-mark-turns-requires Inv-loop μ-loop
 mark-turns-requires c κs =
     let start = c .before .before .before .before .before .before .before .before .before .before .before .before .before .before .before .before .before .before .before in
-    (omega (arith, length-records routeFrom (start .args .s .now) (start .args .y .routes), start .pre .4 .guards-fit), rw (returns-long (start .args .parts .now) (start .args .returners .now)) at (start .pre .4 .returns-fit), start .pre .2)
+    (omega (arith, length-records routeFrom (start .args .s .now) (start .args .y .routes), start .pre .3 .guards-fit), rw (returns-long (start .args .parts .now) (start .args .returners .now)) at (start .pre .3 .returns-fit), start .pre .1)
 
 -- the nodes of the block's word are listed, now or for the last block
 listed : (c : tie.Joined2 Inv-loop μ-loop) → let a = c .before .before .before .before .before .before .before .before .before .before .before .before .before .before .before .before .before .before .before .before .before .before .before .before .before .before .before .args in (length (c .if2 .originals) ≡ length (a .originals .now)) × Originals (a .bases .now) (returnsIn (a .parts .now) (a .returners .now)) (c .if2 .originals) (a .stored .nodes) (c .before .before .before .before .b .given .0 .0 / 64) (c .if2 .listed)
@@ -85,7 +85,7 @@ gathered c =
     rw (w .1, w .2)
     record {
       long = refl;
-      holds = held-on m (a .nodes .now) (a .edges .now) (a .ends .now) (a .heads .now) (a .landings .now) (a .roots .now) (a .guards .now) (a .bases .now) (returnsIn (a .parts .now) (a .returners .now)) (a .stored) (start .pre .1) (c .before .before .before .before .before .before .before .before .before .before .before .before .before .is-worth .ensures (on .sought)) (top .last) _ (a .y .routes .count) (a .blocks) (c .before .before .before .before .before .before .before .before .before .before .before .before .if1 .turns) (length-records routeFrom (a .s .now) (a .y .routes)) (⊎-elim (λ v. rw (v .3) (v .2 .ensures)) (λ v. absurd (false≢true (sym (v .0 .left) ∙ on .sought))) (c .before .before .before .before .before .before .before .before .before .before .before .before .if1 .came)) on (walked-below (top .inv .1 .walked) _ low) (was .holds);
+      holds = held-on m (a .nodes .now) (a .edges .now) (a .ends .now) (a .heads .now) (a .landings .now) (a .roots .now) (a .guards .now) (a .bases .now) (returnsIn (a .parts .now) (a .returners .now)) (a .stored) (start .pre .0) (c .before .before .before .before .before .before .before .before .before .before .before .before .before .is-worth .ensures (on .sought)) (top .last) _ (a .y .routes .count) (a .blocks) (c .before .before .before .before .before .before .before .before .before .before .before .before .if1 .turns) (length-records routeFrom (a .s .now) (a .y .routes)) (⊎-elim (λ v. rw (v .3) (v .2 .ensures)) (λ v. absurd (false≢true (sym (v .0 .left) ∙ on .sought))) (c .before .before .before .before .before .before .before .before .before .before .before .before .if1 .came)) on (walked-below (top .inv .1 .walked) _ low) (was .holds);
       most = was .most;
     })
     (c .if3 .came)
@@ -104,7 +104,7 @@ gather-block-requires c κs =
     let start = c .before .before .before .before .before .before .before .before .before .before .before .before .before .before .before .before .before .before .before .before .before .before .before .before .before .before .before .before .before .before .before .before .before in
     let top = c .before .before .before .before .before .before .before .before .before .before .before .before .before .before .loop in
     let low = rw (c .before .before .before .before .before .before .before .before .before .before .b .given .1) at (c .before .before .before .before .before .before .before .before .before .before .before .before .lowest-in .ensures) in
-    (start .pre .0, start .pre .1, low .0, omega (arith, start .pre .3 .room, top .inv .0), listed (c .before .before .before .before .before .before) .1, search needs, start .pre .6, start .pre .7, omega (arith, start .pre .9, listed (c .before .before .before .before .before .before) .0), start .pre .4 .guards-fit, rw (returns-long (start .args .parts .now) (start .args .returners .now)) at (start .pre .4 .returns-fit), c .before .before .before .before .before .before .before .before .before .before .before .before .before .before .before .before .before .before .before .guarded-blocks .ensures)
+    (start .pre .0, low .0, omega (arith, start .pre .2 .room, top .inv .0), listed (c .before .before .before .before .before .before) .1, search needs, start .pre .5, start .pre .6, omega (arith, start .pre .8, listed (c .before .before .before .before .before .before) .0), start .pre .3 .guards-fit, rw (returns-long (start .args .parts .now) (start .args .returners .now)) at (start .pre .3 .returns-fit), c .before .before .before .before .before .before .before .before .before .before .before .before .before .before .before .before .before .before .before .guarded-blocks .ensures)
 
 loop-less : tie.Need-loop-less Inv-loop μ-loop
 loop-less c =
@@ -119,7 +119,7 @@ loop-holds c =
     let m = routesIn (a .s .now) (a .y) in
     let from = c .before .before in (
       refl,
-      counting-start (blockHops m (a .nodes .now) (a .edges .now) (a .ends .now) (a .heads .now) (a .landings .now) (a .roots .now) (a .guards .now) (a .bases .now) (returnsIn (a .parts .now) (a .returners .now)) (a .stored)) (from .busy-blocks .result) (a .blocks) (busy from .long) (busy-below m (a .nodes .now) (a .edges .now) (a .ends .now) (a .heads .now) (a .landings .now) (a .roots .now) (a .guards .now) (a .bases .now) (returnsIn (a .parts .now) (a .returners .now)) (a .stored) (a .y .routes .count) (length-records routeFrom (a .s .now) (a .y .routes)) (from .busy-blocks .result) (busy from) (a .blocks) (start .pre .4)),
+      counting-start (blockHops m (a .nodes .now) (a .edges .now) (a .ends .now) (a .heads .now) (a .landings .now) (a .roots .now) (a .guards .now) (a .bases .now) (returnsIn (a .parts .now) (a .returners .now)) (a .stored)) (from .busy-blocks .result) (a .blocks) (busy from .long) (busy-below m (a .nodes .now) (a .edges .now) (a .ends .now) (a .heads .now) (a .landings .now) (a .roots .now) (a .guards .now) (a .bases .now) (returnsIn (a .parts .now) (a .returners .now)) (a .stored) (a .y .routes .count) (length-records routeFrom (a .s .now) (a .y .routes)) (from .busy-blocks .result) (busy from) (a .blocks) (start .pre .3)),
       omega arith,
       λ h. absurd (omega arith),
       refl,
@@ -133,21 +133,21 @@ returns c =
     let m = routesIn (a .s .now) (a .y) in
     let from = c .before .before .before .before .before .before .before in
     let top = c .before .before .before .before .loop in
-    counting-end (blockHops m (a .nodes .now) (a .edges .now) (a .ends .now) (a .heads .now) (a .landings .now) (a .roots .now) (a .guards .now) (a .bases .now) (returnsIn (a .parts .now) (a .returners .now)) (a .stored)) (from .busy-blocks .result) (busy-quiet m (a .nodes .now) (a .edges .now) (a .ends .now) (a .heads .now) (a .landings .now) (a .roots .now) (a .guards .now) (a .bases .now) (returnsIn (a .parts .now) (a .returners .now)) (a .stored) (a .y .routes .count) (length-records routeFrom (a .s .now) (a .y .routes)) (from .busy-blocks .result) (busy from)) (top .inv .1) (rw (c .enum-told .given .1) at (c .before .before .lowest-in .ensures)) (start .pre .2) (a .exits .now) (top .exits) (top .inv .0)
+    counting-end (blockHops m (a .nodes .now) (a .edges .now) (a .ends .now) (a .heads .now) (a .landings .now) (a .roots .now) (a .guards .now) (a .bases .now) (returnsIn (a .parts .now) (a .returners .now)) (a .stored)) (from .busy-blocks .result) (busy-quiet m (a .nodes .now) (a .edges .now) (a .ends .now) (a .heads .now) (a .landings .now) (a .roots .now) (a .guards .now) (a .bases .now) (returnsIn (a .parts .now) (a .returners .now)) (a .stored) (a .y .routes .count) (length-records routeFrom (a .s .now) (a .y .routes)) (from .busy-blocks .result) (busy from)) (top .inv .1) (rw (c .enum-told .given .1) at (c .before .before .lowest-in .ensures)) (start .pre .1) (a .exits .now) (top .exits) (top .inv .0)
 
 sizes-of-requires : tie.Need-sizes-of-requires Inv-loop μ-loop
 sizes-of-requires c κs =
     let start = c .before .before .before .before .before .before .before .before .before .before .before .before .before .before .before .before .before .before .before .before .before .before .before .before .before .before .before .before .before .before .before in
     let held = gathered (c .before) in
-    (held .holds .ordered .fit, omega (arith, held .most, start .pre .3 .edges-few, start .pre .3 .ends-few))
+    (held .holds .ordered .fit, omega (arith, held .most, start .pre .2 .edges-few, start .pre .2 .ends-few))
 
 sizes-both-requires : tie.Need-sizes-both-requires Inv-loop μ-loop
 sizes-both-requires c κs =
     let start = c .before .before .before .before .before .before .before .before .before .before .before .before .before .before .before .before .before .before .before .before .before .before .before .before .before .before .before .before .before .before .before .before in
-    let was = counting-few (c .before .before .before .before .before .before .before .before .before .before .before .before .before .loop .inv .1) (start .pre .2) in
+    let was = counting-few (c .before .before .before .before .before .before .before .before .before .before .before .before .before .loop .inv .1) (start .pre .1) in
     let held = gathered (c .before .before) in
     let more = c .sizes-of .ensures in
-    let few : c .before .before .if3 .n < 65536 = omega (arith, held .most, start .pre .3 .edges-few, start .pre .3 .ends-few) in
+    let few : c .before .before .if3 .n < 65536 = omega (arith, held .most, start .pre .2 .edges-few, start .pre .2 .ends-few) in
     (omega (arith, was .0), omega (arith, was .1), omega (arith, was .2), omega (arith, more .hops-most, few), omega (arith, more .lists-most, few), omega (arith, more .blocks-most, few))
 
 loop-again : tie.Need-loop-again Inv-loop μ-loop
@@ -160,7 +160,7 @@ loop-again c =
     let low = rw (c .before .before .before .before .before .before .before .before .before .before .b .given .1) at (c .before .before .before .before .before .before .before .before .before .before .before .before .lowest-in .ensures) in
     let held = gathered (c .before .before .before) in
     let more = c .before .sizes-of .ensures in
-    let few : c .before .before .before .if3 .n < 65536 = omega (arith, held .most, start .pre .3 .edges-few, start .pre .3 .ends-few) in
+    let few : c .before .before .before .if3 .n < 65536 = omega (arith, held .most, start .pre .2 .edges-few, start .pre .2 .ends-few) in
     let size = block-size m _ (a .nodes .now) (a .edges .now) (a .ends .now) (a .heads .now) (a .landings .now) (a .roots .now) (a .guards .now) (a .bases .now) (returnsIn (a .parts .now) (a .returners .now)) (a .stored) (held .holds) more in
     rw (c .before .before .before .before .before .before .before .take-from .ensures, c .sizes-both .ensures) (
       held .long ∙ top .inv .0,

@@ -39,10 +39,10 @@ abbrev μ-loop : tie.MeasureT-loop
 guarded-blocks-requires : tie.Need-guarded-blocks-requires Inv-loop μ-loop
 guarded-blocks-requires c κs =
     let start = c .before .before .before .before .before .before .before .before .before .before .before .before .before in
-    omega (arith, length-records routeFrom (start .args .s .now) (start .args .y .routes), start .pre .6 .guards-fit)
+    omega (arith, length-records routeFrom (start .args .s .now) (start .args .y .routes), start .pre .5 .guards-fit)
 
 busy-blocks-requires : tie.Need-busy-blocks-requires Inv-loop μ-loop
-busy-blocks-requires c κs = let start = c .before .before .before .before .before .before .before .before .before .before .before .before .before .before .before in (rw (returns-long (start .args .parts .now) (start .args .returners .now)) at (start .pre .6 .returns-fit), start .pre .10)
+busy-blocks-requires c κs = let start = c .before .before .before .before .before .before .before .before .before .before .before .before .before .before .before in (rw (returns-long (start .args .parts .now) (start .args .returners .now)) at (start .pre .5 .returns-fit), start .pre .9)
 
 -- the blocks to go over are those that have a way out
 busy : (c : tie.After-busy-blocks Inv-loop μ-loop) → let a = c .before .before .before .before .before .before .before .before .before .before .before .before .before .before .before .before .args in Busy (a .guards .now) (a .y .routes .count) (a .bases .now) (returnsIn (a .parts .now) (a .returners .now)) (a .stored .nodes) (c .busy-blocks .result)
@@ -52,12 +52,12 @@ original-nodes-requires : tie.Need-original-nodes-requires Inv-loop μ-loop
 original-nodes-requires c κs =
     let start = c .before .before .before .before .before .before .before .before .before .before .before .before .before .before .before .before .before .before .before .before .before .before .before .before .before .before .before .before in
     let low = rw (c .before .before .before .before .before .b .given .1) at (c .before .before .before .before .before .before .before .lowest-in .ensures) in
-    (omega (arith, start .pre .11, c .before .before .before .before .before .before .before .before .before .loop .inv .4), start .pre .1 .nodes-most, rw (returns-long (start .args .parts .now) (start .args .returners .now)) at (start .pre .6 .returns-fit), omega (arith, low .0), start .pre .10)
+    (omega (arith, start .pre .10, c .before .before .before .before .before .before .before .before .before .loop .inv .4), start .pre .0 .nodes-most, rw (returns-long (start .args .parts .now) (start .args .returners .now)) at (start .pre .5 .returns-fit), omega (arith, low .0), start .pre .9)
 
 mark-turns-requires : tie.Need-mark-turns-requires Inv-loop μ-loop
 mark-turns-requires c κs =
     let start = c .before .before .before .before .before .before .before .before .before .before .before .before .before .before .before .before .before .before .before in
-    (omega (arith, length-records routeFrom (start .args .s .now) (start .args .y .routes), start .pre .6 .guards-fit), rw (returns-long (start .args .parts .now) (start .args .returners .now)) at (start .pre .6 .returns-fit), start .pre .2)
+    (omega (arith, length-records routeFrom (start .args .s .now) (start .args .y .routes), start .pre .5 .guards-fit), rw (returns-long (start .args .parts .now) (start .args .returners .now)) at (start .pre .5 .returns-fit), start .pre .1)
 
 -- the nodes of the block's word are listed, now or for the last block
 listed : (c : tie.Joined2 Inv-loop μ-loop) → let a = c .before .before .before .before .before .before .before .before .before .before .before .before .before .before .before .before .before .before .before .before .before .before .before .before .before .before .before .args in (length (c .if2 .originals) ≡ length (a .originals .now)) × Originals (a .bases .now) (returnsIn (a .parts .now) (a .returners .now)) (c .if2 .originals) (a .stored .nodes) (c .before .before .before .before .b .given .0 .0 / 64) (c .if2 .listed)
@@ -86,7 +86,7 @@ gathered c =
     rw (w .1, w .2)
     record {
       long = refl;
-      holds = held-on m (a .nodes .now) (a .edges .now) (a .ends .now) (a .heads .now) (a .landings .now) (a .roots .now) (a .guards .now) (a .bases .now) (returnsIn (a .parts .now) (a .returners .now)) (a .stored) (start .pre .1) (c .before .before .before .before .before .before .before .before .before .before .before .before .before .is-worth .ensures (on .sought)) (top .last) _ (a .y .routes .count) (a .blocks) (c .before .before .before .before .before .before .before .before .before .before .before .before .if1 .turns) (length-records routeFrom (a .s .now) (a .y .routes)) (⊎-elim (λ v. rw (v .3) (v .2 .ensures)) (λ v. absurd (false≢true (sym (v .0 .left) ∙ on .sought))) (c .before .before .before .before .before .before .before .before .before .before .before .before .if1 .came)) on (walked-below (top .inv .1 .walked) _ low) (was .holds);
+      holds = held-on m (a .nodes .now) (a .edges .now) (a .ends .now) (a .heads .now) (a .landings .now) (a .roots .now) (a .guards .now) (a .bases .now) (returnsIn (a .parts .now) (a .returners .now)) (a .stored) (start .pre .0) (c .before .before .before .before .before .before .before .before .before .before .before .before .before .is-worth .ensures (on .sought)) (top .last) _ (a .y .routes .count) (a .blocks) (c .before .before .before .before .before .before .before .before .before .before .before .before .if1 .turns) (length-records routeFrom (a .s .now) (a .y .routes)) (⊎-elim (λ v. rw (v .3) (v .2 .ensures)) (λ v. absurd (false≢true (sym (v .0 .left) ∙ on .sought))) (c .before .before .before .before .before .before .before .before .before .before .before .before .if1 .came)) on (walked-below (top .inv .1 .walked) _ low) (was .holds);
       most = was .most;
     })
     (c .if3 .came)
@@ -105,7 +105,7 @@ gather-block-requires c κs =
     let start = c .before .before .before .before .before .before .before .before .before .before .before .before .before .before .before .before .before .before .before .before .before .before .before .before .before .before .before .before .before .before .before .before .before in
     let top = c .before .before .before .before .before .before .before .before .before .before .before .before .before .before .loop in
     let low = rw (c .before .before .before .before .before .before .before .before .before .before .b .given .1) at (c .before .before .before .before .before .before .before .before .before .before .before .before .lowest-in .ensures) in
-    (start .pre .0, start .pre .1, low .0, omega (arith, start .pre .3 .room, top .inv .0), listed (c .before .before .before .before .before .before) .1, search needs, start .pre .8, start .pre .9, omega (arith, start .pre .11, listed (c .before .before .before .before .before .before) .0), start .pre .6 .guards-fit, rw (returns-long (start .args .parts .now) (start .args .returners .now)) at (start .pre .6 .returns-fit), c .before .before .before .before .before .before .before .before .before .before .before .before .before .before .before .before .before .before .before .guarded-blocks .ensures)
+    (start .pre .0, low .0, omega (arith, start .pre .2 .room, top .inv .0), listed (c .before .before .before .before .before .before) .1, search needs, start .pre .7, start .pre .8, omega (arith, start .pre .10, listed (c .before .before .before .before .before .before) .0), start .pre .5 .guards-fit, rw (returns-long (start .args .parts .now) (start .args .returners .now)) at (start .pre .5 .returns-fit), c .before .before .before .before .before .before .before .before .before .before .before .before .before .before .before .before .before .before .before .guarded-blocks .ensures)
 
 loop-less : tie.Need-loop-less Inv-loop μ-loop
 loop-less c =
@@ -120,7 +120,7 @@ loop-holds c =
     let m = routesIn (a .s .now) (a .y) in
     let from = c .before .before in (
       refl,
-      holding-start m (blockHops m (a .nodes .now) (a .edges .now) (a .ends .now) (a .heads .now) (a .landings .now) (a .roots .now) (a .guards .now) (a .bases .now) (returnsIn (a .parts .now) (a .returners .now)) (a .stored)) (λ k. k) [] (from .busy-blocks .result) (a .blocks) (a .h .now) (busy from .long) (busy-below m (a .nodes .now) (a .edges .now) (a .ends .now) (a .heads .now) (a .landings .now) (a .roots .now) (a .guards .now) (a .bases .now) (returnsIn (a .parts .now) (a .returners .now)) (a .stored) (a .y .routes .count) (length-records routeFrom (a .s .now) (a .y .routes)) (from .busy-blocks .result) (busy from) (a .blocks) (start .pre .6)) (held-none m (a .h .now) (start .pre .4)),
+      holding-start m (blockHops m (a .nodes .now) (a .edges .now) (a .ends .now) (a .heads .now) (a .landings .now) (a .roots .now) (a .guards .now) (a .bases .now) (returnsIn (a .parts .now) (a .returners .now)) (a .stored)) (λ k. k) [] (from .busy-blocks .result) (a .blocks) (a .h .now) (busy from .long) (busy-below m (a .nodes .now) (a .edges .now) (a .ends .now) (a .heads .now) (a .landings .now) (a .roots .now) (a .guards .now) (a .bases .now) (returnsIn (a .parts .now) (a .returners .now)) (a .stored) (a .y .routes .count) (length-records routeFrom (a .s .now) (a .y .routes)) (from .busy-blocks .result) (busy from) (a .blocks) (start .pre .5)) (held-none m (a .h .now) (start .pre .3)),
       omega arith,
       λ h. absurd (omega arith),
       refl,
@@ -148,7 +148,7 @@ add-exits-requires c κs =
     let held = gathered joined in
     let own = block-own m _ (a .nodes .now) (a .edges .now) (a .ends .now) (a .heads .now) (a .landings .now) (a .roots .now) (a .guards .now) (a .bases .now) (returnsIn (a .parts .now) (a .returners .now)) (a .stored) _ (joined .if3 .n) (held .holds) in
     let here = holding-here m (blockHops m (a .nodes .now) (a .edges .now) (a .ends .now) (a .heads .now) (a .landings .now) (a .roots .now) (a .guards .now) (a .bases .now) (returnsIn (a .parts .now) (a .returners .now)) (a .stored)) (λ k. k) [] (from .busy-blocks .result) (a .blocks) (busy-quiet m (a .nodes .now) (a .edges .now) (a .ends .now) (a .heads .now) (a .landings .now) (a .roots .now) (a .guards .now) (a .bases .now) (returnsIn (a .parts .now) (a .returners .now)) (a .stored) (a .y .routes .count) (length-records routeFrom (a .s .now) (a .y .routes)) (from .busy-blocks .result) (busy from)) (λ k n h. h) (top .inv .1) _ low in
-    let room = held-room m _ here _ (joined .if3 .n) (holding-fit m (blockHops m (a .nodes .now) (a .edges .now) (a .ends .now) (a .heads .now) (a .landings .now) (a .roots .now) (a .guards .now) (a .bases .now) (returnsIn (a .parts .now) (a .returners .now)) (a .stored)) (λ k. k) [] (from .busy-blocks .result) (a .blocks) (busy-quiet m (a .nodes .now) (a .edges .now) (a .ends .now) (a .heads .now) (a .landings .now) (a .roots .now) (a .guards .now) (a .bases .now) (returnsIn (a .parts .now) (a .returners .now)) (a .stored) (a .y .routes .count) (length-records routeFrom (a .s .now) (a .y .routes)) (from .busy-blocks .result) (busy from)) (λ k n h. h) (top .inv .1) _ low _ own (start .pre .5)) in
+    let room = held-room m _ here _ (joined .if3 .n) (holding-fit m (blockHops m (a .nodes .now) (a .edges .now) (a .ends .now) (a .heads .now) (a .landings .now) (a .roots .now) (a .guards .now) (a .bases .now) (returnsIn (a .parts .now) (a .returners .now)) (a .stored)) (λ k. k) [] (from .busy-blocks .result) (a .blocks) (busy-quiet m (a .nodes .now) (a .edges .now) (a .ends .now) (a .heads .now) (a .landings .now) (a .roots .now) (a .guards .now) (a .bases .now) (returnsIn (a .parts .now) (a .returners .now)) (a .stored) (a .y .routes .count) (length-records routeFrom (a .s .now) (a .y .routes)) (from .busy-blocks .result) (busy from)) (λ k n h. h) (top .inv .1) _ low _ own (start .pre .4)) in
     (room .0, room .1, room .2, held .holds .ordered .fit)
 
 loop-again : tie.Need-loop-again Inv-loop μ-loop
