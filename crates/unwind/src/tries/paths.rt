@@ -71,7 +71,7 @@ pub fn left_of(s: &[u8], y: RouteLayout, starts: &[u16], g: Group, q: usize) -> 
 
 // Whether the n steps from a on are those from b on.
 fn same_steps(s: &[u8], y: RouteLayout, a: usize, b: usize, n: usize) -> bool
-    requires { ⌜ AcceptedRoutes (routesIn (now s) y) × (a + n ≤ 1024) × (b + n ≤ 1024) × RoutesThere (now s) y × (a + n ≤ length (routesIn (now s) y .steps)) × (b + n ≤ length (routesIn (now s) y .steps)) ⌝ }
+    requires { ⌜ AcceptedRoutes (routesIn (now s) y) × RoutesThere (now s) y × (a + n ≤ length (routesIn (now s) y .steps)) × (b + n ≤ length (routesIn (now s) y .steps)) ⌝ }
     ensures { λ r. ⌜ r ≡ sameSteps (routesIn (now (s .entry)) y) a b n ⌝ }
 {
     if a == b {

@@ -15,7 +15,7 @@ use Rattle.unwind.proofs.tries.paths.left_of.Tie as tie
 
 -- where its steps start, how many there are, and that they stand among all
 steps-here : (c : tie.After-number-in2) → let m = routesIn (c .before .before .before .before .args .s .now) (c .before .before .before .before .args .y) in
-    (pathIn m (c .before .before .before .before .args .q) .steps ≡ stepsIn m (c .before .number-in .result) (c .number-in2 .result - c .before .number-in .result)) × (c .before .number-in .result ≤ c .number-in2 .result) × (c .number-in2 .result ≤ length (m .steps)) × (length (m .steps) ≤ 512)
+    (pathIn m (c .before .before .before .before .args .q) .steps ≡ stepsIn m (c .before .number-in .result) (c .number-in2 .result - c .before .number-in .result)) × (c .before .number-in .result ≤ c .number-in2 .result) × (c .number-in2 .result ≤ length (m .steps))
 steps-here c =
     let start = c .before .before .before .before in
     let m = routesIn (start .args .s .now) (start .args .y) in
@@ -26,7 +26,6 @@ steps-here c =
       path-steps m (start .pre .0) q (start .pre .3) ∙ rw (count, first),
       omega (arith, steps-next m q),
       omega (arith, steps-next m q, steps-in m (start .pre .0) q (start .pre .3)),
-      start .pre .0 .steps-most,
     )
 
 sub-count : tie.Need-sub-count
@@ -42,7 +41,7 @@ returns c =
 same-steps-requires : tie.Need-same-steps-requires
 same-steps-requires c κs =
     let h = steps-here (c .before) in
-    (c .before .before .before .before .before .pre .0, omega (arith, h .3, c .before .before .before .before .before .pre .2 .steps), omega (arith, h .1, h .2, h .3), search needs, c .before .before .before .before .before .pre .2 .steps, omega (arith, h .1, h .2))
+    (c .before .before .before .before .before .pre .0, search needs, c .before .before .before .before .before .pre .2 .steps, omega (arith, h .1, h .2))
 
 returns-2 : tie.Need-returns-2
 unfolding leftSteps

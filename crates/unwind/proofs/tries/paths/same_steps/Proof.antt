@@ -33,12 +33,12 @@ loop-holds c = (search needs, sym (same-start _ _ _ _))
 step-in-requires : tie.Need-step-in-requires Inv-loop μ-loop
 step-in-requires c κs =
     let start = c .before .before .before .before in
-    (start .pre .3 .steps-there, omega (arith, c .loop-test .taken, start .pre .4, length-records stepFrom (start .args .s .now) (start .args .y .steps)))
+    (start .pre .1 .steps-there, omega (arith, c .loop-test .taken, start .pre .2, length-records stepFrom (start .args .s .now) (start .args .y .steps)))
 
 step-in-requires-2 : tie.Need-step-in-requires-2 Inv-loop μ-loop
 step-in-requires-2 c κs =
     let start = c .before .before .before .before .before in
-    (start .pre .3 .steps-there, omega (arith, c .before .loop-test .taken, start .pre .5, length-records stepFrom (start .args .s .now) (start .args .y .steps)))
+    (start .pre .1 .steps-there, omega (arith, c .before .loop-test .taken, start .pre .3, length-records stepFrom (start .args .s .now) (start .args .y .steps)))
 
 returns-2 : tie.Need-returns-2 Inv-loop μ-loop
 returns-2 c =
