@@ -167,8 +167,8 @@ module _ (w : List ℕ) (m : RouteImage) {nodes edges ends roots head next bases
   sets-here : SetsIn g parts (c .nodes)
   sets-here = sets-in g few (x .instances .bounded .some) rs z bases heads parts (c .nodes) (x .instances .placed) (x .instances .slots .parts-fit)
 
-  pub links-lent : Ends g × links.Roomy g head next × Linked g head next 0 × (c .nodes ≤ 1024) × (16 * c .nodes ≤ length parts) × SetsIn g parts (c .nodes) × (c .nodes ≤ length bases)
-  links-lent = (stands-of (heldIn w) (x .graphed) .ends, x .links, x .linked, omega (arith, x .instances .trie .nodes-most), x .instances .slots .parts-fit, sets-here, x .instances .slots .bases-fit)
+  pub links-lent : Ends g × links.Roomy g head next × Linked g head next 0 × (c .nodes ≤ 1024) × SetsIn g parts (c .nodes) × (c .nodes ≤ length bases)
+  links-lent = (stands-of (heldIn w) (x .graphed) .ends, x .links, x .linked, omega (arith, x .instances .trie .nodes-most), sets-here, x .instances .slots .bases-fit)
 
   edges-copied : edgeCopies g bases parts (c .nodes) ≡ newEdges
   edges-copied = edges-are g few (x .instances .bounded .some) rs z bases heads parts (c .nodes) (x .instances .placed) all-nodes

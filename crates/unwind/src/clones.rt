@@ -17,7 +17,7 @@ use graph::store::edges::edge_in;
 ghost use mathlib.Core.Path.{_≡_};
 ghost use mathlib.Core.Bool.{true};
 ghost use mathlib.Core.List.{[], map};
-ghost use Prim.Native.Nat.{ℕ, _*_, _≤_, _<_};
+ghost use Prim.Native.Nat.{ℕ, _≤_, _<_};
 ghost use lib.ListN.{length};
 ghost use Rattle.graph.specs.Graph.{block};
 ghost use Rattle.graph.specs.Words.{heldIn};
@@ -38,7 +38,7 @@ pub fn clone_edge_count(
     parts: &[u64],
     n: usize,
 ) -> usize
-    requires { ⌜ Ends (heldIn (now g) .graph) × Roomy (heldIn (now g) .graph) (now head) (now next) × Linked (heldIn (now g) .graph) (now head) (now next) 0 × (n ≤ 1024) × (16 * n ≤ length (now parts)) × SetsIn (heldIn (now g) .graph) (now parts) n × (n ≤ length (now bases)) ⌝ }
+    requires { ⌜ Ends (heldIn (now g) .graph) × Roomy (heldIn (now g) .graph) (now head) (now next) × Linked (heldIn (now g) .graph) (now head) (now next) 0 × (n ≤ 1024) × SetsIn (heldIn (now g) .graph) (now parts) n × (n ≤ length (now bases)) ⌝ }
     ensures { λ r. ⌜ r ≡ length (edgeCopies (heldIn (now (g .entry)) .graph) (now (bases .entry)) (now (parts .entry)) n) ⌝ }
 {
     let mut count = 0;
@@ -92,7 +92,7 @@ pub fn add_clone_edges(
     parts: &[u64],
     n: usize,
 )
-    requires { ⌜ Ends (heldIn (now g) .graph) × Roomy (heldIn (now g) .graph) (now head) (now next) × Linked (heldIn (now g) .graph) (now head) (now next) 0 × (16 * n ≤ length (now parts)) × SetsIn (heldIn (now g) .graph) (now parts) n × (n ≤ length (now bases)) ⌝ }
+    requires { ⌜ Ends (heldIn (now g) .graph) × Roomy (heldIn (now g) .graph) (now head) (now next) × Linked (heldIn (now g) .graph) (now head) (now next) 0 × SetsIn (heldIn (now g) .graph) (now parts) n × (n ≤ length (now bases)) ⌝ }
     ensures { λ _. ⌜ Added (now (g .entry)) (now (g .exit)) (edgeCopies (heldIn (now (g .entry)) .graph) (now (bases .entry)) (now (parts .entry)) n) [] [] ⌝ }
 {
     let m = edge_count(g);

@@ -23,7 +23,7 @@ loop-holds : tie.Need-loop-holds Inv-loop μ-loop
 loop-holds c = let a = c .before .before .before .before .before .before .args in (omega arith, no-copies (a .g .now) (a .bases .now) (a .parts .now))
 
 set-at-requires : tie.Need-set-at-requires Inv-loop μ-loop
-set-at-requires c κs = omega (arith, c .before .before .before .before .before .before .before .before .before .before .pre .3)
+set-at-requires c κs = omega (arith, c .before .before .before .before .before .before .before .before .before .before .pre .3 .fit)
 
 copy-edges-requires : tie.Need-copy-edges-requires Inv-loop μ-loop
 copy-edges-requires c κs =
@@ -35,7 +35,7 @@ copy-edges-requires c κs =
     let same = ap length (blocks-stay (top .inv .1)) in (
       linked-kept (top .inv .1) _ (a .head .now) (a .next .now) (rw (c .before .before .before .before .before .before .before .edge-count .ensures) (linked-start g (a .head .now) (a .next .now) (pre .0) (pre .1) (pre .2))),
       c .before .before .before .before .number-in .ensures .1,
-      rw (c .before .before .set-at .ensures) (λ b m. let stands : b < length (heldIn (top .g) .graph .blocks) = omega (arith, same, pre .4 .stand (top .i) b test m) in stands),
+      rw (c .before .before .set-at .ensures) (λ b m. let stands : b < length (heldIn (top .g) .graph .blocks) = omega (arith, same, pre .3 .stand (top .i) b test m) in stands),
     )
 
 loop-again : tie.Need-loop-again Inv-loop μ-loop

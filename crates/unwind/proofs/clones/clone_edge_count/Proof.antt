@@ -21,14 +21,14 @@ loop-holds : tie.Need-loop-holds Inv-loop μ-loop
 loop-holds c = let a = c .before .before .before .before .args in (omega arith, omega arith, sym (ap length (no-edges (heldIn (a .g .now) .graph) (a .bases .now) (a .parts .now))))
 
 set-at-requires : tie.Need-set-at-requires Inv-loop μ-loop
-set-at-requires c κs = omega (arith, c .before .before .before .before .before .before .before .before .pre .4)
+set-at-requires c κs = omega (arith, c .before .before .before .before .before .before .before .before .pre .4 .fit)
 
 edges-out-requires : tie.Need-edges-out-requires Inv-loop μ-loop
 edges-out-requires c κs =
     let pre = c .before .before .before .before .before .before .before .before .before .before .pre in
     let top = c .before .before .before .before .before .loop in
     let test = c .before .before .before .before .loop-test .taken in
-    (pre .0, pre .1, pre .2, rw (c .before .set-at .ensures) (λ b m. pre .5 .stand (top .i) b test m))
+    (pre .0, pre .1, pre .2, rw (c .before .set-at .ensures) (λ b m. pre .4 .stand (top .i) b test m))
 
 add-count : tie.Need-add-count Inv-loop μ-loop
 add-count c = omega (arith, c .before .before .before .before .before .before .loop .inv .1, c .edges-out .ensures .1, c .before .before .before .before .before .before .before .before .before .before .before .pre .3)

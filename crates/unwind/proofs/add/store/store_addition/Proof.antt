@@ -21,7 +21,7 @@ add-clone-edges-requires : tie.Need-add-clone-edges-requires
 add-clone-edges-requires c κs =
     let start = c .before .before .before .before .before .before .before .before .before .before .before .before .before .before .before .before .before .before .before .before .before .before .before .before .before .before in
     let l = links-lent (start .args .g .now) (routesIn (start .args .s .now) (start .args .y)) (start .pre .0) in
-    (l .0, l .1, l .2, l .4, l .5, l .6)
+    (l .0, l .1, l .2, l .4, l .5)
 
 add-clone-blocks-requires : tie.Need-add-clone-blocks-requires
 add-clone-blocks-requires c κs =
