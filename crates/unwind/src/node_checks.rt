@@ -112,7 +112,7 @@ fn check_ends(
     first: usize,
     n: usize,
 ) -> Checked
-    requires { ⌜ Stands (heldIn (now g) .graph) × Built (heldIn (now g) .graph) built × (first < 65536) × (n < 65536) × RoutesThere (now s) y × (3 * (first + n) ≤ length (now ends)) ⌝ }
+    requires { ⌜ Stands (heldIn (now g) .graph) × Built (heldIn (now g) .graph) built × RoutesThere (now s) y × (3 * (first + n) ≤ length (now ends)) ⌝ }
     ensures { λ r. ⌜ checkOf r ≡ checks (λ k. endCheck (heldIn (now (g .entry)) .graph) (endOf (pathRecord (routesIn (now (s .entry)) y) (branchIn (now (ends .entry)) (first + k) .what)))) n ⌝ }
 {
     for k in 0..n {

@@ -22,9 +22,6 @@ loop-holds : tie.Need-loop-holds Inv-loop μ-loop
 unfolding checks
 loop-holds c = (omega arith, refl)
 
-add-branch-in : tie.Need-add-branch-in Inv-loop μ-loop
-add-branch-in c = let pre = c .before .before .before .before .before .pre in omega (arith, pre .2, pre .3)
-
 returns : tie.Need-returns Inv-loop μ-loop
 returns c =
     let a = c .before .before .before .before .before .before .before .before .before .args in
@@ -53,7 +50,7 @@ check-ends-spec =
     Inv-loop
     μ-loop
     loop-holds
-    add-branch-in
+    (λ c. search needs)
     (λ c κs. search needs)
     (λ c κs. search needs)
     (λ c. search needs)

@@ -25,7 +25,7 @@ check-ends-requires : tie.Need-check-ends-requires
 check-ends-requires c κs =
     let pre = c .before .before .before .before .before .before .before .before .before .before .before .before .pre in
     let node = c .before .before .before .before .before .before .node-in .ensures in
-    (pre .0, pre .1, node .small .first-end, node .small .ends, search needs, rw (node .is) (pre .3 .ends-in))
+    (pre .0, pre .1, search needs, rw (node .is) (pre .3 .ends-in))
 
 same-length-2 : tie.Need-same-length-2
 same-length-2 c = c .before .before .before .before .before .check-funclet .kept .1 .1 .1 .1 .1 .1 .1 .0
