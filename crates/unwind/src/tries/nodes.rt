@@ -15,7 +15,7 @@ use image::section::RouteLayout;
 ghost use mathlib.Core.Path.{_≡_};
 ghost use mathlib.Core.Bool.{_&&_};
 ghost use mathlib.Core.List.{map};
-ghost use Prim.Native.Nat.{_+_, _*_, _≤_, _<_};
+ghost use Prim.Native.Nat.{_+_, _*_, _≤_};
 ghost use lib.Dec.{eqb};
 ghost use lib.ListN.{length};
 ghost use Rattle.image.specs.Image.{routesIn};
@@ -23,7 +23,7 @@ ghost use Rattle.image.specs.Accepted.{AcceptedRoutes};
 ghost use Rattle.image.specs.There.{RoutesThere};
 ghost use Rattle.addition.specs.Order.{same};
 ghost use Rattle.addition.specs.Trie.{sameFunclet, sameNode, placeOf};
-ghost use Rattle.unwind.specs.Nodes.{recordIn, branches, funcletIn, valueOf, nodeIn, nodesIn, Stored, NodeFits, AllFit, NodeSmall};
+ghost use Rattle.unwind.specs.Nodes.{recordIn, branches, funcletIn, valueOf, nodeIn, nodesIn, Stored, NodeFits, AllFit};
 ghost use Rattle.unwind.specs.Interning.{ordered, meaning};
 ghost use Rattle.unwind.specs.Kept.{placeIn, Behind, Kept};
 ghost use Rattle.unwind.specs.Lower.{Lower, BehindChildren};
@@ -85,7 +85,7 @@ fn find_node(
     n: usize,
     x: NodeRecord,
 ) -> Place
-    requires { ⌜ AcceptedRoutes (routesIn (now s) y) × NodeSmall x × (6 * n ≤ length (now nodes)) × Lower (nodesIn (routesIn (now s) y) (now nodes) (now edges) (now ends) n) × Seen (routesIn (now s) y) (now nodes) n (now seen) × RoutesThere (now s) y × NodeFits (now edges) (now ends) x × AllFit (now nodes) (now edges) (now ends) (λ i. i) n ⌝ }
+    requires { ⌜ AcceptedRoutes (routesIn (now s) y) × (6 * n ≤ length (now nodes)) × Lower (nodesIn (routesIn (now s) y) (now nodes) (now edges) (now ends) n) × Seen (routesIn (now s) y) (now nodes) n (now seen) × RoutesThere (now s) y × NodeFits (now edges) (now ends) x × AllFit (now nodes) (now edges) (now ends) (λ i. i) n ⌝ }
     ensures { λ r. ⌜ placeIn r ≡ placeOf (nodeIn (routesIn (now (s .entry)) y) (now (edges .entry)) (now (ends .entry)) x) (nodesIn (routesIn (now (s .entry)) y) (now (nodes .entry)) (now (edges .entry)) (now (ends .entry)) n) ⌝ }
 {
     let low = behind_children(edges, x.first_edge, x.edges);
@@ -106,7 +106,7 @@ fn find_node(
 
 // Behind the greatest node that the n edges from `first` on lead to.
 fn behind_children(edges: &[u16], first: usize, n: usize) -> usize
-    requires { ⌜ (first + n < 1048576) × (3 * (first + n) ≤ length (now edges)) ⌝ }
+    requires { ⌜ 3 * (first + n) ≤ length (now edges) ⌝ }
     ensures { λ r. ⌜ BehindChildren (now (edges .entry)) first n r ⌝ }
 {
     let mut low = 0;
@@ -130,7 +130,7 @@ fn stands_at(
     x: NodeRecord,
     value: u64,
 ) -> bool
-    requires { ⌜ AcceptedRoutes (routesIn (now s) y) × NodeSmall x × (6 * i + 6 ≤ length (now nodes)) × (value ≡ valueOf (funcletIn (routesIn (now s) y) (x .funclet))) × RoutesThere (now s) y × NodeFits (now edges) (now ends) x × NodeFits (now edges) (now ends) (recordIn (now nodes) i) ⌝ }
+    requires { ⌜ AcceptedRoutes (routesIn (now s) y) × (6 * i + 6 ≤ length (now nodes)) × (value ≡ valueOf (funcletIn (routesIn (now s) y) (x .funclet))) × RoutesThere (now s) y × NodeFits (now edges) (now ends) x × NodeFits (now edges) (now ends) (recordIn (now nodes) i) ⌝ }
     ensures { λ r. ⌜ r ≡ sameNode (nodeIn (routesIn (now (s .entry)) y) (now (edges .entry)) (now (ends .entry)) x) (nodeIn (routesIn (now (s .entry)) y) (now (edges .entry)) (now (ends .entry)) (recordIn (now (nodes .entry)) i)) ⌝ }
 {
     if counts_match(nodes, i, x.edges, x.ends) {
@@ -180,7 +180,7 @@ fn same_node(
     a: NodeRecord,
     b: NodeRecord,
 ) -> bool
-    requires { ⌜ AcceptedRoutes (routesIn (now s) y) × NodeSmall a × NodeSmall b × RoutesThere (now s) y × NodeFits (now edges) (now ends) a × NodeFits (now edges) (now ends) b ⌝ }
+    requires { ⌜ AcceptedRoutes (routesIn (now s) y) × RoutesThere (now s) y × NodeFits (now edges) (now ends) a × NodeFits (now edges) (now ends) b ⌝ }
     ensures { λ r. ⌜ r ≡ sameNode (nodeIn (routesIn (now (s .entry)) y) (now (edges .entry)) (now (ends .entry)) a) (nodeIn (routesIn (now (s .entry)) y) (now (edges .entry)) (now (ends .entry)) b) ⌝ }
 {
     if same_funclet(s, y, a.funclet, b.funclet) {
@@ -235,7 +235,7 @@ fn same_runs(
     b: usize,
     k: usize,
 ) -> bool
-    requires { ⌜ AcceptedRoutes (routesIn (now s) y) × (a + n < 1048576) × (b + k < 1048576) × RoutesThere (now s) y × (3 * (a + n) ≤ length (now list)) × (3 * (b + k) ≤ length (now list)) ⌝ }
+    requires { ⌜ AcceptedRoutes (routesIn (now s) y) × RoutesThere (now s) y × (3 * (a + n) ≤ length (now list)) × (3 * (b + k) ≤ length (now list)) ⌝ }
     ensures { λ r. ⌜ r ≡ same (ordered kind) (map (meaning (routesIn (now (s .entry)) y) kind) (branches (now (list .entry)) a n)) (map (meaning (routesIn (now (s .entry)) y) kind) (branches (now (list .entry)) b k)) ⌝ }
 {
     if n != k {

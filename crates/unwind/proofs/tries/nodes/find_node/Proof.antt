@@ -27,7 +27,7 @@ abbrev μ-loop : tie.MeasureT-loop
 μ-loop s y nodes edges ends seen n x low value i₀ i = n - i
 
 behind-children-requires : tie.Need-behind-children-requires Inv-loop μ-loop
-behind-children-requires c κs = let pre = c .before .before .before .before .pre in (omega (arith, pre .1 .first-edge, pre .1 .edges), pre .6 .edges-in)
+behind-children-requires c κs = c .before .before .before .before .pre .5 .edges-in
 
 returns : tie.Need-returns Inv-loop μ-loop
 returns c =
@@ -35,7 +35,7 @@ returns c =
     let a = start .args in
     let m = routesIn (a .s .now) (a .y) in
     place-nothing m (a .nodes .now) (a .edges .now) (a .ends .now) (a .n) (nodeIn m (a .edges .now) (a .ends .now) (a .x))
-    (λ j lt. low-differs m (a .nodes .now) (a .edges .now) (a .ends .now) (a .n) (start .pre .3) (a .x) (c .before .behind-children .result) (c .before .behind-children .ensures) j (omega arith) lt)
+    (λ j lt. low-differs m (a .nodes .now) (a .edges .now) (a .ends .now) (a .n) (start .pre .2) (a .x) (c .before .behind-children .result) (c .before .behind-children .ensures) j (omega arith) lt)
 
 returns-2 : tie.Need-returns-2 Inv-loop μ-loop
 returns-2 c =
@@ -45,18 +45,18 @@ returns-2 c =
     let out : member (a .seen .now) (markOf (valueOf (funcletIn m (a .x .funclet)))) ≡ false =
     rw (← c .before .before .before .funclet-value .ensures, ← c .before .before .mark-of .ensures, ← c .before .has-in .ensures) (not-true _ (c .if2 .taken)) in
     place-nothing m (a .nodes .now) (a .edges .now) (a .ends .now) (a .n) (nodeIn m (a .edges .now) (a .ends .now) (a .x))
-    (unseen-differs m (a .nodes .now) (a .n) (a .seen .now) (start .pre .4) (a .x) (a .edges .now) (a .ends .now) out)
+    (unseen-differs m (a .nodes .now) (a .n) (a .seen .now) (start .pre .3) (a .x) (a .edges .now) (a .ends .now) out)
 
 loop-holds : tie.Need-loop-holds Inv-loop μ-loop
 loop-holds c =
     let start = c .before .before .before .before .before .before .before .before .before .before in
     let a = start .args in
-    low-differs (routesIn (a .s .now) (a .y)) (a .nodes .now) (a .edges .now) (a .ends .now) (a .n) (start .pre .3) (a .x) (c .before .before .before .before .before .behind-children .result) (c .before .before .before .before .before .behind-children .ensures)
+    low-differs (routesIn (a .s .now) (a .y)) (a .nodes .now) (a .edges .now) (a .ends .now) (a .n) (start .pre .2) (a .x) (c .before .before .before .before .before .behind-children .result) (c .before .before .before .before .before .behind-children .ensures)
 
 stands-at-requires : tie.Need-stands-at-requires Inv-loop μ-loop
 stands-at-requires c κs =
     let start = c .before .before .before .before .before .before .before .before .before .before .before .before in
-    (start .pre .0, start .pre .1, omega (arith, c .loop-test .taken, start .pre .2), c .before .before .before .before .before .funclet-value .ensures, search needs, start .pre .6, start .pre .7 .fits _ (c .loop-test .taken))
+    (start .pre .0, omega (arith, c .loop-test .taken, start .pre .1), c .before .before .before .before .before .funclet-value .ensures, search needs, start .pre .5, start .pre .6 .fits _ (c .loop-test .taken))
 
 returns-3 : tie.Need-returns-3 Inv-loop μ-loop
 returns-3 c =

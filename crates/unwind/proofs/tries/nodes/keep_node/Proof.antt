@@ -14,7 +14,7 @@ find-node-requires c κs =
     let start = c .before .before .before .before .before .before in
     let a = start .args in
     let pre = start .pre in
-    (pre .0, pre .2 .small, pre .1 .nodes-fit, pre .3, pre .4, search needs, behind-fits (a .nodes .now) (a .edges .now) (a .ends .now) (a .counts) (a .x) (pre .2), stored-fits (a .nodes .now) (a .edges .now) (a .ends .now) (a .counts) (pre .1))
+    (pre .0, pre .1 .nodes-fit, pre .3, pre .4, search needs, behind-fits (a .nodes .now) (a .edges .now) (a .ends .now) (a .counts) (a .x) (pre .2), stored-fits (a .nodes .now) (a .edges .now) (a .ends .now) (a .counts) (pre .1))
 
 put-node-requires : tie.Need-put-node-requires
 put-node-requires c κs = let pre = c .before .before .before .before .before .before .before .before .before .before .pre in (pre .2 .room, pre .2 .small)

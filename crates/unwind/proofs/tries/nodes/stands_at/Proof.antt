@@ -11,7 +11,7 @@ use Rattle.unwind.proofs.tries.nodes.stands_at.Tie as tie
 same-node-requires : tie.Need-same-node-requires
 same-node-requires c κs =
     let pre = c .before .before .before .before .before .before .before .before .before .before .pre in
-    (pre .0, pre .1, c .node-in .ensures .small, search needs, pre .5, rw (c .node-in .ensures .is) (pre .6))
+    (pre .0, search needs, pre .4, rw (c .node-in .ensures .is) (pre .5))
 
 returns : tie.Need-returns
 returns c = rw (← c .before .node-in .ensures .is) (c .same-node .ensures)
@@ -22,7 +22,7 @@ returns-2 c =
     let a = c .before .before .before .before .before .before .before .before .before .args in
     let m = routesIn (a .s .now) (a .y) in
     sym (values-differ m (a .edges .now) (a .ends .now) (a .x) (recordIn (a .nodes .now) (a .i))
-    (λ e. c .if2 .left (c .before .funclet-value .ensures ∙ ap (λ (f : ℕ). valueOf (funcletIn m f)) (c .before .before .number-in .ensures .0) ∙ e ∙ sym (c .before .before .before .before .before .before .before .before .before .pre .3))))
+    (λ e. c .if2 .left (c .before .funclet-value .ensures ∙ ap (λ (f : ℕ). valueOf (funcletIn m f)) (c .before .before .number-in .ensures .0) ∙ e ∙ sym (c .before .before .before .before .before .before .before .before .before .pre .2))))
 
 returns-3 : tie.Need-returns-3
 returns-3 c =
