@@ -34,7 +34,7 @@ pub fn lay_ends_beside(
     at: usize,
     n: usize,
 ) -> usize
-    requires { ⌜ AcceptedRoutes (routesIn (now s) y) × Starts (routesIn (now s) y) (now starts) × GroupIn (routesIn (now s) y) g × (at + length (endsList (pathsOf (routesIn (now s) y) g)) < 65536) × (3 * (at + length (endsList (pathsOf (routesIn (now s) y) g))) ≤ length (now ends)) × RoutesThere (now s) y × (n + length (endsList (pathsOf (routesIn (now s) y) g)) ≤ g .count) ⌝ }
+    requires { ⌜ AcceptedRoutes (routesIn (now s) y) × Starts (routesIn (now s) y) (now starts) × GroupIn (routesIn (now s) y) g × (3 * (at + length (endsList (pathsOf (routesIn (now s) y) g))) ≤ length (now ends)) × RoutesThere (now s) y × (n + length (endsList (pathsOf (routesIn (now s) y) g)) ≤ g .count) ⌝ }
     ensures { λ r. ⌜ EndsLaid (routesIn (now (s .entry)) y) g (now (ends .entry)) at (now (ends .exit)) r ⌝ }
 {
     if n == g.count {
@@ -52,7 +52,7 @@ fn lay_ends(
     ends: &mut [u16],
     at: usize,
 ) -> usize
-    requires { ⌜ AcceptedRoutes (routesIn (now s) y) × Starts (routesIn (now s) y) (now starts) × GroupIn (routesIn (now s) y) g × (at + length (endsList (pathsOf (routesIn (now s) y) g)) < 65536) × (3 * (at + length (endsList (pathsOf (routesIn (now s) y) g))) ≤ length (now ends)) × RoutesThere (now s) y ⌝ }
+    requires { ⌜ AcceptedRoutes (routesIn (now s) y) × Starts (routesIn (now s) y) (now starts) × GroupIn (routesIn (now s) y) g × (3 * (at + length (endsList (pathsOf (routesIn (now s) y) g))) ≤ length (now ends)) × RoutesThere (now s) y ⌝ }
     ensures { λ r. ⌜ EndsLaid (routesIn (now (s .entry)) y) g (now (ends .entry)) at (now (ends .exit)) r ⌝ }
 {
     let first = g.first;
@@ -75,7 +75,7 @@ fn lay_end(
     n: usize,
     q: usize,
 ) -> usize
-    requires { ⌜ AcceptedRoutes (routesIn (now s) y) × Starts (routesIn (now s) y) (now starts) × GroupIn (routesIn (now s) y) g × (q < length (routesIn (now s) y .paths)) × (at + n + length (endsList (leftAt (routesIn (now s) y) g q)) < 65536) × (3 * (at + n + length (endsList (leftAt (routesIn (now s) y) g q))) ≤ length (now ends)) × RoutesThere (now s) y ⌝ }
+    requires { ⌜ AcceptedRoutes (routesIn (now s) y) × Starts (routesIn (now s) y) (now starts) × GroupIn (routesIn (now s) y) g × (q < length (routesIn (now s) y .paths)) × (3 * (at + n + length (endsList (leftAt (routesIn (now s) y) g q))) ≤ length (now ends)) × RoutesThere (now s) y ⌝ }
     ensures { λ r. ⌜ EndLaid (routesIn (now (s .entry)) y) g q (now (ends .entry)) at n (now (ends .exit)) r ⌝ }
 {
     match end_of(s, y, starts, g, q) {
@@ -112,7 +112,7 @@ pub fn lay_edges(
     edges: &mut [u16],
     at: usize,
 ) -> usize
-    requires { ⌜ AcceptedRoutes (routesIn (now s) y) × (top + n < 65536) × (at + n < 65536) × (3 * (at + n) ≤ length (now edges)) × RoutesThere (now s) y × (3 * (top + n) ≤ length (now stack)) ⌝ }
+    requires { ⌜ AcceptedRoutes (routesIn (now s) y) × (3 * (at + n) ≤ length (now edges)) × RoutesThere (now s) y × (3 * (top + n) ≤ length (now stack)) ⌝ }
     ensures { λ r. ⌜ EdgesLaid (routesIn (now (s .entry)) y) (now (stack .entry)) top n (now (edges .entry)) at (now (edges .exit)) r ⌝ }
 {
     let mut count = 0;

@@ -7,7 +7,7 @@ use crate::tries::store::branch_in;
 use crate::tries::store::put_branch;
 use image::section::RouteLayout;
 ghost use mathlib.Core.List.{map};
-ghost use Prim.Native.Nat.{_+_, _*_, _≤_, _<_};
+ghost use Prim.Native.Nat.{_+_, _*_, _≤_};
 ghost use lib.ListN.{length};
 ghost use Rattle.image.specs.Image.{routesIn};
 ghost use Rattle.image.specs.Accepted.{AcceptedRoutes};
@@ -32,7 +32,7 @@ pub fn put_sorted(
     n: usize,
     b: Branch,
 ) -> usize
-    requires { ⌜ AcceptedRoutes (routesIn (now s) y) × BranchSmall b × (at + n < 65536) × (3 * (at + n) + 3 ≤ length (now list)) × RoutesThere (now s) y ⌝ }
+    requires { ⌜ AcceptedRoutes (routesIn (now s) y) × BranchSmall b × (3 * (at + n) + 3 ≤ length (now list)) × RoutesThere (now s) y ⌝ }
     ensures { λ r. ⌜ RunPut (ordered kind) (meaning (routesIn (now (s .entry)) y) kind) (now (list .entry)) at n b (now (list .exit)) r ⌝ }
 {
     match spot_of(s, y, kind, list, at, n, b) {
@@ -54,7 +54,7 @@ fn spot_of(
     n: usize,
     b: Branch,
 ) -> Spot
-    requires { ⌜ AcceptedRoutes (routesIn (now s) y) × BranchSmall b × (at + n < 65536) × RoutesThere (now s) y × (3 * (at + n) ≤ length (now list)) ⌝ }
+    requires { ⌜ AcceptedRoutes (routesIn (now s) y) × BranchSmall b × RoutesThere (now s) y × (3 * (at + n) ≤ length (now list)) ⌝ }
     ensures { λ r. ⌜ SpotOf (ordered kind) (meaning (routesIn (now (s .entry)) y) kind b) (map (meaning (routesIn (now (s .entry)) y) kind) (branches (now (list .entry)) at n)) r ⌝ }
 {
     for j in 0..n {
@@ -69,7 +69,7 @@ fn spot_of(
 
 // The branch in place j of the n from `at` on: those from there on move up by one.
 fn insert(list: &mut [u16], at: usize, n: usize, j: usize, b: Branch)
-    requires { ⌜ BranchSmall b × (j ≤ n) × (at + n < 65536) × (3 * (at + n) + 3 ≤ length (now list)) ⌝ }
+    requires { ⌜ BranchSmall b × (j ≤ n) × (3 * (at + n) + 3 ≤ length (now list)) ⌝ }
     ensures { λ _. ⌜ Inserted (now (list .entry)) at n j b (now (list .exit)) ⌝ }
 {
     let mut next = b;

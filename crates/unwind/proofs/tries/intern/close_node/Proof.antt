@@ -8,13 +8,13 @@ use Rattle.unwind.proofs.tries.intern.close_node.Statement.{statement}
 use Rattle.unwind.proofs.tries.intern.close_node.Tie as tie
 
 lay-edges-requires : tie.Need-lay-edges-requires
-lay-edges-requires c κs = let pre = c .before .before .before .before .before .before .before .pre in let r = pre .2 in (pre .0 .accepted, omega (arith, r .stack-few), omega (arith, r .edges-few), r .edges-fit, search needs, r .stack-fit)
+lay-edges-requires c κs = let pre = c .before .before .before .before .before .before .before .pre in let r = pre .2 in (pre .0 .accepted, r .edges-fit, search needs, r .stack-fit)
 
 lay-ends-beside-requires : tie.Need-lay-ends-beside-requires
 lay-ends-beside-requires c κs =
     let p = c .before .before .before .before .before .before .before .before .before .before .before .pre .0 in
     let r = c .before .before .before .before .before .before .before .before .before .before .before .pre .2 in
-    (p .accepted, p .starts, p .within, omega (arith, r .ends-few), r .ends-fit, search needs, search needs)
+    (p .accepted, p .starts, p .within, r .ends-fit, search needs, search needs)
 
 funclet-of-requires : tie.Need-funclet-of-requires
 funclet-of-requires c κs = let p = c .before .before .before .before .before .before .before .before .before .before .before .before .before .before .pre .0 in omega (arith, p .within .steps, p .accepted .steps-most)

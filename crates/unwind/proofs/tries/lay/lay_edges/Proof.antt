@@ -20,7 +20,7 @@ loop-holds c = (search needs, edges-start _ _ _ _ _)
 put-sorted-requires : tie.Need-put-sorted-requires Inv-loop μ-loop
 put-sorted-requires c κs =
     let so-far = c .before .before .before .loop .inv .1 in
-    (c .before .before .before .before .before .before .before .pre .0, c .branch-in .ensures .small, omega (arith, so-far .laid .most, c .before .before .before .before .before .before .before .pre .2), omega (arith, so-far .laid .most, so-far .long, c .before .before .before .before .before .before .before .pre .3), search needs)
+    (c .before .before .before .before .before .before .before .pre .0, c .branch-in .ensures .small, omega (arith, so-far .laid .most, so-far .long, c .before .before .before .before .before .before .before .pre .1), search needs)
 
 loop-again : tie.Need-loop-again Inv-loop μ-loop
 loop-again c =

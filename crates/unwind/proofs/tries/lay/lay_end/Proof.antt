@@ -15,7 +15,7 @@ unfolding endingOf
 put-sorted-requires c κs =
     let found : EndOf (routesIn (c .before .before .before .before .before .before .before .before .args .s .now) (c .before .before .before .before .before .before .before .before .args .y)) (c .before .before .before .before .before .before .before .before .args .g) (c .before .before .before .before .before .before .before .before .args .q) (At (c .before .before .b .given .0 .0)) = rw (c .before .before .b .given .1) at (c .before .before .before .before .end-of .ensures) in
     let one = ap length (found .is) in
-    (c .before .before .before .before .before .before .before .before .pre .0, found .small, omega (arith, one, c .before .before .before .before .before .before .before .before .pre .4), omega (arith, one, c .before .before .before .before .before .before .before .before .pre .5), search needs)
+    (c .before .before .before .before .before .before .before .before .pre .0, found .small, omega (arith, one, c .before .before .before .before .before .before .before .before .pre .4), search needs)
 
 returns : tie.Need-returns
 unfolding endingOf

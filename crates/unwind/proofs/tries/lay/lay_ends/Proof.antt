@@ -33,7 +33,7 @@ lay-end-requires c κs =
     let ends : ℕ → List (Tagged UnwindEnd) = λ (i : ℕ). endsList (leftAt m g (g .first + i)) in
     let room : c .before .before .loop .n + length (ends (c .before .before .loop .k)) ≤ length (endsList (pathsOf m g)) =
     rw (ends-flat m g) (omega (arith, c .before .before .loop .inv .1 .most, flat-suc ends (c .before .before .loop .k), flat-le ends (suc (c .before .before .loop .k)) (g .count) (c .before .loop-test .taken))) in
-    (c .before .before .before .before .before .before .pre .0, c .before .before .before .before .before .before .pre .1, c .before .before .before .before .before .before .pre .2, omega (arith, c .before .before .before .before .before .before .pre .2 .paths), omega (arith, room, c .before .before .before .before .before .before .pre .3), omega (arith, room, c .before .before .before .before .before .before .pre .4, c .before .before .loop .inv .1 .long), search needs)
+    (c .before .before .before .before .before .before .pre .0, c .before .before .before .before .before .before .pre .1, c .before .before .before .before .before .before .pre .2, omega (arith, c .before .before .before .before .before .before .pre .2 .paths), omega (arith, room, c .before .before .before .before .before .before .pre .3, c .before .before .loop .inv .1 .long), search needs)
 
 loop-again : tie.Need-loop-again Inv-loop μ-loop
 loop-again c =

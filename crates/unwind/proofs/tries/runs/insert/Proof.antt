@@ -20,7 +20,7 @@ loop-holds : tie.Need-loop-holds Inv-loop μ-loop
 loop-holds c = (search needs, search needs, c .before .pre .0, insert-start _ _ _ _ _ (c .before .pre .1))
 
 put-branch-requires : tie.Need-put-branch-requires Inv-loop μ-loop
-put-branch-requires c κs = (omega (arith, c .before .before .before .before .loop .inv .3 .long, c .before .before .before .before .before .before .pre .3), c .before .before .before .before .loop .inv .2)
+put-branch-requires c κs = (omega (arith, c .before .before .before .before .loop .inv .3 .long, c .before .before .before .before .before .before .pre .2), c .before .before .before .before .loop .inv .2)
 
 loop-again : tie.Need-loop-again Inv-loop μ-loop
 loop-again c = (
@@ -31,7 +31,7 @@ loop-again c = (
 )
 
 put-branch-requires-2 : tie.Need-put-branch-requires-2 Inv-loop μ-loop
-put-branch-requires-2 c κs = (omega (arith, c .before .before .loop .inv .3 .long, c .before .before .before .before .pre .3), c .before .before .loop .inv .2)
+put-branch-requires-2 c κs = (omega (arith, c .before .before .loop .inv .3 .long, c .before .before .before .before .pre .2), c .before .before .loop .inv .2)
 
 same-length : tie.Need-same-length Inv-loop μ-loop
 same-length c = c .before .before .put-branch2 .ensures .long ∙ c .before .before .before .before .before .loop .inv .3 .long

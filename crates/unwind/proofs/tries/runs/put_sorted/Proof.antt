@@ -17,7 +17,7 @@ insert-requires c κs =
     let m = routesIn (c .before .before .before .before .before .before .before .before .args .s .now) (c .before .before .before .before .before .before .before .before .args .y) in
     let l = branches (c .before .before .before .before .before .before .before .before .args .list .now) (c .before .before .before .before .before .before .before .before .args .at) (c .before .before .before .before .before .before .before .before .args .n) in
     let spot : SpotOf (ordered (c .before .before .before .before .before .before .before .before .args .kind)) (meaning m (c .before .before .before .before .before .before .before .before .args .kind) (c .before .before .before .before .before .before .before .before .args .b)) (map (meaning m (c .before .before .before .before .before .before .before .before .args .kind)) l) (At (c .before .before .j .given .0 .0)) = rw (c .before .before .j .given .1) at (c .before .before .before .before .spot-of .ensures) in
-    (c .before .before .before .before .before .before .before .before .pre .1, omega (arith, spot .0, length-map l (meaning m (c .before .before .before .before .before .before .before .before .args .kind)), length-branches (c .before .before .before .before .before .before .before .before .args .list .now) (c .before .before .before .before .before .before .before .before .args .at) (c .before .before .before .before .before .before .before .before .args .n)), c .before .before .before .before .before .before .before .before .pre .2, c .before .before .before .before .before .before .before .before .pre .3)
+    (c .before .before .before .before .before .before .before .before .pre .1, omega (arith, spot .0, length-map l (meaning m (c .before .before .before .before .before .before .before .before .args .kind)), length-branches (c .before .before .before .before .before .before .before .before .args .list .now) (c .before .before .before .before .before .before .before .before .args .at) (c .before .before .before .before .before .before .before .before .args .n)), c .before .before .before .before .before .before .before .before .pre .2)
 
 returns : tie.Need-returns
 returns c =
