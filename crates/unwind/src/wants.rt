@@ -280,7 +280,7 @@ fn want_edges(
     b: usize,
     done: &mut Flags,
 )
-    requires { ⌜ HopsRise (now h) × ((j : ℕ) → j < count → HopStands (now h) (leapTo b (getD (now heads) (branchIn (now edges) (first + j) .what) 0))) × HopsJoin (now h) (heldIn (now g) .graph) × (first < 65536) × (count < 65536) × (3 * (first + count) ≤ length (now edges)) × ((k : ℕ) → k < count → branchIn (now edges) (first + k) .what < length (now heads)) ⌝ }
+    requires { ⌜ HopsRise (now h) × ((j : ℕ) → j < count → HopStands (now h) (leapTo b (getD (now heads) (branchIn (now edges) (first + j) .what) 0))) × HopsJoin (now h) (heldIn (now g) .graph) × (3 * (first + count) ≤ length (now edges)) × ((k : ℕ) → k < count → branchIn (now edges) (first + k) .what < length (now heads)) ⌝ }
     ensures { λ _. ⌜ ((m : RouteImage) → EdgesWanted (now (h .entry)) (now (g .entry)) (now (done .entry)) (map (wayOf r) (edgeExits m b (now (edges .entry)) (now (heads .entry)) first count)) (now (g .exit)) (now (done .exit))) ⌝ }
 {
     for k in 0..count {
@@ -301,7 +301,7 @@ fn want_ends(
     b: usize,
     done: &mut Flags,
 )
-    requires { ⌜ HopsRise (now h) × ((j : ℕ) → j < count → HopStands (now h) (leapTo b (endNumber b (now landings) (first + j)))) × HopsJoin (now h) (heldIn (now g) .graph) × (first < 65536) × (count < 65536) × (b < 65536) × (first + count ≤ length (now landings)) ⌝ }
+    requires { ⌜ HopsRise (now h) × ((j : ℕ) → j < count → HopStands (now h) (leapTo b (endNumber b (now landings) (first + j)))) × HopsJoin (now h) (heldIn (now g) .graph) × (b < 65536) × (first + count ≤ length (now landings)) ⌝ }
     ensures { λ _. ⌜ AllWanted (now (h .entry)) (now (g .entry)) (now (done .entry)) (λ m ends. map (wayOf r) (endExits m b ends (now (landings .entry)) first count)) (now (g .exit)) (now (done .exit)) ⌝ }
 {
     for k in 0..count {

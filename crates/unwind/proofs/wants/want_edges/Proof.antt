@@ -30,7 +30,7 @@ loop-holds c = let a = c .before .before .args in (omega arith, c .before .befor
 number-in-requires : tie.Need-number-in-requires Inv-loop μ-loop
 number-in-requires c κs =
     let start = c .before .before .before .before .before in
-    omega (arith, start .pre .6 (c .before .before .loop .k) (c .before .loop-test .taken), ap (λ (e : Branch). e .what) (c .branch-in .ensures .is))
+    omega (arith, start .pre .4 (c .before .before .loop .k) (c .before .loop-test .taken), ap (λ (e : Branch). e .what) (c .branch-in .ensures .is))
 
 want-requires : tie.Need-want-requires Inv-loop μ-loop
 want-requires c κs =

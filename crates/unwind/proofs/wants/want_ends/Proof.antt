@@ -26,7 +26,7 @@ unfolding endExits table
 loop-holds c = let a = c .before .args in (omega arith, c .before .pre .2, λ m ends. wants-none (a .h .now) (a .g .now) (a .done .now))
 
 end-number-requires : tie.Need-end-number-requires Inv-loop μ-loop
-end-number-requires c κs = let start = c .before .before .before in (start .pre .5, omega (arith, start .pre .6, c .loop-test .taken))
+end-number-requires c κs = let start = c .before .before .before in (start .pre .3, omega (arith, start .pre .4, c .loop-test .taken))
 
 want-requires : tie.Need-want-requires Inv-loop μ-loop
 want-requires c κs =

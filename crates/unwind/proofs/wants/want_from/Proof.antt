@@ -12,8 +12,6 @@ want-edges-requires c κs =
       pre .0 .2 .rises,
       edges-stand (pre .0 .0) (a .nodes .now) (a .edges .now) (pre .0 .1) (a .heads .now) (a .landings .now) (a .r) (a .b) (node .result) _ (node .ensures .is) (pre .0 .2),
       pre .1,
-      node .ensures .small .first-edge,
-      node .ensures .small .edges,
       rw (node .ensures .is) (pre .3 .edges-in),
       rw (node .ensures .is) (pre .3 .heads-in),
     )
@@ -28,8 +26,6 @@ want-ends-requires c κs =
       pre .0 .2 .rises,
       ends-stand m (a .nodes .now) (a .edges .now) ends (a .heads .now) (a .landings .now) (a .r) (a .b) (node .result) _ (node .ensures .is) (pre .0 .2),
       hops-join (c .before .before .want-edges .ensures m .runs) (pre .1),
-      node .ensures .small .first-end,
-      node .ensures .small .ends,
       pre .2,
       rw (node .ensures .is) (pre .3 .lands-in),
     )
