@@ -48,7 +48,7 @@ fn gather_edges(
     exits: &mut [u16],
     held: usize,
 ) -> usize
-    requires { ⌜ Ordered (routesIn (now s) y) (now exits) held × (first < 65536) × (3 * (held + count) ≤ length (now exits)) × RoutesThere (now s) y × (3 * (first + count) ≤ length (now edges)) × ((k : ℕ) → k < count → branchIn (now edges) (first + k) .what < length (now heads)) ⌝ }
+    requires { ⌜ Ordered (routesIn (now s) y) (now exits) held × (3 * (held + count) ≤ length (now exits)) × RoutesThere (now s) y × (3 * (first + count) ≤ length (now edges)) × ((k : ℕ) → k < count → branchIn (now edges) (first + k) .what < length (now heads)) ⌝ }
     ensures { λ r. ⌜ GathersEdges (routesIn (now (s .entry)) y) (now (exits .entry)) held (now (edges .entry)) (now (heads .entry)) first count (now (exits .exit)) r ⌝ }
 {
     let mut n = held;
@@ -72,7 +72,7 @@ fn gather_ends(
     exits: &mut [u16],
     held: usize,
 ) -> usize
-    requires { ⌜ Ordered (routesIn (now s) y) (now exits) held × (first < 65536) × (b < 65536) × (3 * (held + count) ≤ length (now exits)) × RoutesThere (now s) y × (3 * (first + count) ≤ length (now ends)) × (first + count ≤ length (now landings)) ⌝ }
+    requires { ⌜ Ordered (routesIn (now s) y) (now exits) held × (b < 65536) × (3 * (held + count) ≤ length (now exits)) × RoutesThere (now s) y × (3 * (first + count) ≤ length (now ends)) × (first + count ≤ length (now landings)) ⌝ }
     ensures { λ r. ⌜ Gathers (routesIn (now (s .entry)) y) b (now (exits .entry)) held (endExits (routesIn (now (s .entry)) y) b (now (ends .entry)) (now (landings .entry)) first count) (now (exits .exit)) r ⌝ }
 {
     let mut n = held;

@@ -31,7 +31,7 @@ number-in-requires c κs =
     let start = c .before .before .before .before .before .before .before in
     let top = c .before .before .loop in
     let test = c .before .loop-test .taken in
-    omega (arith, start .pre .5 (top .k) test, ap (λ (e : Branch). e .what) (c .branch-in .ensures .is))
+    omega (arith, start .pre .4 (top .k) test, ap (λ (e : Branch). e .what) (c .branch-in .ensures .is))
 
 entry-to-requires : tie.Need-entry-to-requires Inv-loop μ-loop
 entry-to-requires c κs = (c .before .before .branch-in .ensures .small, c .before .number-in .ensures .1)
@@ -41,7 +41,7 @@ put-entry-requires c κs =
     let start = c .before .before .before .before .before .before .before .before .before .before in
     let top = c .before .before .before .before .before .loop in
     let all = top .inv .2 0 in
-    (all .ordered, c .entry-to .ensures .small, omega (arith, top .inv .1, start .pre .2, all .long), search needs)
+    (all .ordered, c .entry-to .ensures .small, omega (arith, top .inv .1, start .pre .1, all .long), search needs)
 
 loop-again : tie.Need-loop-again Inv-loop μ-loop
 unfolding edgeExits

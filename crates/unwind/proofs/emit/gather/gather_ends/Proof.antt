@@ -28,7 +28,7 @@ loop-holds c =
 end-number-requires : tie.Need-end-number-requires Inv-loop μ-loop
 end-number-requires c κs =
     let start = c .before .before .before .before .before .before .before in
-    (start .pre .2, omega (arith, start .pre .6, c .before .loop-test .taken))
+    (start .pre .1, omega (arith, start .pre .5, c .before .loop-test .taken))
 
 entry-to-requires : tie.Need-entry-to-requires Inv-loop μ-loop
 entry-to-requires c κs = (c .before .before .branch-in .ensures .small, c .before .end-number .ensures .1)
@@ -38,7 +38,7 @@ put-entry-requires c κs =
     let start = c .before .before .before .before .before .before .before .before .before .before in
     let top = c .before .before .before .before .before .loop in
     let all = top .inv .2 in
-    (all .ordered, c .entry-to .ensures .small, omega (arith, top .inv .1, start .pre .3, all .long), search needs)
+    (all .ordered, c .entry-to .ensures .small, omega (arith, top .inv .1, start .pre .2, all .long), search needs)
 
 loop-again : tie.Need-loop-again Inv-loop μ-loop
 unfolding endExits

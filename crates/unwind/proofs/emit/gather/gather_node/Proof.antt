@@ -14,7 +14,7 @@ gather-edges-requires : tie.Need-gather-edges-requires
 gather-edges-requires c κs =
     let start = c .before .before .before .before .before .before .before .before .before in
     let node = c .before .node-in .ensures in
-    (start .pre .0, node .small .first-edge, omega (arith, start .pre .2, ap (λ (x : NodeRecord). x .edges) (node .is)), search needs, rw (node .is) (start .pre .5 .edges-in), rw (node .is) (start .pre .5 .heads-in))
+    (start .pre .0, omega (arith, start .pre .2, ap (λ (x : NodeRecord). x .edges) (node .is)), search needs, rw (node .is) (start .pre .5 .edges-in), rw (node .is) (start .pre .5 .heads-in))
 
 gather-ends-requires : tie.Need-gather-ends-requires
 unfolding edgeExits
@@ -23,7 +23,7 @@ gather-ends-requires c κs =
     let node = c .before .before .before .before .before .node-in in
     let made = c .before .before .before .gather-edges .ensures .gathers 0 in
     let most = rw (length-table _ (node .result .edges)) at (made .most) in
-    (made .ordered, node .ensures .small .first-end, start .pre .1, omega (arith, start .pre .2, most, made .long, ap (λ (x : NodeRecord). x .edges) (node .ensures .is), ap (λ (x : NodeRecord). x .ends) (node .ensures .is)), search needs, rw (node .ensures .is) (start .pre .4 .ends-in), rw (node .ensures .is) (start .pre .5 .lands-in))
+    (made .ordered, start .pre .1, omega (arith, start .pre .2, most, made .long, ap (λ (x : NodeRecord). x .edges) (node .ensures .is), ap (λ (x : NodeRecord). x .ends) (node .ensures .is)), search needs, rw (node .ensures .is) (start .pre .4 .ends-in), rw (node .ensures .is) (start .pre .5 .lands-in))
 
 same-length : tie.Need-same-length
 same-length c = c .before .before .gather-ends .ensures .long ∙ c .before .before .before .before .before .before .gather-edges .ensures .gathers 0 .long
