@@ -83,7 +83,7 @@ fn count_node(
     blocks: usize,
     exits: &mut [u16],
 ) -> Sizes
-    requires { ⌜ NodeFits (now edges) (now ends) (recordIn (now nodes) i) × (i < 65536) × (getD (now bases) i 0 ≤ 1024) × (blocks ≤ 1024) × Roomy (now edges) (now ends) (now exits) × NodeSets (now parts) (returnsIn (now parts) (now returners)) blocks i × RoutesThere (now s) y × NodeThere (now nodes) (now edges) (now heads) (now landings) i × (i < length (now bases)) ⌝ }
+    requires { ⌜ NodeFits (now edges) (now ends) (recordIn (now nodes) i) × (getD (now bases) i 0 ≤ 1024) × (blocks ≤ 1024) × Roomy (now edges) (now ends) (now exits) × NodeSets (now parts) (returnsIn (now parts) (now returners)) blocks i × RoutesThere (now s) y × NodeThere (now nodes) (now edges) (now heads) (now landings) i × (i < length (now bases)) ⌝ }
     ensures { λ r. ⌜ SumSize (nodeHops (routesIn (now (s .entry)) y) (now (nodes .entry)) (now (edges .entry)) (now (ends .entry)) (now (heads .entry)) (now (landings .entry)) (now (bases .entry)) (now (parts .entry)) (returnsIn (now (parts .entry)) (now (returners .entry))) blocks i) (now (exits .entry)) (now (exits .exit)) r ⌝ }
 {
     let base = number_in(bases, i);
@@ -127,7 +127,7 @@ fn count_copies(
     blocks: usize,
     exits: &mut [u16],
 ) -> Sizes
-    requires { ⌜ NodeFits (now edges) (now ends) (recordIn (now nodes) i) × (i < 65536) × (base ≤ 1024) × (blocks ≤ 1024) × Roomy (now edges) (now ends) (now exits) × NodeSets (now parts) (returnsIn (now parts) (now returners)) blocks i × RoutesThere (now s) y × NodeThere (now nodes) (now edges) (now heads) (now landings) i ⌝ }
+    requires { ⌜ NodeFits (now edges) (now ends) (recordIn (now nodes) i) × (base ≤ 1024) × (blocks ≤ 1024) × Roomy (now edges) (now ends) (now exits) × NodeSets (now parts) (returnsIn (now parts) (now returners)) blocks i × RoutesThere (now s) y × NodeThere (now nodes) (now edges) (now heads) (now landings) i ⌝ }
     ensures { λ r. ⌜ SumSize (flat (copyHops (routesIn (now (s .entry)) y) (now (nodes .entry)) (now (edges .entry)) (now (ends .entry)) (now (heads .entry)) (now (landings .entry)) (now (parts .entry)) (returnsIn (now (parts .entry)) (now (returners .entry))) i base) blocks) (now (exits .entry)) (now (exits .exit)) r ⌝ }
 {
     let part = set_at(parts, i);

@@ -40,7 +40,6 @@ add-nodes-requires c κs =
     let room = start .pre .5 in
     let stood = c .before .before .before .before .before .before .add-blocks .ensures in (
       stored-fits (a .nodes .now) (a .edges .now) (a .ends .now) (a .stored) (t .stored),
-      omega (arith, t .nodes-most),
       all-rise (heldIn (a .g .now) .graph) m (a .nodes .now) (a .edges .now) (a .ends .now) (a .roots .now) (a .heads .now) (a .landings .now) (a .guards .now) (a .bases .now) (a .parts .now) (returnsIn (a .parts .now) (a .returners .now)) (a .stored) (start .pre .0) (start .pre .1) (start .pre .2) (start .pre .3) (start .pre .4) (c .before .before .before .before .before .before .before .before .before .before .before .before .block-count .result) (c .before .before .before .before .before .before .before .before .before .before .before .before .block-count .ensures),
       omega (arith, c .before .before .before .before .before .before .before .before .before .before .before .before .block-count .ensures, start .pre .4 .few),
       record { edges-few = room .edges-few; ends-few = room .ends-few; room = omega (arith, room .room, stood .1) },

@@ -15,21 +15,20 @@ add-copies-requires c κs =
     let start = c .before .before .before .before .before .before .before .before .before .before .before .before .before in
     let a = start .args in
     let m = routesIn (a .s .now) (a .y) in
-    let rises = start .pre .2 in
+    let rises = start .pre .1 in
     let first = c .before .before .before .number-in .result in
     let is = c .before .before .before .number-in .ensures .0 in
     let copies = c .before .before .if1 .taken in (
       start .pre .0,
-      start .pre .1,
       omega (arith, is, rises .few),
+      start .pre .2,
       start .pre .3,
-      start .pre .4,
       rises .within,
-      held-up first (start .pre .5) (omega (arith, is, rises .rises (λ e. copies (is ∙ e)))),
-      node-fit m (a .nodes .now) (a .edges .now) (a .ends .now) (a .heads .now) (a .landings .now) (a .bases .now) (a .parts .now) (returnsIn (a .parts .now) (a .returners .now)) (a .blocks) (a .i) first is copies (hopsIn m (a .h .now)) (start .pre .6),
-      start .pre .7,
+      held-up first (start .pre .4) (omega (arith, is, rises .rises (λ e. copies (is ∙ e)))),
+      node-fit m (a .nodes .now) (a .edges .now) (a .ends .now) (a .heads .now) (a .landings .now) (a .bases .now) (a .parts .now) (returnsIn (a .parts .now) (a .returners .now)) (a .blocks) (a .i) first is copies (hopsIn m (a .h .now)) (start .pre .5),
+      start .pre .6,
       search needs,
-      start .pre .9,
+      start .pre .8,
     )
 
 returns : tie.Need-returns
@@ -45,7 +44,7 @@ returns-2 c =
     let start = c .before .before .before .before .before .before .before .before .before .before .before in
     let a = start .args in
     let m = routesIn (a .s .now) (a .y) in
-    (node-skipped m (a .nodes .now) (a .edges .now) (a .ends .now) (a .heads .now) (a .landings .now) (a .bases .now) (a .parts .now) (returnsIn (a .parts .now) (a .returners .now)) (a .blocks) (a .i) (hopsIn m (a .h .now)) (sym (c .before .number-in .ensures .0) ∙ c .if1 .left) (start .pre .5), refl)
+    (node-skipped m (a .nodes .now) (a .edges .now) (a .ends .now) (a .heads .now) (a .landings .now) (a .bases .now) (a .parts .now) (returnsIn (a .parts .now) (a .returners .now)) (a .blocks) (a .i) (hopsIn m (a .h .now)) (sym (c .before .number-in .ensures .0) ∙ c .if1 .left) (start .pre .4), refl)
 
 pub add-node-spec : {M : Type 1} → statement M
 add-node-spec = tie.close (tie.spec (λ c κs. search needs) add-copies-requires (λ c. search needs) returns returns-2)

@@ -29,7 +29,7 @@ loop-holds c =
     let start = c .before .before .before .before .before .before .before .before .before in
     let a = start .args in
     let m = routesIn (a .s .now) (a .y) in
-    (omega arith, refl, nodes-start m (a .bases .now) (a .parts .now) (a .blocks) (nodeHops m (a .nodes .now) (a .edges .now) (a .ends .now) (a .heads .now) (a .landings .now) (a .bases .now) (a .parts .now) (returnsIn (a .parts .now) (a .returners .now)) (a .blocks)) (a .h .now) (start .pre .5))
+    (omega arith, refl, nodes-start m (a .bases .now) (a .parts .now) (a .blocks) (nodeHops m (a .nodes .now) (a .edges .now) (a .ends .now) (a .heads .now) (a .landings .now) (a .bases .now) (a .parts .now) (returnsIn (a .parts .now) (a .returners .now)) (a .blocks)) (a .h .now) (start .pre .4))
 
 add-node-requires : tie.Need-add-node-requires Inv-loop μ-loop
 add-node-requires c κs =
@@ -38,19 +38,18 @@ add-node-requires c κs =
     let m = routesIn (a .s .now) (a .y) in
     let top = c .before .before .before .loop in
     let test = c .before .before .loop-test .taken in
-    let room = start .pre .4 in
-    let fit = fit-step (hopsIn m (a .h .now)) (nodeHops m (a .nodes .now) (a .edges .now) (a .ends .now) (a .heads .now) (a .landings .now) (a .bases .now) (a .parts .now) (returnsIn (a .parts .now) (a .returners .now)) (a .blocks)) (top .i) (a .count) test (start .pre .6) in (
+    let room = start .pre .3 in
+    let fit = fit-step (hopsIn m (a .h .now)) (nodeHops m (a .nodes .now) (a .edges .now) (a .ends .now) (a .heads .now) (a .landings .now) (a .bases .now) (a .parts .now) (returnsIn (a .parts .now) (a .returners .now)) (a .blocks)) (top .i) (a .count) test (start .pre .5) in (
       start .pre .0 .fits (top .i) test,
-      omega (arith, start .pre .1, test),
-      start .pre .2 .each (top .i) test,
-      start .pre .3,
+      start .pre .1 .each (top .i) test,
+      start .pre .2,
       record { edges-few = room .edges-few; ends-few = room .ends-few; room = omega (arith, room .room, top .inv .1) },
       held-below (top .inv .2),
       subst (λ (t : List Hop). HopsFit (t ++ nodeHops m (a .nodes .now) (a .edges .now) (a .ends .now) (a .heads .now) (a .landings .now) (a .bases .now) (a .parts .now) (returnsIn (a .parts .now) (a .returners .now)) (a .blocks) (top .i))) (sym (top .inv .2 .holds)) fit,
-      start .pre .7 .each (top .i) test,
+      start .pre .6 .each (top .i) test,
       search needs,
-      start .pre .9 .there (top .i) test,
-      omega (arith, start .pre .10, test),
+      start .pre .8 .there (top .i) test,
+      omega (arith, start .pre .9, test),
     )
 
 loop-again : tie.Need-loop-again Inv-loop μ-loop

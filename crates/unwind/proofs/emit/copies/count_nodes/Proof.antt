@@ -27,7 +27,7 @@ count-node-requires c κs =
     let top = c .before .before .loop in
     let room = start .pre .4 in
     let test = c .before .loop-test .taken in
-    (start .pre .0 .fits (top .i) test, omega (arith, start .pre .1), start .pre .2 .few (top .i) test, start .pre .3, record { edges-few = room .edges-few; ends-few = room .ends-few; room = omega (arith, room .room, top .inv .1) }, start .pre .5 .each (top .i) test, search needs, start .pre .7 .there (top .i) test, omega (arith, start .pre .8, test))
+    (start .pre .0 .fits (top .i) test, start .pre .2 .few (top .i) test, start .pre .3, record { edges-few = room .edges-few; ends-few = room .ends-few; room = omega (arith, room .room, top .inv .1) }, start .pre .5 .each (top .i) test, search needs, start .pre .7 .there (top .i) test, omega (arith, start .pre .8, test))
 
 sizes-both-requires : tie.Need-sizes-both-requires Inv-loop μ-loop
 sizes-both-requires c κs =
