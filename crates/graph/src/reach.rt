@@ -125,7 +125,7 @@ fn follow(
 }
 
 // A block that an edge leads to: it is pending unless it was seen before.
-pub fn see(seen: &mut [u64; 16], pending: &mut [u64; 16], t: usize)
+fn see(seen: &mut [u64; 16], pending: &mut [u64; 16], t: usize)
     ensures { λ _. ⌜ (now (seen .exit) ≡ seeing (now (seen .entry)) t (now (seen .entry))) × (now (pending .exit) ≡ seeing (now (seen .entry)) t (now (pending .entry))) ⌝ }
 {
     if has_in(seen, t) {
