@@ -1,5 +1,6 @@
 -- What tells early that runs of steps are the same, or that nodes are not.
 --     same-self             a run is the same as itself
+--     counts-same           two counts that were compared are equal
 --     counts-differ         nodes with other counts of edges or ends are not equal
 --     values-differ         nor are nodes whose funclets have other numbers
 -- Assumes nothing.
@@ -9,19 +10,17 @@ use mathlib.Core.List.{List, map}
 use mathlib.Core.Option.{Option, none, some}
 use Prim.Native.Nat.{ℕ, zero, suc, compare}
 use native.Mathlib.Decide.{ℕ-discrete}
-use borrow.Author.Tests.{eq-eqb, ne-eqb}
+use borrow.Author.Tests.{eq-eqb, eqb-true, ne-eqb}
 use lib.Dec.{eqb}
-use lib.ListN.{length, length-map}
 use Rattle.image.specs.Image.{RouteImage}
 use Rattle.image.specs.Deal.{UnwindStep, funclet, call, stepOf}
 use Rattle.unwind.specs.declared.tries.store.NodeRecord.{NodeRecord}
-use Rattle.unwind.specs.declared.tries.store.Branch.{Branch}
 use Rattle.addition.specs.Order.{compareTagged, compareEnds, same}
 use Rattle.addition.specs.Trie.{sameFunclet, sameNode}
 use Rattle.unwind.specs.Nodes.{stepIn, branches, funcletIn, valueOf, edgeOf, endAt, nodeIn}
 use Rattle.unwind.specs.Interning.{sameStep, sameSteps}
-use Rattle.addition.proofs.Lists.{and-true}
-use Rattle.unwind.proofs.TrieRuns.{length-branches}
+use Rattle.addition.proofs.Lists.{and-both, and-true}
+use Rattle.unwind.proofs.TrieRuns.{length-meant}
 use Rattle.unwind.proofs.TrieNodes.{same-size}
 
 -- ---- runs of steps
@@ -44,8 +43,8 @@ other-funclet none (some b) ne = refl
 other-funclet (some a) none ne = refl
 other-funclet (some a) (some b) ne = ne-eqb a b (λ e. ne (sym e))
 
-size : {A : Type 0} (f : Branch → A) (l : List ℕ) (a n : ℕ) → length (map f (branches l a n)) ≡ n
-size f l a n = length-map (branches l a n) f ∙ length-branches l a n
+pub counts-same : {a b c d : ℕ} → (eqb a b && eqb c d) ≡ true → (b ≡ a) × (d ≡ c)
+counts-same e = let p = and-both _ _ e in (sym (eqb-true _ _ (p .0)), sym (eqb-true _ _ (p .1)))
 
 module _ (m : RouteImage) (edges ends : List ℕ) (x z : NodeRecord) where
   abbrev funclets : Bool
@@ -60,13 +59,13 @@ module _ (m : RouteImage) (edges ends : List ℕ) (x z : NodeRecord) where
   edges-differ : (z .edges ≡ x .edges → ⊥) → sameNode (nodeIn m edges ends x) (nodeIn m edges ends z) ≡ false
   unfolding sameNode nodeIn
   edges-differ ne =
-      ap (λ (b : Bool). (funclets && b) && ends-same) (same-size (compareTagged compare) _ _ (λ e. ne (sym (sym (size (edgeOf m) edges (x .«first_edge») (x .edges)) ∙ e ∙ size (edgeOf m) edges (z .«first_edge») (z .edges)))))
+      ap (λ (b : Bool). (funclets && b) && ends-same) (same-size (compareTagged compare) _ _ (λ e. ne (sym (sym (length-meant (edgeOf m) edges (x .«first_edge») (x .edges)) ∙ e ∙ length-meant (edgeOf m) edges (z .«first_edge») (z .edges)))))
       ∙ ap (λ (b : Bool). b && ends-same) (and-false funclets)
 
   ends-differ : (z .ends ≡ x .ends → ⊥) → sameNode (nodeIn m edges ends x) (nodeIn m edges ends z) ≡ false
   unfolding sameNode nodeIn
   ends-differ ne =
-      ap (λ (b : Bool). (funclets && edges-same) && b) (same-size (compareTagged compareEnds) _ _ (λ e. ne (sym (sym (size (endAt m) ends (x .«first_end») (x .ends)) ∙ e ∙ size (endAt m) ends (z .«first_end») (z .ends)))))
+      ap (λ (b : Bool). (funclets && edges-same) && b) (same-size (compareTagged compareEnds) _ _ (λ e. ne (sym (sym (length-meant (endAt m) ends (x .«first_end») (x .ends)) ∙ e ∙ length-meant (endAt m) ends (z .«first_end») (z .ends)))))
       ∙ and-false (funclets && edges-same)
 
   pub counts-differ : (eqb (z .edges) (x .edges) && eqb (z .ends) (x .ends)) ≡ false → sameNode (nodeIn m edges ends x) (nodeIn m edges ends z) ≡ false

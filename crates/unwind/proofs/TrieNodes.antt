@@ -1,5 +1,6 @@
 -- Nodes by what they are, and a node stored unless it stands already.
---     Alike, same-on, same-other, same-end, same-size     two lists compared from place i on
+--     Alike, alike-start, alike-on, alike-other, alike-end     two runs of branches compared from place i on
+--     same-size                                           lists of other lengths are not the same
 --     funclet-root, funclet-other, funclet-both           two funclets compared
 --     value-root, value-other                             the number that names one
 --     place-first, place-lt                               the first of a list that equals a node; it stands there
@@ -11,7 +12,7 @@ use mathlib.Core.Path.{_≡_, refl, sym, ap, ap₂, _∙_}
 use mathlib.Core.Bool.{Bool, true, false, cond, _&&_, and-false}
 use mathlib.Core.List.{List, [], _∷_, _++_, map}
 use mathlib.Core.Option.{Option, none, some, Option·map, Option·none-ne-some}
-use Prim.Native.Nat.{ℕ, zero, suc, _+_, _-_, _<_, Ordering, Ordering·eq}
+use Prim.Native.Nat.{ℕ, zero, suc, _+_, _-_, _≤_, _<_, Ordering}
 use native.Mathlib.Numerals.{add-one}
 use native.Mathlib.Decide.{decLt}
 use native.Mathlib.Omega.{arith}
@@ -22,34 +23,60 @@ use lib.Seq.{drop-cons}
 use Rattle.image.specs.Image.{RouteImage, table}
 use Rattle.graph.specs.Fold.{sum}
 use Rattle.graph.proofs.FoldLaws.{length-table, getD-table, table-same}
+use Rattle.unwind.specs.declared.tries.compare.Kind.{Kind}
+use Rattle.unwind.specs.declared.tries.store.Branch.{Branch}
 use Rattle.unwind.specs.declared.tries.store.NodeRecord.{NodeRecord}
 use Rattle.unwind.specs.declared.tries.store.Counts.{Counts}
 use Rattle.addition.specs.Order.{same}
 use Rattle.addition.specs.Trie.{Node, sameFunclet, sameNode, placeOf, created, create, nodeAt}
-use Rattle.unwind.specs.Nodes.{stepIn, funcletIn, valueOf, recordIn, waysOf, branchIn, edgeOf, endAt, nodeIn, nodesIn, Stored, NodeFits, AllFit, NodePut}
+use Rattle.unwind.specs.Nodes.{stepIn, funcletIn, valueOf, recordIn, waysOf, branchIn, branches, edgeOf, endAt, nodeIn, nodesIn, Stored, NodeFits, AllFit, BranchRead, NodePut}
+use Rattle.unwind.specs.Interning.{Meant, ordered, meaning}
 use Rattle.unwind.specs.Kept.{Behind, Kept}
-use Rattle.unwind.proofs.TrieRuns.{branches-same}
+use Rattle.unwind.proofs.TrieRuns.{branches-same, length-meant, meant-of}
 
--- ---- two lists compared from place i on
+-- ---- two runs of n branches compared
 
-module _ {A : Type 0} (c : A → A → Ordering) (l k : List A) where
-  abbrev pub Alike : ℕ → Type 0
-  Alike i = same c l k ≡ same c (drop i l) (drop i k)
+module _ (m : RouteImage) (kind : Kind) (l : List ℕ) where
+  -- what the n branches from a on stand for, from place i on
+  abbrev meantFrom : ℕ → ℕ → ℕ → List (Meant kind)
+  meantFrom a n i = drop i (map (meaning m kind) (branches l a n))
 
-  module _ (i : ℕ) (d : A) (h : i < length l) (j : i < length k) (so-far : Alike i) where
-    next : same c l k ≡ (isEq (c (getD l i d) (getD k i d)) && same c (drop (suc i) l) (drop (suc i) k))
+  meant-next : (a n i : ℕ) → i < n → meantFrom a n i ≡ meaning m kind (branchIn l (a + i)) ∷ meantFrom a n (suc i)
+  meant-next a n i h =
+      let d = meaning m kind (branchIn l 0) in
+      drop-cons (meantFrom a n 0) i d (rw (length-meant (meaning m kind) l a n) h)
+      ∙ ap (λ (x : Meant kind). x ∷ meantFrom a n (suc i)) (meant-of (meaning m kind) l a n i d h)
+
+  meant-end : (a n i : ℕ) → n ≤ i → meantFrom a n i ≡ []
+  meant-end a n i h = drop-of-length-le (meantFrom a n 0) {i = i} (rw (length-meant (meaning m kind) l a n) h)
+
+  -- the n from a on are the n from b on, from place i on
+  abbrev sameFrom : ℕ → ℕ → ℕ → ℕ → Bool
+  sameFrom a b n i = same (ordered kind) (meantFrom a n i) (meantFrom b n i)
+
+  -- those before place i are the same, so that the others decide
+  pub record Alike (a b n i : ℕ) : Type 0 where
+    pub left : sameFrom a b n 0 ≡ sameFrom a b n i
+
+module _ {m : RouteImage} {kind : Kind} {l : List ℕ} {a b n : ℕ} where
+  pub alike-start : Alike m kind l a b n 0
+  alike-start = record { left = refl }
+
+  module _ {i : ℕ} (so-far : Alike m kind l a b n i) where
+    module _ (h : i < n) {x z : Branch} (at-a : BranchRead l (a + i) x) (at-b : BranchRead l (b + i) z) {r : Bool} (told : r ≡ isEq (ordered kind (meaning m kind x) (meaning m kind z))) where
+      next : sameFrom m kind l a b n 0 ≡ (r && sameFrom m kind l a b n (suc i))
+      unfolding same
+      next = so-far .left ∙ rw (meant-next m kind l a n i h, meant-next m kind l b n i h, told, at-a .is, at-b .is)
+
+      pub alike-on : r ≡ true → Alike m kind l a b n (i + 1)
+      alike-on e = record { left = next ∙ rw (e, add-one i) }
+
+      pub alike-other : r ≡ false → false ≡ sameFrom m kind l a b n 0
+      alike-other e = sym (next ∙ rw e)
+
+    pub alike-end : n ≤ i → true ≡ sameFrom m kind l a b n 0
     unfolding same
-    next = so-far ∙ rw (drop-cons l i d h, drop-cons k i d j)
-
-    pub same-on : c (getD l i d) (getD k i d) ≡ Ordering·eq → Alike (i + 1)
-    same-on e = next ∙ rw (e, add-one i)
-
-    pub same-other : isEq (c (getD l i d) (getD k i d)) ≡ false → same c l k ≡ false
-    same-other e = next ∙ rw e
-
-  pub same-end : (i : ℕ) → i ≡ length l → i ≡ length k → Alike i → same c l k ≡ true
-  unfolding same
-  same-end i e f so-far = so-far ∙ rw (drop-of-length-le l {i = i} (omega arith), drop-of-length-le k {i = i} (omega arith))
+    alike-end h = sym (so-far .left ∙ rw (meant-end m kind l a n i h, meant-end m kind l b n i h))
 
 pub same-size : {A : Type 0} (c : A → A → Ordering) (l k : List A) → (length l ≡ length k → ⊥) → same c l k ≡ false
 unfolding same

@@ -1,6 +1,6 @@
 -- Sorted runs of branches.
 --     length-branches, branches-more, branch-of, branches-front, branches-same     the branches of a run
---     meant-of, map-inserted           what the branches stand for, with one more among them
+--     length-meant, meant-of, map-inserted     what the branches stand for, with one more among them
 --     Beyond, spot-start, spot-on, spot-less, spot-equal, spot-end         where one goes, from place j on
 --     Moved, insert-start, insert-on, insert-end                   one more among them, each behind it moved up after the other
 --     run-present, run-inserted        a branch is put: it stands there, or goes to its place
@@ -10,7 +10,7 @@ use mathlib.Core.List.{List, [], _∷_, _++_, map, map-append}
 use Prim.Native.Nat.{ℕ, zero, suc, _+_, _<_, _≤_, Ordering, Ordering·lt, Ordering·eq, Ordering·gt}
 use native.Mathlib.Numerals.{add-one}
 use native.Mathlib.Omega.{arith}
-use lib.ListN.{length, getD, take, drop, take-append-drop, drop-of-length-le}
+use lib.ListN.{length, getD, take, drop, length-map, take-append-drop, drop-of-length-le}
 use lib.Seq.{take-suc, drop-cons, append-snoc}
 use Rattle.image.specs.Image.{table}
 use Rattle.graph.proofs.FoldLaws.{length-table, getD-table, table-same}
@@ -63,6 +63,9 @@ map-drop f (suc n) (x ∷ l) = map-drop f n l
 
 pub map-inserted : {A B : Type 0} (f : A → B) (j : ℕ) (x : A) (l : List A) → map f (inserted j x l) ≡ inserted j (f x) (map f l)
 map-inserted f j x l = map-append f (take j l) (x ∷ drop j l) ∙ rw (map-take f j l, map-drop f j l)
+
+pub length-meant : {A : Type 0} (of : Branch → A) (l : List ℕ) (a n : ℕ) → length (map of (branches l a n)) ≡ n
+length-meant of l a n = length-map (branches l a n) of ∙ length-branches l a n
 
 pub meant-of : {A : Type 0} (of : Branch → A) (l : List ℕ) (a n k : ℕ) (d : A) → k < n → getD (map of (branches l a n)) k d ≡ of (branchIn l (a + k))
 meant-of of l a n k d h =

@@ -3,6 +3,7 @@ use crate::routes::step_of;
 use crate::tries::compare::Kind;
 use crate::tries::compare::Order;
 use crate::tries::compare::compare_branches;
+use crate::tries::store::Branch;
 use crate::tries::store::Counts;
 use crate::tries::store::NodeRecord;
 use crate::tries::store::branch_in;
@@ -16,14 +17,15 @@ ghost use mathlib.Core.Path.{_≡_};
 ghost use mathlib.Core.Bool.{_&&_};
 ghost use mathlib.Core.List.{map};
 ghost use Prim.Native.Nat.{_+_, _*_, _≤_};
-ghost use lib.Dec.{eqb};
+ghost use lib.Dec.{eqb, isEq};
 ghost use lib.ListN.{length};
 ghost use Rattle.image.specs.Image.{routesIn};
 ghost use Rattle.image.specs.Accepted.{AcceptedRoutes};
 ghost use Rattle.image.specs.There.{RoutesThere};
 ghost use Rattle.addition.specs.Order.{same};
 ghost use Rattle.addition.specs.Trie.{sameFunclet, sameNode, placeOf};
-ghost use Rattle.unwind.specs.Nodes.{recordIn, branches, funcletIn, valueOf, nodeIn, nodesIn, Stored, NodeFits, AllFit};
+ghost use Rattle.unwind.specs.declared.tries.compare.Kind.the-variants.{Edges, Ends};
+ghost use Rattle.unwind.specs.Nodes.{recordIn, branches, funcletIn, valueOf, nodeIn, nodesIn, Stored, NodeFits, AllFit, BranchSmall};
 ghost use Rattle.unwind.specs.Interning.{ordered, meaning};
 ghost use Rattle.unwind.specs.Kept.{placeIn, Behind, Kept};
 ghost use Rattle.unwind.specs.Lower.{Lower, BehindChildren};
@@ -171,7 +173,7 @@ fn mark_of(value: u64) -> usize
     (value % 1021) as usize
 }
 
-// Equal nodes: all but the route.
+// Equal nodes with as many edges and ends: all but the route.
 fn same_node(
     s: &[u8],
     y: RouteLayout,
@@ -180,30 +182,12 @@ fn same_node(
     a: NodeRecord,
     b: NodeRecord,
 ) -> bool
-    requires { ⌜ AcceptedRoutes (routesIn (now s) y) × RoutesThere (now s) y × NodeFits (now edges) (now ends) a × NodeFits (now edges) (now ends) b ⌝ }
+    requires { ⌜ AcceptedRoutes (routesIn (now s) y) × RoutesThere (now s) y × NodeFits (now edges) (now ends) a × NodeFits (now edges) (now ends) b × (a .edges ≡ b .edges) × (a .ends ≡ b .ends) ⌝ }
     ensures { λ r. ⌜ r ≡ sameNode (nodeIn (routesIn (now (s .entry)) y) (now (edges .entry)) (now (ends .entry)) a) (nodeIn (routesIn (now (s .entry)) y) (now (edges .entry)) (now (ends .entry)) b) ⌝ }
 {
     if same_funclet(s, y, a.funclet, b.funclet) {
-        if same_runs(
-            s,
-            y,
-            Kind::Edges,
-            edges,
-            a.first_edge,
-            a.edges,
-            b.first_edge,
-            b.edges,
-        ) {
-            return same_runs(
-                s,
-                y,
-                Kind::Ends,
-                ends,
-                a.first_end,
-                a.ends,
-                b.first_end,
-                b.ends,
-            );
+        if same_edges(s, y, edges, a.first_edge, b.first_edge, a.edges) {
+            return same_ends(s, y, ends, a.first_end, b.first_end, a.ends);
         }
     }
     false
@@ -224,29 +208,52 @@ fn same_funclet(s: &[u8], y: RouteLayout, a: usize, b: usize) -> bool
     x.value == z.value
 }
 
-// Whether the n branches from a on are the k from b on.
-fn same_runs(
-    s: &[u8],
-    y: RouteLayout,
-    kind: Kind,
-    list: &[u16],
-    a: usize,
-    n: usize,
-    b: usize,
-    k: usize,
-) -> bool
-    requires { ⌜ AcceptedRoutes (routesIn (now s) y) × RoutesThere (now s) y × (3 * (a + n) ≤ length (now list)) × (3 * (b + k) ≤ length (now list)) ⌝ }
-    ensures { λ r. ⌜ r ≡ same (ordered kind) (map (meaning (routesIn (now (s .entry)) y) kind) (branches (now (list .entry)) a n)) (map (meaning (routesIn (now (s .entry)) y) kind) (branches (now (list .entry)) b k)) ⌝ }
+// Whether the n edges from a on are those from b on. Ends have a function of their own: each is then copied into its caller.
+fn same_edges(s: &[u8], y: RouteLayout, edges: &[u16], a: usize, b: usize, n: usize) -> bool
+    requires { ⌜ AcceptedRoutes (routesIn (now s) y) × RoutesThere (now s) y × (3 * (a + n) ≤ length (now edges)) × (3 * (b + n) ≤ length (now edges)) ⌝ }
+    ensures { λ r. ⌜ r ≡ same (ordered Edges) (map (meaning (routesIn (now (s .entry)) y) Edges) (branches (now (edges .entry)) a n)) (map (meaning (routesIn (now (s .entry)) y) Edges) (branches (now (edges .entry)) b n)) ⌝ }
 {
-    if n != k {
-        return false;
-    }
     for i in 0..n {
-        match compare_branches(s, y, kind, branch_in(list, a + i), branch_in(list, b + i)) {
-            Order::Less => return false,
-            Order::Greater => return false,
-            Order::Equal => {}
+        if !is_same(
+            s,
+            y,
+            Kind::Edges,
+            branch_in(edges, a + i),
+            branch_in(edges, b + i),
+        ) {
+            return false;
         }
     }
     true
+}
+
+// The same of ends.
+fn same_ends(s: &[u8], y: RouteLayout, ends: &[u16], a: usize, b: usize, n: usize) -> bool
+    requires { ⌜ AcceptedRoutes (routesIn (now s) y) × RoutesThere (now s) y × (3 * (a + n) ≤ length (now ends)) × (3 * (b + n) ≤ length (now ends)) ⌝ }
+    ensures { λ r. ⌜ r ≡ same (ordered Ends) (map (meaning (routesIn (now (s .entry)) y) Ends) (branches (now (ends .entry)) a n)) (map (meaning (routesIn (now (s .entry)) y) Ends) (branches (now (ends .entry)) b n)) ⌝ }
+{
+    for i in 0..n {
+        if !is_same(
+            s,
+            y,
+            Kind::Ends,
+            branch_in(ends, a + i),
+            branch_in(ends, b + i),
+        ) {
+            return false;
+        }
+    }
+    true
+}
+
+// Whether two branches of a kind are the same.
+fn is_same(s: &[u8], y: RouteLayout, kind: Kind, a: Branch, b: Branch) -> bool
+    requires { ⌜ AcceptedRoutes (routesIn (now s) y) × BranchSmall a × BranchSmall b × RoutesThere (now s) y ⌝ }
+    ensures { λ r. ⌜ r ≡ isEq (ordered kind (meaning (routesIn (now (s .entry)) y) kind a) (meaning (routesIn (now (s .entry)) y) kind b)) ⌝ }
+{
+    match compare_branches(s, y, kind, a, b) {
+        Order::Less => false,
+        Order::Greater => false,
+        Order::Equal => true,
+    }
 }

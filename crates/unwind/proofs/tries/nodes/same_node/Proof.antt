@@ -7,11 +7,15 @@ use Rattle.unwind.proofs.tries.nodes.same_node.Tie as tie
 
 returns : tie.Need-returns
 unfolding sameNode nodeIn
-returns c = rw (← c .before .before .before .before .same-funclet .ensures, ← c .before .before .same-runs .ensures, c .before .before .before .if1 .taken, c .before .if2 .taken) (c .same-runs2 .ensures)
+returns c =
+    let pre = c .before .before .before .before .before .before .before .before .pre in
+    rw (← pre .4, ← pre .5, ← c .before .before .before .before .same-funclet .ensures, ← c .before .before .same-edges .ensures, c .before .before .before .if1 .taken, c .before .if2 .taken) (c .same-ends .ensures)
 
 returns-2 : tie.Need-returns-2
 unfolding sameNode nodeIn
-returns-2 c = rw (← c .before .before .before .same-funclet .ensures, ← c .before .same-runs .ensures, c .before .before .if1 .taken, c .if2 .left)
+returns-2 c =
+    let pre = c .before .before .before .before .before .before .before .pre in
+    rw (← pre .4, ← c .before .before .before .same-funclet .ensures, ← c .before .same-edges .ensures, c .before .before .if1 .taken, c .if2 .left)
 
 returns-3 : tie.Need-returns-3
 unfolding sameNode nodeIn

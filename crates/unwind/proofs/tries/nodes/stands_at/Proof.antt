@@ -3,7 +3,7 @@ use mathlib.Core.Path.{sym, ap, _∙_}
 use Prim.Native.Nat.{ℕ}
 use Rattle.image.specs.Image.{routesIn}
 use Rattle.unwind.specs.Nodes.{recordIn, funcletIn, valueOf}
-use Rattle.unwind.proofs.TrieEarly.{counts-differ, values-differ}
+use Rattle.unwind.proofs.TrieEarly.{counts-same, counts-differ, values-differ}
 use borrow.Author.Needs.{needs}
 use Rattle.unwind.proofs.tries.nodes.stands_at.Statement.{statement}
 use Rattle.unwind.proofs.tries.nodes.stands_at.Tie as tie
@@ -11,7 +11,8 @@ use Rattle.unwind.proofs.tries.nodes.stands_at.Tie as tie
 same-node-requires : tie.Need-same-node-requires
 same-node-requires c κs =
     let pre = c .before .before .before .before .before .before .before .before .before .before .pre in
-    (pre .0, search needs, pre .4, rw (c .node-in .ensures .is) (pre .5))
+    let counts = counts-same (sym (c .before .before .before .before .before .counts-match .ensures) ∙ c .before .before .before .before .if1 .taken) in
+    (pre .0, search needs, pre .4, rw (c .node-in .ensures .is) (pre .5), rw (c .node-in .ensures .is) (counts .0), rw (c .node-in .ensures .is) (counts .1))
 
 returns : tie.Need-returns
 returns c = rw (← c .before .node-in .ensures .is) (c .same-node .ensures)
