@@ -61,3 +61,4 @@ pub mod FrameLaws
 pub mod MemberLaws
 pub mod ReturnLaws
 pub mod AlikeLaws
+pub mod BlockLoop

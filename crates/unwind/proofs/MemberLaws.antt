@@ -1,6 +1,6 @@
 -- Blocks gone over by the members of a set: the others give nothing.
 --     flat-quiet                   f gives nothing from k on
---     Walked, walked-start, walked-here, walked-below, walked-next     the members below k are gone over
+--     Walked, walked-start, walked-here, walked-below, walked-next, walked-less     the members below k are gone over
 --     SetCounting, counting-start, counting-few, counting-next, counting-end     the hops of members, counted
 --     SetHolding, holding-start, holding-here, holding-fit, holding-next, holding-end     and stored
 --     LowestIs, in-set             a set as it is read
@@ -34,9 +34,9 @@ use Rattle.image.specs.Deal.{routesOf}
 use Rattle.graph.specs.Graph.{Graph}
 use Rattle.graph.specs.Fold.{flat, some, count}
 use Rattle.graph.specs.Route.{routeAt}
-use Rattle.graph.specs.BlockSet.{member, none, excluding, Union}
+use Rattle.graph.specs.BlockSet.{member, none, excluding, sizeOf, Union}
 use Rattle.graph.proofs.FoldLaws.{decided, some-none, some-where, flat-none, flat-same, flat-more, count-yes, count-no}
-use Rattle.graph.proofs.BlockLaws.{member-none, member-excluding, length-excluding}
+use Rattle.graph.proofs.BlockLaws.{member-none, member-excluding, length-excluding, size-excluding}
 use Rattle.unwind.specs.declared.emit.count.Sizes.{Sizes}
 use Rattle.unwind.specs.declared.tries.store.Counts.{Counts}
 use Rattle.addition.specs.Order.{sorted}
@@ -118,6 +118,9 @@ module _ {w left : List ℕ} {blocks k : ℕ} (p : Walked w left blocks k) (o : 
         ];
         rest = λ c h. member-excluding left (p .long) o c ∙ rw (ne-eqb o c (λ e. omega arith)) (p .rest c (omega (arith, reached)));
       }
+
+  pub walked-less : sizeOf (excluding left o) < sizeOf left
+  walked-less = omega (arith, size-excluding left (p .long) o (low .0) (low .1))
 
 module _ (f : ℕ → List Hop) (w : List ℕ) (quiet : (c : ℕ) → member w c ≡ false → f c ≡ []) {left : List ℕ} {blocks k : ℕ} (p : Walked w left blocks k) where
   flat-here : (o : ℕ) → LowestIs left o → flat f o ≡ flat f k

@@ -1,175 +1,94 @@
 -- `add_blocks` meets its contract. The invariant: the hops of the blocks taken out are stored, the ways out of the last of them
 -- stand in scratch, and the nodes of its word are listed. Assumes nothing.
-use mathlib.Core.Path.{_≡_, refl, sym, _∙_}
+use mathlib.Core.Path.{sym, _∙_}
 use mathlib.Core.Bool.{false≢true}
 use mathlib.Core.Logic.{⊎-elim}
 use mathlib.Core.List.{[]}
-use Prim.Native.Nat.{_/_, _≤_, _<_}
 use native.Mathlib.Omega.{arith}
 use borrow.Author.Needs.{needs}
 use borrow.Author.Tests.{not-false}
-use lib.ListN.{length}
-use Rattle.image.specs.Record.{routeFrom}
 use Rattle.image.specs.Image.{routesIn}
-use Rattle.image.proofs.Tables.{length-records}
 use Rattle.graph.specs.BlockSet.{sizeOf}
-use Rattle.graph.proofs.BlockLaws.{size-excluding}
 use Rattle.unwind.specs.Placed.{returnsIn}
-use Rattle.unwind.specs.Lent.{blockRecords, BlockHeld, blockHops}
-use Rattle.unwind.specs.Members.{Busy, Originals}
-use Rattle.unwind.proofs.ReturnLaws.{returns-long}
-use Rattle.unwind.proofs.AlikeLaws.{held-on}
+use Rattle.unwind.specs.Lent.{blockHops}
 use Rattle.unwind.proofs.HeldLaws.{held-none, held-room, held-more, block-own}
-use Rattle.unwind.proofs.MemberLaws.{walked-below, SetHolding, holding-start, holding-here, holding-fit, holding-next, holding-end, busy-quiet, busy-below}
+use Rattle.unwind.proofs.MemberLaws.{LowestIs, walked-below, walked-less, SetHolding, holding-start, holding-here, holding-fit, holding-next, holding-end}
+use Rattle.unwind.proofs.BlockLoop.{Given, given-guards, given-returns, ready, Going, going-start, going-next, HeldAt, held-stays, ListedAt, list-room, list-stays, gather-room, hops-quiet, hops-below}
 use Rattle.unwind.proofs.emit.standing.add_blocks.Statement.{statement}
 use Rattle.unwind.proofs.emit.standing.add_blocks.Tie as tie
 
 abbrev Inv-loop : tie.InvT-loop
 Inv-loop h₀ s y nodes edges ends heads landings roots guards bases parts returners stored blocks originals₀ exits₀ routes guarded left₀ worth turns listed₀ last₀ n₀ h originals exits left listed last n =
-    (length exits ≡ length exits₀)
+    Going s y nodes edges ends heads landings roots guards bases parts returners stored blocks originals₀ exits₀ guarded left₀ worth turns originals exits listed last n
     × SetHolding (routesIn s y) (blockHops (routesIn s y) nodes edges ends heads landings roots guards bases (returnsIn parts returners) stored) (λ k. k) [] left₀ blocks left h₀ h
-    × (last ≤ 1024)
-    × (last < 1024 → BlockHeld (routesIn s y) last (blockRecords (routesIn s y) last nodes edges ends heads landings roots guards bases (returnsIn parts returners) stored) edges ends exits exits n)
-    × (length originals ≡ length originals₀)
-    × (last < 1024 → Originals bases (returnsIn parts returners) originals (stored .nodes) (last / 64) listed)
 
 abbrev μ-loop : tie.MeasureT-loop
 μ-loop h₀ s y nodes edges ends heads landings roots guards bases parts returners stored blocks originals₀ exits₀ routes guarded left₀ worth turns listed₀ last₀ n₀ h originals exits left listed last n = sizeOf left
 
-guarded-blocks-requires : tie.Need-guarded-blocks-requires Inv-loop μ-loop
-guarded-blocks-requires c κs =
-    let start = c .before .before .before .before .before .before .before .before .before .before .before .before .before in
-    omega (arith, length-records routeFrom (start .args .s .now) (start .args .y .routes), start .pre .5 .guards-fit)
+-- the contract, by name
+given : (c : tie.Start Inv-loop μ-loop) → let a = c .args in Given (a .s .now) (a .y) (a .nodes .now) (a .edges .now) (a .ends .now) (a .heads .now) (a .landings .now) (a .roots .now) (a .guards .now) (a .bases .now) (a .parts .now) (a .returners .now) (a .stored) (a .blocks) (a .originals .now) (a .exits .now)
+given c =
+    record {
+      tries = c .pre .0;
+      few = c .pre .1;
+      roomy = c .pre .2;
+      sets = c .pre .5;
+      there = c .pre .6;
+      heads-fit = c .pre .7;
+      landings-fit = c .pre .8;
+      bases-fit = c .pre .9;
+      originals-fit = c .pre .10;
+    }
 
-busy-blocks-requires : tie.Need-busy-blocks-requires Inv-loop μ-loop
-busy-blocks-requires c κs = let start = c .before .before .before .before .before .before .before .before .before .before .before .before .before .before .before in (rw (returns-long (start .args .parts .now) (start .args .returners .now)) at (start .pre .5 .returns-fit), start .pre .9)
-
--- the blocks to go over are those that have a way out
-busy : (c : tie.After-busy-blocks Inv-loop μ-loop) → let a = c .before .before .before .before .before .before .before .before .before .before .before .before .before .before .before .before .args in Busy (a .guards .now) (a .y .routes .count) (a .bases .now) (returnsIn (a .parts .now) (a .returners .now)) (a .stored .nodes) (c .busy-blocks .result)
-busy c = c .busy-blocks .ensures _ _ (c .before .before .guarded-blocks .ensures)
-
-original-nodes-requires : tie.Need-original-nodes-requires Inv-loop μ-loop
-original-nodes-requires c κs =
-    let start = c .before .before .before .before .before .before .before .before .before .before .before .before .before .before .before .before .before .before .before .before .before .before .before .before .before .before .before .before in
-    let low = rw (c .before .before .before .before .before .b .given .1) at (c .before .before .before .before .before .before .before .lowest-in .ensures) in
-    (omega (arith, start .pre .10, c .before .before .before .before .before .before .before .before .before .loop .inv .4), start .pre .0 .nodes-most, rw (returns-long (start .args .parts .now) (start .args .returners .now)) at (start .pre .5 .returns-fit), omega (arith, low .0), start .pre .9)
-
-mark-turns-requires : tie.Need-mark-turns-requires Inv-loop μ-loop
-mark-turns-requires c κs =
-    let start = c .before .before .before .before .before .before .before .before .before .before .before .before .before .before .before .before .before .before .before in
-    (omega (arith, length-records routeFrom (start .args .s .now) (start .args .y .routes), start .pre .5 .guards-fit), rw (returns-long (start .args .parts .now) (start .args .returners .now)) at (start .pre .5 .returns-fit), start .pre .1)
+-- the block taken out is the lowest left
+low : (c : tie.After-b Inv-loop μ-loop) → LowestIs (c .before .before .before .before .loop .left) (c .b .given .0 .0)
+low c = rw (c .b .given .1) at (c .before .before .lowest-in .ensures)
 
 -- the nodes of the block's word are listed, now or for the last block
-listed : (c : tie.Joined2 Inv-loop μ-loop) → let a = c .before .before .before .before .before .before .before .before .before .before .before .before .before .before .before .before .before .before .before .before .before .before .before .before .before .before .before .args in (length (c .if2 .originals) ≡ length (a .originals .now)) × Originals (a .bases .now) (returnsIn (a .parts .now) (a .returners .now)) (c .if2 .originals) (a .stored .nodes) (c .before .before .before .before .b .given .0 .0 / 64) (c .if2 .listed)
+listed : (c : tie.Joined2 Inv-loop μ-loop) → ListedAt (c .before .before .before .before .before .before .before .before .loop .inv .0) (c .before .before .before .before .b .given .0 .0) (c .if2 .originals) (c .if2 .listed)
 listed c =
-    let top = c .before .before .before .before .before .before .before .before .loop in
-    let low = rw (c .before .before .before .before .b .given .1) at (c .before .before .before .before .before .before .lowest-in .ensures) in
-    ⊎-elim
-    (λ w. rw (w .5, w .6) (w .2 .kept .1 .1 .1 .1 .1 .0 ∙ top .inv .4, w .2 .ensures))
-    (λ w. rw (w .1, w .2, w .0 .left) (top .inv .4, top .inv .5 (omega (arith, low .0, w .0 .left))))
-    (c .if2 .came)
+    let going = c .before .before .before .before .before .before .before .before .loop .inv .0 in
+    ⊎-elim (λ w. rw (w .5, w .6) (w .2 .kept .1 .1 .1 .1 .1 .0 ∙ going .listed-long, w .2 .ensures)) (λ w. rw (w .1, w .2) (list-stays going _ (low (c .before .before .before .before) .0) (w .0 .left))) (c .if2 .came)
 
 -- what stands in scratch is gathered of this block, or of the last and the same
-gathered : (c : tie.Joined3 Inv-loop μ-loop) → let a = c .before .before .before .before .before .before .before .before .before .before .before .before .before .before .before .before .before .before .before .before .before .before .before .before .before .before .before .before .before .before .args in let m = routesIn (a .s .now) (a .y) in BlockHeld m (c .before .before .before .before .before .before .before .b .given .0 .0) (blockRecords m (c .before .before .before .before .before .before .before .b .given .0 .0) (a .nodes .now) (a .edges .now) (a .ends .now) (a .heads .now) (a .landings .now) (a .roots .now) (a .guards .now) (a .bases .now) (returnsIn (a .parts .now) (a .returners .now)) (a .stored)) (a .edges .now) (a .ends .now) (c .before .before .before .before .before .before .before .before .before .before .before .loop .exits) (c .if3 .exits) (c .if3 .n)
+gathered : (c : tie.Joined3 Inv-loop μ-loop) → HeldAt (c .before .before .before .before .before .before .before .before .before .before .before .loop .inv .0) (c .before .before .before .before .before .before .before .b .given .0 .0) (c .if3 .exits) (c .if3 .n)
 gathered c =
-    ⊎-elim
-    (λ w. rw (w .7, w .8) (w .4 .ensures))
-    (λ w.
-    let start = c .before .before .before .before .before .before .before .before .before .before .before .before .before .before .before .before .before .before .before .before .before .before .before .before .before .before .before .before .before .before in
-    let a = start .args in
-    let m = routesIn (a .s .now) (a .y) in
     let top = c .before .before .before .before .before .before .before .before .before .before .before .loop in
-    let low = rw (c .before .before .before .before .before .before .before .b .given .1) at (c .before .before .before .before .before .before .before .before .before .lowest-in .ensures) in
-    let on = c .before .goes-on .ensures (not-false _ (w .0 .left)) in
-    let next = on .next in
-    let was = top .inv .3 (omega (arith, low .0)) in
-    rw (w .1, w .2)
-    record {
-      long = refl;
-      holds = held-on m (a .nodes .now) (a .edges .now) (a .ends .now) (a .heads .now) (a .landings .now) (a .roots .now) (a .guards .now) (a .bases .now) (returnsIn (a .parts .now) (a .returners .now)) (a .stored) (start .pre .0) (c .before .before .before .before .before .before .before .before .before .before .before .before .before .is-worth .ensures (on .sought)) (top .last) _ (a .y .routes .count) (a .blocks) (c .before .before .before .before .before .before .before .before .before .before .before .before .if1 .turns) (length-records routeFrom (a .s .now) (a .y .routes)) (⊎-elim (λ v. rw (v .3) (v .2 .ensures)) (λ v. absurd (false≢true (sym (v .0 .left) ∙ on .sought))) (c .before .before .before .before .before .before .before .before .before .before .before .before .if1 .came)) on (walked-below (top .inv .1 .walked) _ low) (was .holds);
-      most = was .most;
-    })
-    (c .if3 .came)
-
-same-length : tie.Need-same-length Inv-loop μ-loop
-same-length c = c .before .before .before .before .loop .inv .4
-
-same-length-2 : tie.Need-same-length-2 Inv-loop μ-loop
-same-length-2 c = c .before .before .before .before .loop .inv .0
-
-goes-on-requires : tie.Need-goes-on-requires Inv-loop μ-loop
-goes-on-requires c κs = c .before .before .before .before .before .before .before .before .before .loop .inv .2
-
-gather-block-requires : tie.Need-gather-block-requires Inv-loop μ-loop
-gather-block-requires c κs =
-    let start = c .before .before .before .before .before .before .before .before .before .before .before .before .before .before .before .before .before .before .before .before .before .before .before .before .before .before .before .before .before .before .before .before .before in
-    let top = c .before .before .before .before .before .before .before .before .before .before .before .before .before .before .loop in
-    let low = rw (c .before .before .before .before .before .before .before .before .before .before .b .given .1) at (c .before .before .before .before .before .before .before .before .before .before .before .before .lowest-in .ensures) in
-    (start .pre .0, low .0, omega (arith, start .pre .2 .room, top .inv .0), listed (c .before .before .before .before .before .before) .1, search needs, start .pre .7, start .pre .8, omega (arith, start .pre .10, listed (c .before .before .before .before .before .before) .0), start .pre .5 .guards-fit, rw (returns-long (start .args .parts .now) (start .args .returners .now)) at (start .pre .5 .returns-fit), c .before .before .before .before .before .before .before .before .before .before .before .before .before .before .before .before .before .before .before .guarded-blocks .ensures)
-
-loop-less : tie.Need-loop-less Inv-loop μ-loop
-loop-less c =
-    let top = c .before .before .before .before .before .before .before .before .before .before .before .before .before .before .loop in
-    let low = rw (c .before .before .before .before .before .before .before .before .before .before .b .given .1) at (c .before .before .before .before .before .before .before .before .before .before .before .before .lowest-in .ensures) in
-    rw (c .before .before .before .before .before .before .before .take-from .ensures) (omega (arith, size-excluding (top .left) (top .inv .1 .walked .long) _ (low .0) (low .1)))
+    ⊎-elim (λ w. rw (w .7, w .8) (w .4 .ensures)) (λ w. rw (w .1, w .2) (held-stays (top .inv .0) _ (walked-below (top .inv .1 .walked) _ (low (c .before .before .before .before .before .before .before))) (c .before .goes-on .ensures (not-false _ (w .0 .left))))) (c .if3 .came)
 
 loop-holds : tie.Need-loop-holds Inv-loop μ-loop
 loop-holds c =
-    let start = c .before .before .before .before .before .before .before .before .before .before .before .before .before .before .before .before .before .before in
-    let a = start .args in
-    let m = routesIn (a .s .now) (a .y) in
-    let from = c .before .before in (
-      refl,
-      holding-start m (blockHops m (a .nodes .now) (a .edges .now) (a .ends .now) (a .heads .now) (a .landings .now) (a .roots .now) (a .guards .now) (a .bases .now) (returnsIn (a .parts .now) (a .returners .now)) (a .stored)) (λ k. k) [] (from .busy-blocks .result) (a .blocks) (a .h .now) (busy from .long) (busy-below m (a .nodes .now) (a .edges .now) (a .ends .now) (a .heads .now) (a .landings .now) (a .roots .now) (a .guards .now) (a .bases .now) (returnsIn (a .parts .now) (a .returners .now)) (a .stored) (a .y .routes .count) (length-records routeFrom (a .s .now) (a .y .routes)) (from .busy-blocks .result) (busy from) (a .blocks) (start .pre .5)) (held-none m (a .h .now) (start .pre .3)),
-      omega arith,
-      λ h. absurd (omega arith),
-      refl,
-      λ h. absurd (omega arith),
-    )
+    let from = c .before .before .before .before in
+    let r = ready (given (c .before .before .before .before .before .before .before .before .before .before .before .before .before .before .before .before .before .before)) (c .if1 .turns) (from .guarded-blocks .ensures) (c .before .before .busy-blocks .ensures) (c .before .is-worth .ensures) (λ e. ⊎-elim (λ v. rw (v .3) (v .2 .ensures)) (λ v. absurd (false≢true (sym (v .0 .left) ∙ e))) (c .if1 .came)) in
+    (going-start r, holding-start _ _ _ _ _ _ _ (r .busy .long) (hops-below r) (held-none _ _ (c .before .before .before .before .before .before .before .before .before .before .before .before .before .before .before .before .before .before .pre .3)))
 
 returns : tie.Need-returns Inv-loop μ-loop
 returns c =
-    let start = c .before .before .before .before .before .before .before .before .before .before .before .before .before .before .before .before .before .before .before .before .before .before .before in
-    let a = start .args in
-    let m = routesIn (a .s .now) (a .y) in
-    let from = c .before .before .before .before .before .before .before in
     let top = c .before .before .before .before .loop in
-    (holding-end m (blockHops m (a .nodes .now) (a .edges .now) (a .ends .now) (a .heads .now) (a .landings .now) (a .roots .now) (a .guards .now) (a .bases .now) (returnsIn (a .parts .now) (a .returners .now)) (a .stored)) (λ k. k) [] (from .busy-blocks .result) (a .blocks) (busy-quiet m (a .nodes .now) (a .edges .now) (a .ends .now) (a .heads .now) (a .landings .now) (a .roots .now) (a .guards .now) (a .bases .now) (returnsIn (a .parts .now) (a .returners .now)) (a .stored) (a .y .routes .count) (length-records routeFrom (a .s .now) (a .y .routes)) (from .busy-blocks .result) (busy from)) (λ k n h. h) (top .inv .1) (rw (c .enum-told .given .1) at (c .before .before .lowest-in .ensures)), top .inv .0)
+    (holding-end _ _ _ _ _ _ (hops-quiet (top .inv .0 .ready)) (λ k n h. h) (top .inv .1) (rw (c .enum-told .given .1) at (c .before .before .lowest-in .ensures)), top .inv .0 .long)
 
 add-exits-requires : tie.Need-add-exits-requires Inv-loop μ-loop
 add-exits-requires c κs =
-    let start = c .before .before .before .before .before .before .before .before .before .before .before .before .before .before .before .before .before .before .before .before .before .before .before .before .before .before .before .before .before .before .before .before in
-    let a = start .args in
-    let m = routesIn (a .s .now) (a .y) in
-    let from = c .before .before .before .before .before .before .before .before .before .before .before .before .before .before .before .before in
     let top = c .before .before .before .before .before .before .before .before .before .before .before .before .before .loop in
-    let low = rw (c .before .before .before .before .before .before .before .before .before .b .given .1) at (c .before .before .before .before .before .before .before .before .before .before .before .lowest-in .ensures) in
-    let joined = c .before .before in
-    let held = gathered joined in
-    let own = block-own m _ (a .nodes .now) (a .edges .now) (a .ends .now) (a .heads .now) (a .landings .now) (a .roots .now) (a .guards .now) (a .bases .now) (returnsIn (a .parts .now) (a .returners .now)) (a .stored) _ (joined .if3 .n) (held .holds) in
-    let here = holding-here m (blockHops m (a .nodes .now) (a .edges .now) (a .ends .now) (a .heads .now) (a .landings .now) (a .roots .now) (a .guards .now) (a .bases .now) (returnsIn (a .parts .now) (a .returners .now)) (a .stored)) (λ k. k) [] (from .busy-blocks .result) (a .blocks) (busy-quiet m (a .nodes .now) (a .edges .now) (a .ends .now) (a .heads .now) (a .landings .now) (a .roots .now) (a .guards .now) (a .bases .now) (returnsIn (a .parts .now) (a .returners .now)) (a .stored) (a .y .routes .count) (length-records routeFrom (a .s .now) (a .y .routes)) (from .busy-blocks .result) (busy from)) (λ k n h. h) (top .inv .1) _ low in
-    let room = held-room m _ here _ (joined .if3 .n) (holding-fit m (blockHops m (a .nodes .now) (a .edges .now) (a .ends .now) (a .heads .now) (a .landings .now) (a .roots .now) (a .guards .now) (a .bases .now) (returnsIn (a .parts .now) (a .returners .now)) (a .stored)) (λ k. k) [] (from .busy-blocks .result) (a .blocks) (busy-quiet m (a .nodes .now) (a .edges .now) (a .ends .now) (a .heads .now) (a .landings .now) (a .roots .now) (a .guards .now) (a .bases .now) (returnsIn (a .parts .now) (a .returners .now)) (a .stored) (a .y .routes .count) (length-records routeFrom (a .s .now) (a .y .routes)) (from .busy-blocks .result) (busy from)) (λ k n h. h) (top .inv .1) _ low _ own (start .pre .4)) in
+    let quiet = hops-quiet (top .inv .0 .ready) in
+    let at = low (c .before .before .before .before .before .before .before .before .before) in
+    let held = gathered (c .before .before) in
+    let here = holding-here _ _ _ _ _ _ quiet (λ k n h. h) (top .inv .1) _ at in
+    let own = block-own _ _ _ _ _ _ _ _ _ _ _ _ _ _ (held .holds) in
+    let room = held-room _ _ here _ _ (holding-fit _ _ _ _ _ _ quiet (λ k n h. h) (top .inv .1) _ at _ own (c .before .before .before .before .before .before .before .before .before .before .before .before .before .before .before .before .before .before .before .before .before .before .before .before .before .before .before .before .before .before .before .before .pre .4)) in
     (room .0, room .1, room .2, held .holds .ordered .fit)
 
 loop-again : tie.Need-loop-again Inv-loop μ-loop
 loop-again c =
-    let start = c .before .before .before .before .before .before .before .before .before .before .before .before .before .before .before .before .before .before .before .before .before .before .before .before .before .before .before .before .before .before .before .before .before in
-    let a = start .args in
-    let m = routesIn (a .s .now) (a .y) in
-    let from = c .before .before .before .before .before .before .before .before .before .before .before .before .before .before .before .before .before in
     let top = c .before .before .before .before .before .before .before .before .before .before .before .before .before .before .loop in
-    let low = rw (c .before .before .before .before .before .before .before .before .before .before .b .given .1) at (c .before .before .before .before .before .before .before .before .before .before .before .before .lowest-in .ensures) in
-    let joined = c .before .before .before in
-    let held = gathered joined in
-    let own = block-own m _ (a .nodes .now) (a .edges .now) (a .ends .now) (a .heads .now) (a .landings .now) (a .roots .now) (a .guards .now) (a .bases .now) (returnsIn (a .parts .now) (a .returners .now)) (a .stored) _ (joined .if3 .n) (held .holds) in
-    let here = holding-here m (blockHops m (a .nodes .now) (a .edges .now) (a .ends .now) (a .heads .now) (a .landings .now) (a .roots .now) (a .guards .now) (a .bases .now) (returnsIn (a .parts .now) (a .returners .now)) (a .stored)) (λ k. k) [] (from .busy-blocks .result) (a .blocks) (busy-quiet m (a .nodes .now) (a .edges .now) (a .ends .now) (a .heads .now) (a .landings .now) (a .roots .now) (a .guards .now) (a .bases .now) (returnsIn (a .parts .now) (a .returners .now)) (a .stored) (a .y .routes .count) (length-records routeFrom (a .s .now) (a .y .routes)) (from .busy-blocks .result) (busy from)) (λ k n h. h) (top .inv .1) _ low in
+    let quiet = hops-quiet (top .inv .0 .ready) in
+    let at = low (c .before .before .before .before .before .before .before .before .before .before) in
+    let held = gathered (c .before .before .before) in
+    let here = holding-here _ _ _ _ _ _ quiet (λ k n h. h) (top .inv .1) _ at in
+    let own = block-own _ _ _ _ _ _ _ _ _ _ _ _ _ _ (held .holds) in
     rw (c .before .before .before .before .before .before .before .take-from .ensures) (
-      held .long ∙ top .inv .0,
-      holding-next m (blockHops m (a .nodes .now) (a .edges .now) (a .ends .now) (a .heads .now) (a .landings .now) (a .roots .now) (a .guards .now) (a .bases .now) (returnsIn (a .parts .now) (a .returners .now)) (a .stored)) (λ k. k) [] (from .busy-blocks .result) (a .blocks) (busy-quiet m (a .nodes .now) (a .edges .now) (a .ends .now) (a .heads .now) (a .landings .now) (a .roots .now) (a .guards .now) (a .bases .now) (returnsIn (a .parts .now) (a .returners .now)) (a .stored) (a .y .routes .count) (length-records routeFrom (a .s .now) (a .y .routes)) (from .busy-blocks .result) (busy from)) (λ k n h. h) (top .inv .1) _ low _ own _ (omega arith) (held-more m _ here _ (joined .if3 .n) (c .add-exits .ensures)),
-      omega (arith, low .0),
-      λ h. record { long = refl; holds = held .holds; most = held .most },
-      listed (c .before .before .before .before .before .before) .0,
-      λ h. listed (c .before .before .before .before .before .before) .1,
+      going-next (top .inv .0) _ (at .0) (listed (c .before .before .before .before .before .before)) held,
+      holding-next _ _ _ _ _ _ quiet (λ k n h. h) (top .inv .1) _ at _ own _ (omega arith) (held-more _ _ here _ _ (c .add-exits .ensures)),
     )
 
 pub add-blocks-spec : {M : Type 1} → statement M
@@ -179,21 +98,21 @@ add-blocks-spec =
     Inv-loop
     μ-loop
     (λ c. search needs)
-    guarded-blocks-requires
-    busy-blocks-requires
+    (λ c κs. given-guards (given (c .before .before .before .before .before .before .before .before .before .before .before .before .before)))
+    (λ c κs. let g = given (c .before .before .before .before .before .before .before .before .before .before .before .before .before .before .before) in (given-returns g, g .bases-fit))
     (λ c κs. search needs)
-    mark-turns-requires
+    (λ c κs. let g = given (c .before .before .before .before .before .before .before .before .before .before .before .before .before .before .before .before .before .before .before) in (given-guards g, given-returns g, g .few))
     loop-holds
     (λ c κs. search needs)
     (λ c. search needs)
     (λ c. search needs)
-    same-length
-    same-length-2
+    (λ c. c .before .before .before .before .loop .inv .0 .listed-long)
+    (λ c. c .before .before .before .before .loop .inv .0 .long)
     returns
     (λ c κs. search needs)
-    original-nodes-requires
-    goes-on-requires
-    gather-block-requires
+    (λ c κs. list-room (c .before .before .before .before .before .before .before .before .before .loop .inv .0) _ (low (c .before .before .before .before .before) .0))
+    (λ c κs. c .before .before .before .before .before .before .before .before .before .loop .inv .0 .most)
+    (λ c κs. gather-room (c .before .before .before .before .before .before .before .before .before .before .before .before .before .before .loop .inv .0) _ (low (c .before .before .before .before .before .before .before .before .before .before) .0) (listed (c .before .before .before .before .before .before)))
     add-exits-requires
-    loop-less
+    (λ c. let top = c .before .before .before .before .before .before .before .before .before .before .before .before .before .before .loop in rw (c .before .before .before .before .before .before .before .take-from .ensures) (walked-less (top .inv .1 .walked) _ (low (c .before .before .before .before .before .before .before .before .before .before))))
     loop-again)
