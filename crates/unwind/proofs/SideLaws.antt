@@ -1,7 +1,6 @@
 -- The blocks of handlers and of routes in scratch.
 --     land-propagate, land-resume, land-handler    an end that propagates, one that resumes, and one that is a handler
 --     lands-none, lands-more       the ends, one by one
---     guards-put                   the set of a route, stored
 --     guards-none, guards-more     the routes, one by one
 -- Assumes nothing.
 use mathlib.Core.Path.{_≡_, _∙_}
@@ -22,8 +21,8 @@ use Rattle.graph.proofs.RouteLaws.{route-is}
 use Rattle.addition.specs.Blocks.{blockIn, blockOf, leading}
 use Rattle.unwind.specs.Stands.{Guards}
 use Rattle.unwind.specs.Nodes.{branchIn, pathRecord}
-use Rattle.unwind.specs.Placed.{SetPut}
-use Rattle.unwind.specs.Sides.{landing, Lands, GuardsPut, GuardsIn}
+use Rattle.unwind.specs.Placed.{setAt, SetChanged}
+use Rattle.unwind.specs.Sides.{landing, Lands, GuardsIn}
 
 module _ (g : Graph) where
   pub land-propagate : (p : Path) → p .end ≡ 1 → landing g (endOf p) ≡ 65535
@@ -37,9 +36,6 @@ module _ (g : Graph) where
   pub land-handler : (p : Path) → p .end ≡ 0 → landing g (endOf p) ≡ blockIn (leading g (p .handler))
   unfolding landing endOf blockOf
   land-handler p e = rw (eq-eqb (p .end) 0 e)
-
-  pub guards-put : {start end : ℕ} {guards guards′ w : List ℕ} {r : ℕ} → SetPut guards r w guards′ → Guards g start end w → GuardsPut g start end guards r guards′
-  guards-put p found = record { long = p .long; here = rw (p .here) found; others = p .others }
 
   module _ (m : RouteImage) where
     pub lands-none : (ends landings : List ℕ) → Lands g m ends landings 0
@@ -59,13 +55,13 @@ module _ (g : Graph) where
     pub guards-none : (guards : List ℕ) → GuardsIn g m guards 0
     guards-none guards = record { has = λ r h. absurd (not-suc-le-zero h) }
 
-    pub guards-more : (guards guards′ : List ℕ) (n : ℕ) → n < length (m .routes) → GuardsPut g (getD (m .routes) n (routeFrom [] 0) .start) (getD (m .routes) n (routeFrom [] 0) .end) guards n guards′
-        → GuardsIn g m guards n → GuardsIn g m guards′ (n + 1)
-    guards-more guards guards′ n h p old =
+    pub guards-more : (guards guards′ : List ℕ) (n : ℕ) → n < length (m .routes) → Guards g (getD (m .routes) n (routeFrom [] 0) .start) (getD (m .routes) n (routeFrom [] 0) .end) (setAt guards′ n)
+        → SetChanged guards n guards′ → GuardsIn g m guards n → GuardsIn g m guards′ (n + 1)
+    guards-more guards guards′ n h found p old =
         record {
           has = λ r lt.
               elim (ℕ-discrete r n) [
-                | yes e ↦ rw (e, route-is m n h) (p .here _)
+                | yes e ↦ rw (e, route-is m n h) (found _)
                 | no ne ↦ rw (p .others r ne) (old .has r (omega arith))
               ];
         }

@@ -2,13 +2,13 @@
 use mathlib.Core.Path.{_≡_}
 use mathlib.Core.List.{List}
 use Prim.Native.Nat.{ℕ, _<_}
-use lib.ListN.{length, getD}
+use lib.ListN.{getD}
 use Rattle.image.specs.Image.{RouteImage}
 use Rattle.image.specs.Deal.{UnwindEnd, handler, propagate, resume, endOf, routesOf}
 use Rattle.graph.specs.Graph.{Graph}
 use Rattle.graph.specs.Route.{routeAt}
 use Rattle.addition.specs.Blocks.{blockOf, guarded}
-use Rattle.unwind.specs.Stands.{Has, Guards}
+use Rattle.unwind.specs.Stands.{Has}
 use Rattle.unwind.specs.Nodes.{branchIn, pathRecord}
 use Rattle.unwind.specs.Placed.{setAt}
 
@@ -21,12 +21,6 @@ landing g resume = 65534
 -- those of the first n ends of the trie
 pub record Lands (g : Graph) (m : RouteImage) (ends landings : List ℕ) (n : ℕ) : Type 0 where
   pub land : (k : ℕ) → k < n → getD landings k 0 ≡ landing g (endOf (pathRecord m (branchIn ends k .what)))
-
--- set r has the blocks that a route from start to end guards, and all others are as they were
-pub record GuardsPut (g : Graph) (start end : ℕ) (guards : List ℕ) (r : ℕ) (guards′ : List ℕ) : Type 0 where
-  pub long : length guards′ ≡ length guards
-  pub here : Guards g start end (setAt guards′ r)
-  pub others : (j : ℕ) → (j ≡ r → ⊥) → setAt guards′ j ≡ setAt guards j
 
 -- the blocks that the first n routes guard
 pub record GuardsIn (g : Graph) (m : RouteImage) (guards : List ℕ) (n : ℕ) : Type 0 where

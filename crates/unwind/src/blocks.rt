@@ -20,8 +20,8 @@ ghost use Rattle.graph.specs.Table.{below, isStart};
 ghost use Rattle.graph.specs.Lookup.{Finds};
 ghost use Rattle.graph.specs.WellFormed.{Built};
 ghost use Rattle.addition.specs.Blocks.{firstOf, lastOf, blockIn, leading};
-ghost use Rattle.unwind.specs.Stands.{Stands, Before, leadingOf};
-ghost use Rattle.unwind.specs.Sides.{GuardsPut};
+ghost use Rattle.unwind.specs.Stands.{Stands, Before, Guards, leadingOf};
+ghost use Rattle.unwind.specs.Placed.{setAt, SetChanged};
 ghost use Rattle.unwind.specs.Wanted.{RunsFit};
 
 // Whether an address starts a built block, lies inside one, or starts no instruction.
@@ -172,7 +172,7 @@ fn search(g: &Words, built: usize, a: u64) -> Lead
 // Into set r the built blocks that a route from `start` to `end` covers and that keep their exception edge.
 pub fn guard_blocks(g: &Words, built: usize, start: u64, end: u64, guards: &mut [u64], r: usize)
     requires { ⌜ Stands (heldIn (now g) .graph) × Built (heldIn (now g) .graph) built × (16 * r + 16 ≤ length (now guards)) ⌝ }
-    ensures { λ _. ⌜ GuardsPut (heldIn (now (g .entry)) .graph) start end (now (guards .entry)) r (now (guards .exit)) ⌝ }
+    ensures { λ _. ⌜ Guards (heldIn (now (g .entry)) .graph) start end (setAt (now (guards .exit)) r) × SetChanged (now (guards .entry)) r (now (guards .exit)) ⌝ }
 {
     empty_set(guards, r);
     // The block of an empty table has no first instruction.

@@ -10,17 +10,16 @@ use Rattle.graph.specs.declared.record.TableEntry.{TableEntry}
 use Rattle.graph.specs.Words.{heldIn}
 use Rattle.graph.proofs.RecordLaws.{block-most}
 use Rattle.addition.specs.Blocks.{firstOf}
-use Rattle.unwind.specs.Placed.{setAt, SetPut}
-use Rattle.unwind.specs.Sides.{GuardsPut}
+use Rattle.unwind.specs.Stands.{Guards}
+use Rattle.unwind.specs.Placed.{setAt, SetChanged}
 use Rattle.unwind.proofs.Standing.{first-lt}
 use Rattle.unwind.proofs.GuardLaws.{Guarding, guarding-none, guarding-put, guarding-skip, guards-empty, guards-are}
 use Rattle.unwind.proofs.SlotLaws.{put-same, put-again}
-use Rattle.unwind.proofs.SideLaws.{guards-put}
 use Rattle.unwind.proofs.blocks.guard_blocks.Statement.{statement}
 use Rattle.unwind.proofs.blocks.guard_blocks.Tie as tie
 
 abbrev Inv-loop : tie.InvT-loop
-Inv-loop g built start end guards₀ r first b₀ guards b = (first ≤ b) × (b ≤ built) × Guarding (heldIn g .graph) end first b (setAt guards r) × SetPut guards₀ r (setAt guards r) guards
+Inv-loop g built start end guards₀ r first b₀ guards b = (first ≤ b) × (b ≤ built) × Guarding (heldIn g .graph) end first b (setAt guards r) × SetChanged guards₀ r guards
 
 abbrev μ-loop : tie.MeasureT-loop
 μ-loop g built start end guards₀ r first b₀ guards b = built - b
@@ -32,7 +31,8 @@ returns : tie.Need-returns Inv-loop μ-loop
 returns c =
     let a = c .before .before .before .before .before .before .before .args in
     let g = heldIn (a .g .now) .graph in
-    guards-put g (c .before .before .before .before .empty-set .ensures) (guards-empty g (a .start) (a .end) (sym (c .before .table-count .ensures) ∙ c .if1 .taken))
+    let emptied = c .before .before .before .before .empty-set .ensures in
+    (rw (emptied .here) (guards-empty g (a .start) (a .end) (sym (c .before .table-count .ensures) ∙ c .if1 .taken)), put-again (put-same _ _) emptied)
 
 loop-holds : tie.Need-loop-holds Inv-loop μ-loop
 loop-holds c =
@@ -49,22 +49,23 @@ first-of-requires c κs =
 
 -- what stands at the loop's head
 module _ (c : tie.At-loop Inv-loop μ-loop) where
-  kept : let a = c .before .before .before .before .before .before .before .before .before .before .args in SetPut (a .guards .now) (a .r) (setAt (c .loop .guards) (a .r)) (c .loop .guards)
+  kept : let a = c .before .before .before .before .before .before .before .before .before .before .args in SetChanged (a .guards .now) (a .r) (c .loop .guards)
   kept = put-again (c .before .before .before .before .before .before .before .empty-set .ensures) (c .loop .inv .3)
 
   few : c .loop .b < c .before .before .before .before .before .before .before .before .before .before .args .built → c .loop .b < 1024
   few h = let start = c .before .before .before .before .before .before .before .before .before .before in omega (arith, start .pre .1 .0, block-most (start .args .g .now))
 
   -- all blocks in the range are passed
-  done : let a = c .before .before .before .before .before .before .before .before .before .before .args in (c .loop .b < a .built → a .end ≤ firstOf (heldIn (a .g .now) .graph) (c .loop .b) .address) → GuardsPut (heldIn (a .g .now) .graph) (a .start) (a .end) (a .guards .now) (a .r) (c .loop .guards)
+  done : let a = c .before .before .before .before .before .before .before .before .before .before .args in (c .loop .b < a .built → a .end ≤ firstOf (heldIn (a .g .now) .graph) (c .loop .b) .address) → Guards (heldIn (a .g .now) .graph) (a .start) (a .end) (setAt (c .loop .guards) (a .r)) × SetChanged (a .guards .now) (a .r) (c .loop .guards)
   done high =
       let start = c .before .before .before .before .before .before .before .before .before .before in
       let a = start .args in
-      let g = heldIn (a .g .now) .graph in
-      guards-put g kept
-      (guards-are g (start .pre .0) (a .built) (start .pre .1) (a .start) (a .end) (c .before .block-from .result) (c .loop .b)
-      (rw (c .before .before .position .ensures) at (c .before .block-from .ensures))
-      (c .loop .inv .1) high (setAt (c .loop .guards) (a .r)) (c .loop .inv .2))
+      let g = heldIn (a .g .now) .graph in (
+        guards-are g (start .pre .0) (a .built) (start .pre .1) (a .start) (a .end) (c .before .block-from .result) (c .loop .b)
+            (rw (c .before .before .position .ensures) at (c .before .block-from .ensures))
+            (c .loop .inv .1) high (setAt (c .loop .guards) (a .r)) (c .loop .inv .2),
+        kept,
+      )
 
 same-length-2 : tie.Need-same-length-2 Inv-loop μ-loop
 same-length-2 c = kept (c .before .before .before .before) .long

@@ -36,7 +36,7 @@ loop-again c =
     let a = c .before .before .before .before .before .before .before .before .before .before .args in
     let top = c .before .before .before .before .before .before .loop in
     let put = rw (c .before .before .before .before .route-in .ensures) at (c .before .before .guard-blocks .ensures) in
-    (omega arith, put .long ∙ top .inv .1, guards-more (heldIn (a .g .now) .graph) (routesIn (a .s .now) (a .y)) (top .guards) _ (top .r) (among (c .before .before .before .before .before)) put (top .inv .2))
+    (omega arith, put .1 .long ∙ top .inv .1, guards-more (heldIn (a .g .now) .graph) (routesIn (a .s .now) (a .y)) (top .guards) _ (top .r) (among (c .before .before .before .before .before)) (put .0) (put .1) (top .inv .2))
 
 same-length : tie.Need-same-length Inv-loop μ-loop
 same-length c = c .before .loop .inv .1
