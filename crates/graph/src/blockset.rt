@@ -148,6 +148,22 @@ pub fn lowest_in(w: &[u64; 16]) -> Lowest
     Lowest::Nothing
 }
 
+// The lowest block; there is none from `past` on.
+pub fn lowest_below(w: &[u64; 16], past: usize) -> Lowest
+    requires { ⌜ (past ≤ 1024) × ((b : ℕ) → member (now w) b ≡ true → b < past) ⌝ }
+    ensures { λ r. ⌜ LowestOf (now (w .entry)) r ⌝ }
+{
+    sixteen(w);
+    let words = (past + 63) / 64;
+    for i in 0..words {
+        let word = w[i];
+        if word != 0 {
+            return Lowest::At(64 * i + zeros_of(word));
+        }
+    }
+    Lowest::Nothing
+}
+
 // The lowest block from `from` on; there is none from `past` on.
 pub fn next_in(w: &[u64; 16], from: usize, past: usize) -> Lowest
     requires { ⌜ (past ≤ 1024) × ((b : ℕ) → member (now w) b ≡ true → b < past) ⌝ }

@@ -2,7 +2,7 @@
 use crate::blockset::BlockSet;
 use crate::blockset::Lowest;
 use crate::blockset::has_in;
-use crate::blockset::lowest_in;
+use crate::blockset::lowest_below;
 use crate::blockset::put_in;
 use crate::blockset::take_from;
 use crate::error::AddressBuildError;
@@ -90,13 +90,14 @@ fn walk(g: &Words, head: &[u16], next: &[u16]) -> BlockSet
     requires { ⌜ Ends (heldIn (now g) .graph) × Roomy (heldIn (now g) .graph) (now head) (now next) × Linked (heldIn (now g) .graph) (now head) (now next) 0 ⌝ }
     ensures { λ r. ⌜ Finds (heldIn (now (g .entry)) .graph) (r .words) ⌝ }
 {
+    let blocks = block_count(g);
     let start = entry(g) as usize;
     let mut seen = [0u64; 16];
     let mut pending = [0u64; 16];
     put_in(&mut seen, start);
     put_in(&mut pending, start);
     loop {
-        let Lowest::At(b) = lowest_in(&pending) else {
+        let Lowest::At(b) = lowest_below(&pending, blocks) else {
             return BlockSet { words: seen };
         };
         take_from(&mut pending, b);

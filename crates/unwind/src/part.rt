@@ -6,7 +6,7 @@ use crate::tries::store::node_in;
 use crate::tries::store::number_in;
 use graph::blockset::Lowest;
 use graph::blockset::has_in;
-use graph::blockset::lowest_in;
+use graph::blockset::lowest_below;
 use graph::blockset::put_in;
 use graph::blockset::take_from;
 use graph::store::Words;
@@ -128,11 +128,12 @@ pub fn part_of(
     requires { ⌜ Stands (heldIn (now g) .graph) × Roomy (heldIn (now g) .graph) (now head) (now next) × Linked (heldIn (now g) .graph) (now head) (now next) 0 × (start < length (heldIn (now g) .graph .blocks)) × (isBuilt (heldIn (now g) .graph) start ≡ true) × (16 * i + 16 ≤ length (now parts)) × (setAt (now parts) i ≡ none) ⌝ }
     ensures { λ _. ⌜ PartFrom (heldIn (now (g .entry)) .graph) (now (barriers .entry)) start (setAt (now (parts .exit)) i) × SetChanged (now (parts .entry)) i (now (parts .exit)) ⌝ }
 {
+    let blocks = block_count(g);
     let mut pending = [0u64; 16];
     put_block(parts, i, start);
     put_in(&mut pending, start);
     loop {
-        let Lowest::At(b) = lowest_in(&pending) else {
+        let Lowest::At(b) = lowest_below(&pending, blocks) else {
             return;
         };
         take_from(&mut pending, b);
