@@ -25,10 +25,10 @@ pub fn add_checked(
     requires { ⌜ RoutesChecked (heldIn (now g)) built (routesIn (now s) y) × RoutesThere (now s) y ⌝ }
     ensures { λ r. ⌜ Adds (routesIn (now (s .entry)) y) (now (g .entry)) (now (g .exit)) (now (h .entry)) (now (h .exit)) r ⌝ }
 {
-    if !is_small(g) {
+    if !is_small(g, 64, 256) {
         return add_to_any(g, built, s, y, h);
     }
-    if is_few(y, 6, 6, 2) {
+    if is_few(y, 3, 2, 1) & is_small(g, 16, 32) {
         return add_tiny(g, built, s, y, h);
     }
     if is_few(y, 32, 16, 4) {
@@ -51,11 +51,11 @@ fn add_to_any(g: &mut Words, built: usize, s: &[u8], y: RouteLayout, h: &mut Hop
     add_full(g, built, s, y, h)
 }
 
-// Whether a graph has few blocks and edges.
-fn is_small(g: &Words) -> bool
-    ensures { λ r. ⌜ (r ≡ true → Small (heldIn (now (g .entry)) .graph) 64 256) ⌝ }
+// Whether a graph has no more than so many blocks and edges.
+fn is_small(g: &Words, blocks: usize, edges: usize) -> bool
+    ensures { λ r. ⌜ (r ≡ true → Small (heldIn (now (g .entry)) .graph) blocks edges) ⌝ }
 {
-    (block_count(g) <= 64) & (edge_count(g) <= 256)
+    (block_count(g) <= blocks) & (edge_count(g) <= edges)
 }
 
 // Whether routes have no more than so many steps, paths and routes.
@@ -65,25 +65,25 @@ fn is_few(y: RouteLayout, steps: u32, paths: u32, routes: u32) -> bool
     (y.steps.count <= steps) & (y.paths.count <= paths) & (y.routes.count <= routes)
 }
 
-// Very few routes, to a small graph.
+// Very few routes, to a very small graph.
 fn add_tiny(g: &mut Words, built: usize, s: &[u8], y: RouteLayout, h: &mut Hops) -> AddedRoutes
-    requires { ⌜ RoutesChecked (heldIn (now g)) built (routesIn (now s) y) × Few y 6 6 2 × Small (heldIn (now g) .graph) 64 256 × RoutesThere (now s) y ⌝ }
+    requires { ⌜ RoutesChecked (heldIn (now g)) built (routesIn (now s) y) × Few y 3 2 1 × Small (heldIn (now g) .graph) 16 32 × RoutesThere (now s) y ⌝ }
     ensures { λ r. ⌜ Adds (routesIn (now (s .entry)) y) (now (g .entry)) (now (g .exit)) (now (h .entry)) (now (h .exit)) r ⌝ }
 {
-    let mut starts = [0u16; 7];
-    let mut nodes = [0u16; 48];
-    let mut edges = [0u16; 18];
-    let mut ends = [0u16; 18];
-    let mut stack = [0u16; 18];
-    let mut roots = [0u16; 2];
-    let mut head = [0u16; 64];
-    let mut next = [0u16; 256];
-    let mut bases = [0u16; 8];
-    let mut heads = [0u16; 8];
-    let mut parts = [0u64; 128];
-    let mut guards = [0u64; 32];
-    let mut landings = [0u16; 6];
-    let mut exits = [0u16; 72];
+    let mut starts = [0u16; 3];
+    let mut nodes = [0u16; 24];
+    let mut edges = [0u16; 9];
+    let mut ends = [0u16; 6];
+    let mut stack = [0u16; 9];
+    let mut roots = [0u16; 1];
+    let mut head = [0u16; 16];
+    let mut next = [0u16; 32];
+    let mut bases = [0u16; 4];
+    let mut heads = [0u16; 4];
+    let mut parts = [0u64; 64];
+    let mut guards = [0u64; 16];
+    let mut landings = [0u16; 2];
+    let mut exits = [0u16; 30];
     add_framed(
         g,
         built,
@@ -107,7 +107,7 @@ fn add_tiny(g: &mut Words, built: usize, s: &[u8], y: RouteLayout, h: &mut Hops)
     )
 }
 
-// Few of them.
+// Few routes, to a small graph.
 fn add_small(g: &mut Words, built: usize, s: &[u8], y: RouteLayout, h: &mut Hops) -> AddedRoutes
     requires { ⌜ RoutesChecked (heldIn (now g)) built (routesIn (now s) y) × Few y 32 16 4 × Small (heldIn (now g) .graph) 64 256 × RoutesThere (now s) y ⌝ }
     ensures { λ r. ⌜ Adds (routesIn (now (s .entry)) y) (now (g .entry)) (now (g .exit)) (now (h .entry)) (now (h .exit)) r ⌝ }

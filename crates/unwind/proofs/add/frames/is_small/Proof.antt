@@ -10,12 +10,13 @@ use Rattle.unwind.proofs.add.frames.is_small.Tie as tie
 returns : tie.Need-returns
 returns c =
     λ e.
+    let a = c .before .before .args in
     let blocks = c .before .block-count in
     let edges = c .edge-count in
-    let both = and-both (leb (blocks .result) 64) (leb (edges .result) 256) e in
+    let both = and-both (leb (blocks .result) (a .blocks)) (leb (edges .result) (a .edges)) e in
     record {
-      blocks-few = omega (arith, blocks .ensures, leb-true (blocks .result) 64 (both .0));
-      edges-few = omega (arith, edges .ensures, leb-true (edges .result) 256 (both .1));
+      blocks-few = omega (arith, blocks .ensures, leb-true (blocks .result) (a .blocks) (both .0));
+      edges-few = omega (arith, edges .ensures, leb-true (edges .result) (a .edges) (both .1));
     }
 
 pub is-small-spec : {M : Type 1} → statement M
