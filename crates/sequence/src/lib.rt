@@ -43,6 +43,7 @@ fn build_layout(s: &[u8], y: Layout, g: &mut Words, h: &mut Hops) -> Sequence
     requires { ⌜ (read (imageIn (now s) y) ≡ readImage (now s)) × ImageThere (now s) y ⌝ }
     ensures { λ r. ⌜ Gives (now (s .entry)) (now (g .entry)) (now (g .exit)) (now (h .entry)) (now (h .exit)) r ⌝ }
 {
+    let routes = y.routes;
     if let Built::Refused(e) = build_read(s, y, g) {
         return Sequence::Refused(e);
     }
@@ -51,7 +52,7 @@ fn build_layout(s: &[u8], y: Layout, g: &mut Words, h: &mut Hops) -> Sequence
         return Sequence::Whole;
     }
     let built = block_count(g);
-    match add_checked(g, built, s, y.routes, h) {
+    match add_checked(g, built, s, routes, h) {
         AddedRoutes::Refused(e) => Sequence::Unrouted(e),
         AddedRoutes::Stored => Sequence::Whole,
     }
