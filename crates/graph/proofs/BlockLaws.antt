@@ -305,20 +305,7 @@ pub record Anded (u v w : List ℕ) (i : ℕ) : Type 0 where
   pub done : (k : ℕ) → k < i → getD w k 0 ≡ bitAnd (getD u k 0) (getD v k 0)
 
 module _ (u v : List ℕ) where
-  pub anded-none : Anded u v none 0
-  anded-none = record { long = refl; done = λ k h. absurd (not-suc-le-zero h) }
-
   module _ (w : List ℕ) (i : ℕ) (x : Anded u v w i) where
-    pub anded-more : i < 16 → Anded u v (set w i (bitAnd (getD u i 0) (getD v i 0))) (i + 1)
-    anded-more h =
-        record {
-          long = length-set w i _ ∙ x .long;
-          done =
-              below-more (λ (k : ℕ). getD (set w i (bitAnd (getD u i 0) (getD v i 0))) k 0 ≡ bitAnd (getD u k 0) (getD v k 0)) i
-              (λ k lt. getD-set-other w i k _ 0 (omega arith) ∙ x .done k lt)
-              (getD-set-same w i _ 0 (omega (arith, x .long)));
-        }
-
     -- all words passed
     pub anded-all : length u ≡ 16 → 16 ≤ i → Common u v w
     unfolding member

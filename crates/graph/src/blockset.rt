@@ -6,7 +6,7 @@ ghost use lib.Count.{ones, trailingZeros};
 ghost use lib.Dec.{ltb};
 ghost use lib.ListN.{length};
 ghost use Rattle.graph.specs.Fold.{count};
-ghost use Rattle.graph.specs.BlockSet.{member, none, including, excluding, Union, Common, sizeOf, LowestOf, LowestFrom};
+ghost use Rattle.graph.specs.BlockSet.{member, none, including, excluding, Union, sizeOf, LowestOf, LowestFrom};
 ghost use Rattle.graph.specs.WellFormed.{within};
 
 pub struct BlockSet {
@@ -91,18 +91,6 @@ pub fn add_all(w: &mut [u64; 16], v: &[u64; 16])
     for i in 0..16 {
         w[i] = w[i] | v[i];
     }
-}
-
-// The blocks of both.
-pub fn common_of(u: &[u64; 16], v: &[u64; 16]) -> [u64; 16]
-    ensures { λ r. ⌜ Common (now (u .entry)) (now (v .entry)) r ⌝ }
-{
-    sixteen(u);
-    let mut w = [0u64; 16];
-    for i in 0..16 {
-        w[i] = u[i] & v[i];
-    }
-    w
 }
 
 // How many blocks there are, by counting ones.

@@ -1,4 +1,5 @@
 -- Blocks in a row with the same ways out.
+--     or-none, and-digit           digits of an or and of an and
 --     steady-none, steady-more     the sets, one by one
 --     steady-returns               what parts and the blocks that return have in common
 --     Marked, marks-none, marks-more, marks-turning    the words, one by one
@@ -44,7 +45,7 @@ use Rattle.unwind.proofs.LentLaws.{map-table}
 
 -- ---- bits
 
-or-none : (a b j : ℕ) → bitOr a b / 2 ^ j % 2 ≡ 0 → (a / 2 ^ j % 2 ≡ 0) × (b / 2 ^ j % 2 ≡ 0)
+pub or-none : (a b j : ℕ) → bitOr a b / 2 ^ j % 2 ≡ 0 → (a / 2 ^ j % 2 ≡ 0) × (b / 2 ^ j % 2 ≡ 0)
 or-none a b j e =
     let none : bit (bitOr a b) j ≡ 0 = sym (bit-shift (bitOr a b) j) ∙ e in
     let p : bit a j ≡ 0 = omega (arith, bit-or a b j) in
@@ -68,7 +69,7 @@ turn-none x j e =
     ∙ bit-half x j
     ∙ sym (bit-shift x (suc j)))
 
-and-digit : (x y j : ℕ) → bitAnd x y / 2 ^ j % 2 ≡ min (x / 2 ^ j % 2) (y / 2 ^ j % 2)
+pub and-digit : (x y j : ℕ) → bitAnd x y / 2 ^ j % 2 ≡ min (x / 2 ^ j % 2) (y / 2 ^ j % 2)
 and-digit x y j =
     let last : bitAnd (x / 2 ^ j) (y / 2 ^ j) % 2 ≡ min (x / 2 ^ j % 2) (y / 2 ^ j % 2) = omega (arith, and-step (x / 2 ^ j) (y / 2 ^ j)) in
     ap (λ (n : ℕ). n % 2) (and-shr x y j) ∙ last

@@ -8,10 +8,12 @@
 --     fit-own, held-own            what they are
 --     held-below, held-then        stores behind others
 --     step-is, fit-step            one source more behind hops that there were
+--     fit-block, held-step, held-quiet     one block more
+--     held-on, held-here           stores behind stores, and what stands
 -- Assumes nothing.
 use mathlib.Core.Path.{_≡_, refl, sym, ap, _∙_, subst}
 use mathlib.Core.Logic.{_⊎_, inl, inr}
-use mathlib.Core.List.{List, [], _∷_, _++_, append-assoc, List·Memᴰ·append-cases, List·Memᴰ·eq-of-singleton}
+use mathlib.Core.List.{List, [], _∷_, _++_, append-nil, append-assoc, List·Memᴰ·append-cases, List·Memᴰ·eq-of-singleton}
 use Prim.Native.Nat.{ℕ, zero, suc, _+_, _-_, _≤_, _<_}
 use native.Mathlib.Omega.{arith}
 use lib.ListN.{length, length-append}
@@ -129,3 +131,24 @@ fit-step hs f o n h fit =
     let all = sym (ap (flat f) e) ∙ flat-split f (o + 1) (n - (o + 1)) in
     let rest = flat (λ j. f (o + 1 + j)) (n - (o + 1)) in
     subst HopsFit (sym (step-is hs f o)) (fit-front (hs ++ flat f (o + 1)) rest (subst HopsFit (ap (λ (t : List Hop). hs ++ t) all ∙ sym (append-assoc hs (flat f (o + 1)) rest)) fit))
+
+-- ---- one block after the other
+
+module _ (f : ℕ → List Hop) (b : ℕ) where
+  pub fit-block : (n : ℕ) {own : List Hop} → own ≡ f b → b < n → HopsFit (flat f n) → HopsFit (flat f b ++ own)
+  fit-block n e h fit = fit-own (flat f b) e (fit-step [] f b n h fit)
+
+  module _ {m : RouteImage} {l l′ : List ℕ} where
+    pub held-step : {own : List Hop} → own ≡ f b → HopsHeld m (b + 1) l l′ (flat f b ++ own) → HopsHeld m (b + 1) l l′ (flat f (b + 1))
+    held-step e p = subst (HopsHeld m (b + 1) l l′) (sym (flat-more f b)) (held-own (flat f b) e p)
+
+    pub held-quiet : f b ≡ [] → HopsHeld m b l l′ (flat f b) → HopsHeld m (b + 1) l l′ (flat f (b + 1))
+    held-quiet e p = subst (HopsHeld m (b + 1) l l′) (sym (flat-more f b ∙ ap (λ (t : List Hop). flat f b ++ t) e ∙ append-nil (flat f b))) (held-up (b + 1) p (omega arith))
+
+-- the hops of all words that were stored in turn
+pub held-on : {m : RouteImage} {b d : ℕ} {l l₁ l₂ : List ℕ} {hs ks : List Hop} → HopsHeld m b l l₁ hs → HopsHeld m d l₁ l₂ ks → HopsHeld m d l l₂ ks
+held-on p q = record { holds = q .holds; order = q .order; below = q .below; uses = λ k u. p .uses k (q .uses k u); kept = λ k u. q .kept k u ∙ p .kept k (q .uses k u) }
+
+-- as they stand, behind no store
+pub held-here : {m : RouteImage} {b : ℕ} {l l′ : List ℕ} {hs : List Hop} → HopsHeld m b l l′ hs → HopsHeld m b l′ l′ hs
+held-here p = record { holds = p .holds; order = p .order; below = p .below; uses = λ k u. u; kept = λ k u. refl }

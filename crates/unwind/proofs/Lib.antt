@@ -61,4 +61,5 @@ pub mod FrameLaws
 pub mod MemberLaws
 pub mod ReturnLaws
 pub mod AlikeLaws
+pub mod BusyLaws
 pub mod BlockLoop

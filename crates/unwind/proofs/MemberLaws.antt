@@ -1,26 +1,25 @@
 -- Blocks gone over by the members of a set: the others give nothing.
---     flat-quiet                   f gives nothing from k on
---     Walked, walked-start, walked-here, walked-below, walked-next, walked-less     the members below k are gone over
+--     flat-quiet, held-over        f gives nothing from k on
+--     Walked, walked-start, walked-here, walked-below, walked-next     the members below k are gone over
+--     summed-over, summed-quiet    blocks more that give nothing, and one
 --     SetCounting, counting-start, counting-few, counting-next, counting-end     the hops of members, counted
 --     SetHolding, holding-start, holding-here, holding-fit, holding-next, holding-end     and stored
 --     LowestIs, in-set             a set as it is read
 --     copy-rank, copy-rises, copy-more     the number of a copy by the members below
 --     copy-here, copy-quiet        the hops out of a copy, and of a block from which the node does not return
 --     sets-quiet, sets-below, sets-few, sets-number, sets-here, sets-more     the same by the sets of a node
---     joins-none, joins-more, joins-skip     one set more
---     returns-own, returns-not     the set of a node, if it has the original blocks
---     busy-joined                  the blocks that have a way out
+--     joins-none, joins-more       one set more
 --     routes-quiet                 no route gives a way out of a block that none guards
---     busy-quiet, busy-below       no hop goes out of the others, and they stood
 --     originals-none, originals-more, originals-skip     the nodes on the original blocks, one after the other
 --     originals-records            they give what all nodes give
+--     busy-quiet                   no hop goes out of a block that is not busy
 --     nodes-sets, block-sets       the sets of nodes that are placed, and of routes
 -- Assumes nothing.
 use mathlib.Core.Path.{_≡_, refl, sym, ap, _∙_, subst}
-use mathlib.Core.Logic.{_⊎_, inl, inr, ⊎-elim}
-use mathlib.Core.Bool.{Bool, true, false, cond, _||_, or-comm, or-false, false≢true}
+use mathlib.Core.Logic.{_⊎_, ⊎-elim}
+use mathlib.Core.Bool.{Bool, true, false, cond, _||_, false≢true}
 use mathlib.Core.List.{List, [], _++_, append-nil}
-use Prim.Native.Nat.{ℕ, zero, suc, _+_, _*_, _/_, _≤_, _<_}
+use Prim.Native.Nat.{ℕ, zero, suc, _+_, _*_, _/_, _%_, _^_, _≤_, _<_}
 use native.Mathlib.Nat.{not-suc-le-zero}
 use native.Mathlib.Numerals.{add-one}
 use native.Mathlib.Decide.{ℕ-discrete, decLt}
@@ -34,9 +33,9 @@ use Rattle.image.specs.Deal.{routesOf}
 use Rattle.graph.specs.Graph.{Graph}
 use Rattle.graph.specs.Fold.{flat, some, count}
 use Rattle.graph.specs.Route.{routeAt}
-use Rattle.graph.specs.BlockSet.{member, none, excluding, sizeOf, Union}
-use Rattle.graph.proofs.FoldLaws.{decided, some-none, some-where, flat-none, flat-same, flat-more, count-yes, count-no}
-use Rattle.graph.proofs.BlockLaws.{member-none, member-excluding, length-excluding, size-excluding}
+use Rattle.graph.specs.BlockSet.{member, none, excluding, Union}
+use Rattle.graph.proofs.FoldLaws.{decided, some-none, flat-none, flat-same, flat-more, count-yes, count-no}
+use Rattle.graph.proofs.BlockLaws.{member-none, member-excluding, length-excluding}
 use Rattle.unwind.specs.declared.emit.count.Sizes.{Sizes}
 use Rattle.unwind.specs.declared.tries.store.Counts.{Counts}
 use Rattle.addition.specs.Order.{sorted}
@@ -48,14 +47,14 @@ use Rattle.unwind.specs.Sources.{Exit, compareExits, hopsOn}
 use Rattle.unwind.specs.Placed.{setAt}
 use Rattle.unwind.specs.Gather.{inSet, recordExits, routeRecords, returnRecords, nodeRecords}
 use Rattle.unwind.specs.Lent.{Sides, blockRecords, blockHops}
-use Rattle.unwind.specs.Sizes.{HopsSize, sizesBoth}
+use Rattle.unwind.specs.Sizes.{HopsSize, Summed, sizesBoth}
 use Rattle.unwind.specs.Copies.{copyNumber, hopsFrom, hopsIf, copyHops, SumSize}
 use Rattle.unwind.specs.HopWords.{HopsHeld, HopsFit, ReturnsWithin}
-use Rattle.unwind.specs.Members.{NodeSets, NodesSets, originalReturns, Joins, Busy, BlockSets, Originals}
-use Rattle.addition.proofs.Lists.{and-both, keep-mem, among-mem}
+use Rattle.unwind.specs.Members.{NodeSets, NodesSets, Joins, BlockSets, Originals, BusyIn}
+use Rattle.addition.proofs.Lists.{keep-mem, among-mem}
 use Rattle.addition.proofs.Accepted.{guarded-mem}
 use Rattle.addition.proofs.Instance.{blocks-lt}
-use Rattle.unwind.proofs.SizeLaws.{Summed, summed-none, summed-more}
+use Rattle.unwind.proofs.SizeLaws.{summed-none, summed-more}
 use Rattle.unwind.proofs.SlotLaws.{set-run}
 use Rattle.unwind.proofs.PlaceLaws.{rank-most}
 use Rattle.unwind.proofs.PoolLaws.{node-own, node-copy, node-off, set-none}
@@ -72,6 +71,10 @@ flat-quiet {A} f k (suc n) h none =
           ∙ append-nil (flat f n)
           ∙ flat-quiet f k n (omega arith) (λ c a b. none c a (omega arith))
     ]
+
+-- hops that stand, and blocks behind them that give none
+pub held-over : {m : RouteImage} (f : ℕ → List Hop) (b d : ℕ) {l l′ : List ℕ} → b ≤ d → ((c : ℕ) → b ≤ c → c < d → f c ≡ []) → HopsHeld m b l l′ (flat f b) → HopsHeld m d l l′ (flat f d)
+held-over {m} f b d {l} {l′} h none p = subst (HopsHeld m d l l′) (sym (flat-quiet f b d h none)) (held-up d p h)
 
 -- ---- a set that is gone over
 
@@ -119,9 +122,6 @@ module _ {w left : List ℕ} {blocks k : ℕ} (p : Walked w left blocks k) (o : 
         rest = λ c h. member-excluding left (p .long) o c ∙ rw (ne-eqb o c (λ e. omega arith)) (p .rest c (omega (arith, reached)));
       }
 
-  pub walked-less : sizeOf (excluding left o) < sizeOf left
-  walked-less = omega (arith, size-excluding left (p .long) o (low .0) (low .1))
-
 module _ (f : ℕ → List Hop) (w : List ℕ) (quiet : (c : ℕ) → member w c ≡ false → f c ≡ []) {left : List ℕ} {blocks k : ℕ} (p : Walked w left blocks k) where
   flat-here : (o : ℕ) → LowestIs left o → flat f o ≡ flat f k
   flat-here o low = flat-quiet f k o (reached p o low) (λ c a b. quiet c (between p o low c a b))
@@ -142,6 +142,12 @@ counting-start f w blocks long below = record { at = 0; walked = walked-start w 
 summed-up : (f : ℕ → List Hop) (k n : ℕ) {z : Sizes} → k ≤ n → flat f n ≡ flat f k → Summed f k 65536 z → Summed f n 65536 z
 summed-up f k n {z} h e s =
     record { hops = omega (arith, s .hops); lists = omega (arith, s .lists); blocks = omega (arith, s .blocks); of = subst (λ (t : List Hop). HopsSize t z) (sym e) (s .of) }
+
+pub summed-over : (f : ℕ → List Hop) (b d : ℕ) {z : Sizes} → b ≤ d → ((c : ℕ) → b ≤ c → c < d → f c ≡ []) → Summed f b 65536 z → Summed f d 65536 z
+summed-over f b d h none s = summed-up f b d h (flat-quiet f b d h none) s
+
+pub summed-quiet : (f : ℕ → List Hop) (b : ℕ) {z : Sizes} → f b ≡ [] → Summed f b 65536 z → Summed f (b + 1) 65536 z
+summed-quiet f b e s = summed-up f b (b + 1) (omega arith) (flat-more f b ∙ ap (λ (t : List Hop). flat f b ++ t) e ∙ append-nil (flat f b)) s
 
 pub counting-few : {f : ℕ → List Hop} {w left : List ℕ} {blocks : ℕ} {z : Sizes} → SetCounting f w blocks left z → blocks ≤ 1024 → (z .hops ≤ 67108864) × (z .lists ≤ 67108864) × (z .blocks ≤ 67108864)
 counting-few p few =
@@ -277,65 +283,11 @@ module _ (f : ℕ → ℕ → Bool) where
     unfolding some
     joins-more v is u = record { has = λ b. u b ∙ (λ t. p .has b t || sym (is b) t) ∙ ap (some (λ i. f i b)) (sym (add-one n)) }
 
-    pub joins-skip : ((b : ℕ) → f n b ≡ false) → Joins f (n + 1) w
-    unfolding some
-    joins-skip lacks =
-        record { has = λ b. p .has b ∙ sym (or-false (some (λ i. f i b) n)) ∙ ap (λ (t : Bool). some (λ i. f i b) n || t) (sym (lacks b)) ∙ ap (some (λ i. f i b)) (sym (add-one n)) }
-
-pub busy-joined : (guards : List ℕ) (routes : ℕ) (bases returns : List ℕ) (n : ℕ) {u v w : List ℕ} → Joins (λ r b. inSet guards r b) routes u → Joins (originalReturns bases returns) n v → Union v u w → length w ≡ 16 → Busy guards routes bases returns n w
-busy-joined guards routes bases returns n {u} {v} p q both long =
-    record { long = long; has = λ b. both b ∙ or-comm (member v b) (member u b) ∙ (λ t. p .has b t || q .has b t) }
-
-module _ (bases returns : List ℕ) (i : ℕ) where
-  pub returns-own : getD bases i 0 ≡ 0 → 16 * i + 16 ≤ length returns → (b : ℕ) → originalReturns bases returns i b ≡ member (setAt returns i) b
-  unfolding originalReturns
-  returns-own e fit b = rw (eq-eqb (getD bases i 0) 0 e) (in-set returns i b fit)
-
-  pub returns-not : (getD bases i 0 ≡ 0 → ⊥) → (b : ℕ) → originalReturns bases returns i b ≡ false
-  unfolding originalReturns
-  returns-not n b = rw (ne-eqb (getD bases i 0) 0 n)
-
-neither : (x y : Bool) → (x || y) ≡ false → (x ≡ false) × (y ≡ false)
-neither true y e = absurd (false≢true (sym e))
-neither false y e = (refl, e)
-
-either : (x y : Bool) → (x || y) ≡ true → (x ≡ true) ⊎ (y ≡ true)
-either true y e = inl refl
-either false y e = inr e
-
 pub routes-quiet : (m : RouteImage) (b : ℕ) (nodes edges ends heads landings roots guards : List ℕ) (routes : ℕ) → some (λ r. inSet guards r b) routes ≡ false → flat (routeRecords m b edges ends heads landings nodes roots guards) routes ≡ []
 unfolding routeRecords
 routes-quiet m b nodes edges ends heads landings roots guards routes none =
     flat-none (routeRecords m b edges ends heads landings nodes roots guards) routes
     (λ r h. ap (λ (t : Bool). cond t (recordExits m b edges ends heads landings (recordIn nodes (getD roots r 0))) []) (some-none (λ k. inSet guards k b) routes none r h))
-
-module _ (m : RouteImage) (nodes edges ends heads landings roots guards bases returns : List ℕ) (c : Counts) (routes : ℕ) (is : length (m .routes) ≡ routes) (w : List ℕ) (busy : Busy guards routes bases returns (c .nodes) w) where
-  module _ (b : ℕ) (out : member w b ≡ false) where
-    none-of : (some (λ r. inSet guards r b) routes ≡ false) × (some (λ i. originalReturns bases returns i b) (c .nodes) ≡ false)
-    none-of = neither _ _ (sym (busy .has b) ∙ out)
-
-    node-quiet : (i : ℕ) → i < c .nodes → nodeRecords m b edges ends heads landings nodes bases returns i ≡ []
-    unfolding nodeRecords originalReturns
-    node-quiet i h =
-        ap (λ (t : Bool). cond t (recordExits m b edges ends heads landings (recordIn nodes i)) []) (some-none (λ i. originalReturns bases returns i b) (c .nodes) (none-of .1) i h)
-
-    records-quiet : blockRecords m b nodes edges ends heads landings roots guards bases returns c ≡ []
-    unfolding blockRecords
-    records-quiet =
-        (λ t. (ap (flat (routeRecords m b edges ends heads landings nodes roots guards)) is ∙ routes-quiet m b nodes edges ends heads landings roots guards routes (none-of .0)) t
-        ++ flat-none (nodeRecords m b edges ends heads landings nodes bases returns) (c .nodes) node-quiet t)
-
-    pub busy-quiet : blockHops m nodes edges ends heads landings roots guards bases returns c b ≡ []
-    unfolding blockHops hopsOn sorted
-    busy-quiet = ap (λ (xs : List Exit). hopsOn [] (sorted compareExits xs)) records-quiet
-
-  pub busy-below : (blocks : ℕ) → BlockSets guards returns blocks (length (m .routes)) (c .nodes) → (b : ℕ) → member w b ≡ true → b < blocks
-  unfolding originalReturns
-  busy-below blocks sets b e =
-      ⊎-elim
-      (λ g. let x = some-where (λ r. inSet guards r b) routes g in sets .guards-below (x .0) b (omega (arith, x .1, is)) (x .2))
-      (λ g. let x = some-where (λ i. originalReturns bases returns i b) (c .nodes) g in sets .returns-below (x .0) b (x .1) (and-both (eqb (getD bases (x .0) 0) 0) (inSet returns (x .0) b) (x .2) .1))
-      (either _ _ (sym (busy .has b) ∙ e))
 
 -- ---- nodes on the original blocks
 
@@ -383,6 +335,23 @@ originals-records m b nodes edges ends heads landings bases returns originals n 
     (λ i h. ⊎-elim
     (λ copies. sym (node-copy m b edges ends heads landings nodes bases returns i copies))
     (λ none. sym (node-off m b edges ends heads landings nodes bases returns i (set-none returns i b none)))))
+
+module _ (m : RouteImage) (nodes edges ends heads landings roots guards bases returns : List ℕ) (c : Counts) (routes : ℕ) (is : length (m .routes) ≡ routes) (guarded : List ℕ) (joined : Joins (λ r b. inSet guards r b) routes guarded) (originals : List ℕ) (listed w x : ℕ) (list : Originals bases returns originals (c .nodes) w listed) (busy : BusyIn guarded returns originals listed w x) (b : ℕ) (here : b / 64 ≡ w) (out : eqb (x / 2 ^ (b % 64) % 2) 1 ≡ false) where
+  listed-quiet : flat (λ k. returnRecords m b edges ends heads landings nodes returns (getD originals k 0)) listed ≡ []
+  unfolding returnRecords
+  listed-quiet =
+      flat-none (λ k. returnRecords m b edges ends heads landings nodes returns (getD originals k 0)) listed
+      (λ k h. ap (λ (t : Bool). cond t (recordExits m b edges ends heads landings (recordIn nodes (getD originals k 0))) []) (busy .unreturned b here out k h))
+
+  records-quiet : blockRecords m b nodes edges ends heads landings roots guards bases returns c ≡ []
+  unfolding blockRecords
+  records-quiet =
+      (λ t. (ap (flat (routeRecords m b edges ends heads landings nodes roots guards)) is ∙ routes-quiet m b nodes edges ends heads landings roots guards routes (sym (joined .has b) ∙ busy .unguarded b here out)) t
+      ++ (sym (originals-records m b nodes edges ends heads landings bases returns originals (c .nodes) listed (rw here list)) ∙ listed-quiet) t)
+
+  pub busy-quiet : blockHops m nodes edges ends heads landings roots guards bases returns c b ≡ []
+  unfolding blockHops hopsOn sorted
+  busy-quiet = ap (λ (xs : List Exit). hopsOn [] (sorted compareExits xs)) records-quiet
 
 -- ---- nodes that are placed
 

@@ -1,24 +1,22 @@
 -- The sets of the blocks from which nodes return: of each part the blocks that return.
 --     returns-long, returns-word   as many words as the parts have, and each of them
 --     returns-kept                 a set has what is kept of the list that its part has
---     joins-returns                what sets have together, by what parts have together
 --     records-here, records-none   what nodes give out of a block that returns, and out of one that does not
 -- Assumes nothing.
-use mathlib.Core.Path.{_≡_, refl, sym, ap, _∙_}
-use mathlib.Core.Bool.{Bool, true, false, cond, _&&_, _||_, and-true, and-false, and-assoc, and-or-distrib-right}
+use mathlib.Core.Path.{_≡_, sym, ap, _∙_}
+use mathlib.Core.Bool.{Bool, true, false, cond, _&&_, and-true, and-false}
 use mathlib.Core.List.{List, []}
-use Prim.Native.Nat.{ℕ, zero, suc, _+_, _*_, _%_, _≤_, _<_}
+use Prim.Native.Nat.{ℕ, _+_, _*_, _%_, _≤_, _<_}
 use native.Mathlib.Decide.{decLt}
 use native.Mathlib.Omega.{arith}
 use lib.Bits.{bitAnd}
-use lib.Dec.{eqb}
 use lib.ListN.{length, getD, List·getD-eq-default}
 use Rattle.image.specs.Image.{RouteImage}
 use Rattle.image.proofs.Tables.{table-in, table-past}
 use Rattle.graph.specs.Graph.{Graph}
-use Rattle.graph.specs.Fold.{some, flat}
+use Rattle.graph.specs.Fold.{flat}
 use Rattle.graph.specs.BlockSet.{member, Common}
-use Rattle.graph.proofs.FoldLaws.{length-table, getD-table, some-same, flat-none, flat-same}
+use Rattle.graph.proofs.FoldLaws.{length-table, getD-table, flat-none, flat-same}
 use Rattle.graph.proofs.BlockLaws.{anded-all}
 use Rattle.addition.specs.Lists.{keep}
 use Rattle.addition.specs.Part.{returning}
@@ -27,16 +25,10 @@ use Rattle.unwind.specs.PartSearch.{Returners, Exist}
 use Rattle.unwind.specs.Nodes.{recordIn}
 use Rattle.unwind.specs.Placed.{setAt, returnsIn}
 use Rattle.unwind.specs.Gather.{recordExits, inSet, returnRecords}
-use Rattle.unwind.specs.Members.{originalReturns, Joins}
 use Rattle.unwind.proofs.PartLaws.{common-returns}
 use Rattle.unwind.proofs.Sets.{returns-has}
 use Rattle.unwind.proofs.MemberLaws.{in-set}
 use Rattle.unwind.proofs.SlotLaws.{set-long}
-
-some-and : (f : ℕ → Bool) (z : Bool) (n : ℕ) → (some f n && z) ≡ some (λ i. f i && z) n
-unfolding some
-some-and f z zero = refl
-some-and f z (suc n) = and-or-distrib-right (some f n) (f n) z ∙ ap (λ (x : Bool). x || (f n && z)) (some-and f z n)
 
 module _ (parts returners : List ℕ) where
   abbrev returns : List ℕ
@@ -85,17 +77,6 @@ module _ (parts returners : List ℕ) where
 
   pub returns-kept : (g : Graph) (l : List ℕ) (i : ℕ) → Returners g returners → Exist g (setAt parts i) → Has (setAt parts i) l → Has (setAt returns i) (keep (returning g) l)
   returns-kept g l i all exist has = returns-has g l (setAt parts i) (setAt returns i) has (common-returns g (setAt parts i) returners (setAt returns i) (returns-common i) all exist)
-
-  pub joins-returns : (bases : List ℕ) (n : ℕ) {v w : List ℕ} → 16 * n ≤ length parts → Joins (originalReturns bases parts) n v → Common v returners w → Joins (originalReturns bases returns) n w
-  unfolding originalReturns
-  joins-returns bases n fit p both =
-      record {
-        has = λ b.
-            both b
-            ∙ ap (λ (t : Bool). t && member returners b) (p .has b)
-            ∙ some-and (λ i. originalReturns bases parts i b) (member returners b) n
-            ∙ some-same _ _ n (λ i h. and-assoc (eqb (getD bases i 0) 0) (inSet parts i b) (member returners b) ∙ ap (λ (t : Bool). eqb (getD bases i 0) 0 && t) (sym (returns-in i b (omega arith))));
-      }
 
   -- ---- what is gathered
 

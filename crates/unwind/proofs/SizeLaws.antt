@@ -2,12 +2,12 @@
 --     keep-all                     all are chosen
 --     lastEnd, last-next, size-none, size-next    entries counted one after the other
 --     sizes-both, sizes-more       of two lists of hops, and of many
---     Summed, summed-none, summed-more     and how much they come to at most
+--     summed-none, summed-more     and how much they come to at most
 --     then-same, then-leave, then-block, then-most    one entry more
 use mathlib.Core.Path.{_≡_, refl, sym, _∙_, ap}
 use mathlib.Core.Bool.{Bool, true, false, cond}
 use mathlib.Core.List.{List, [], _∷_, _++_}
-use Prim.Native.Nat.{ℕ, zero, suc, _+_, _*_, _≤_, _<_}
+use Prim.Native.Nat.{ℕ, zero, suc, _+_, _≤_, _<_}
 use native.Mathlib.Numerals.{add-one}
 use native.Mathlib.Omega.{arith}
 use borrow.Author.Tests.{eq-eqb, ne-eqb}
@@ -23,7 +23,7 @@ use Rattle.unwind.specs.Nodes.{branchIn}
 use Rattle.addition.specs.Ways.{block, leave, Hop, Leap, compareLeaps}
 use Rattle.unwind.specs.Sources.{Exit, hopsThen, hopsOn, toBlock}
 use Rattle.unwind.specs.Entries.{endIn, exitIn, exitsIn}
-use Rattle.unwind.specs.Sizes.{HopsSize, sizesThen, sizesBoth}
+use Rattle.unwind.specs.Sizes.{HopsSize, Summed, sizesThen, sizesBoth}
 use Rattle.unwind.proofs.TrieKeys.{joined-append}
 use Rattle.unwind.proofs.TrieOrder.{number-eq}
 use Rattle.unwind.proofs.Sources.{hops-then, lists-then, number-one, number-then}
@@ -150,13 +150,6 @@ sizes-none f = record { hops = refl; lists = refl; blocks = refl }
 
 sizes-more : (f : ℕ → List Hop) (b : ℕ) (p q : Sizes) → HopsSize (flat f b) p → HopsSize (f b) q → HopsSize (flat f (b + 1)) (sizesBoth p q)
 sizes-more f b p q x y = rw (flat-more f b) (sizes-both (flat f b) (f b) p q x y)
-
--- as many as n times w at most
-pub record Summed (f : ℕ → List Hop) (n w : ℕ) (z : Sizes) : Type 0 where
-  pub hops : z .hops ≤ n * w
-  pub lists : z .lists ≤ n * w
-  pub blocks : z .blocks ≤ n * w
-  pub of : HopsSize (flat f n) z
 
 pub summed-none : (f : ℕ → List Hop) (w : ℕ) → Summed f 0 w (record { hops = 0; lists = 0; blocks = 0 })
 summed-none f w = record { hops = omega arith; lists = omega arith; blocks = omega arith; of = sizes-none f }

@@ -29,3 +29,4 @@ pub mod Answers
 pub mod Frames
 pub mod Members
 pub mod Alike
+pub mod Blockwise

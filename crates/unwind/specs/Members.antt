@@ -1,9 +1,9 @@
 -- The sets of blocks that hops are gathered from, read as sixteen words each.
 use mathlib.Core.Path.{_≡_}
 use mathlib.Core.Logic.{_⊎_}
-use mathlib.Core.Bool.{Bool, true, _&&_, _||_}
+use mathlib.Core.Bool.{Bool, true, false}
 use mathlib.Core.List.{List, []}
-use Prim.Native.Nat.{ℕ, _+_, _*_, _≤_, _<_}
+use Prim.Native.Nat.{ℕ, _+_, _*_, _/_, _%_, _^_, _≤_, _<_}
 use lib.Dec.{eqb}
 use lib.ListN.{length, getD}
 use Rattle.graph.specs.Fold.{flat, some}
@@ -23,18 +23,9 @@ pub record NodesSets (parts returns : List ℕ) (blocks n : ℕ) : Type 0 where
 
 -- ---- the blocks that have a way out
 
--- node i has the original blocks and returns from b
-unfoldable pub originalReturns : List ℕ → List ℕ → ℕ → ℕ → Bool
-originalReturns bases returns i b = eqb (getD bases i 0) 0 && inSet returns i b
-
 -- w has the blocks of each of the first n sets
 pub record Joins (f : ℕ → ℕ → Bool) (n : ℕ) (w : List ℕ) : Type 0 where
   pub has : (b : ℕ) → member w b ≡ some (λ i. f i b) n
-
--- w has the blocks that one of the routes guards, or that one of the first n nodes returns from, on the original blocks
-pub record Busy (guards : List ℕ) (routes : ℕ) (bases returns : List ℕ) (n : ℕ) (w : List ℕ) : Type 0 where
-  pub long : length w ≡ 16
-  pub has : (b : ℕ) → member w b ≡ (some (λ r. inSet guards r b) routes || some (λ i. originalReturns bases returns i b) n)
 
 -- the sets of the routes and of the first n nodes stand in the slices, and have the first `blocks` blocks alone
 pub record BlockSets (guards returns : List ℕ) (blocks routes n : ℕ) : Type 0 where
@@ -52,3 +43,8 @@ pub record Originals (bases returns originals : List ℕ) (n w count : ℕ) : Ty
   pub within : (k : ℕ) → k < count → getD originals k 0 < n
   pub original : (k : ℕ) → k < count → getD bases (getD originals k 0) 0 ≡ 0
   pub all : (f : ℕ → List Exit) → ((i : ℕ) → i < n → (getD bases i 0 ≡ 0 → ⊥) ⊎ (getD returns (16 * i + w) 0 ≡ 0) → f i ≡ []) → flat f n ≡ flat (λ k. f (getD originals k 0)) count
+
+-- a block of word w that word x has not is guarded by no route, and none of the listed nodes returns from it
+pub record BusyIn (guarded returns originals : List ℕ) (listed w x : ℕ) : Type 0 where
+  pub unguarded : (b : ℕ) → b / 64 ≡ w → eqb (x / 2 ^ (b % 64) % 2) 1 ≡ false → member guarded b ≡ false
+  pub unreturned : (b : ℕ) → b / 64 ≡ w → eqb (x / 2 ^ (b % 64) % 2) 1 ≡ false → (k : ℕ) → k < listed → inSet returns (getD originals k 0) b ≡ false

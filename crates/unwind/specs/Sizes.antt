@@ -2,10 +2,11 @@
 use mathlib.Core.Path.{_≡_}
 use mathlib.Core.Bool.{cond}
 use mathlib.Core.List.{List, []}
-use Prim.Native.Nat.{ℕ, _+_, _≤_}
+use Prim.Native.Nat.{ℕ, _+_, _*_, _≤_}
 use lib.Dec.{eqb}
 use lib.ListN.{length}
 use Rattle.image.specs.Image.{RouteImage}
+use Rattle.graph.specs.Fold.{flat}
 use Rattle.unwind.specs.declared.emit.count.Sizes.{Sizes}
 use Rattle.addition.specs.Lists.{keep, joined}
 use Rattle.addition.specs.Ways.{Hop}
@@ -36,3 +37,10 @@ sizesThen z last end =
 -- of two lists of hops, one behind the other
 abbrev pub sizesBoth : Sizes → Sizes → Sizes
 sizesBoth p q = record { hops = p .hops + q .hops; lists = p .lists + q .lists; blocks = p .blocks + q .blocks }
+
+-- of what f gives for each number below n, as many as n times w at most
+pub record Summed (f : ℕ → List Hop) (n w : ℕ) (z : Sizes) : Type 0 where
+  pub hops : z .hops ≤ n * w
+  pub lists : z .lists ≤ n * w
+  pub blocks : z .blocks ≤ n * w
+  pub of : HopsSize (flat f n) z

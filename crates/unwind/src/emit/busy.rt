@@ -2,14 +2,13 @@
 use crate::slots::set_at;
 use crate::tries::store::number_in;
 use graph::blockset::add_all;
-use graph::blockset::common_of;
-use graph::blockset::sixteen;
-ghost use mathlib.Core.List.{List};
-ghost use Prim.Native.Nat.{ℕ, _*_, _≤_, _<_};
-ghost use lib.ListN.{length};
+ghost use mathlib.Core.Path.{_≡_};
+ghost use Prim.Native.Nat.{ℕ, _+_, _*_, _/_, _%_, _^_, _≤_, _<_, min};
+ghost use lib.Dec.{eqb};
+ghost use lib.ListN.{length, getD};
 ghost use Rattle.unwind.specs.Gather.{inSet};
 ghost use Rattle.unwind.specs.Placed.{returnsIn};
-ghost use Rattle.unwind.specs.Members.{originalReturns, Joins, Busy, Originals};
+ghost use Rattle.unwind.specs.Members.{Joins, Originals, BusyIn};
 
 // Those that one of the routes guards.
 pub fn guarded_blocks(guards: &[u64], routes: usize) -> [u64; 16]
@@ -22,38 +21,6 @@ pub fn guarded_blocks(guards: &[u64], routes: usize) -> [u64; 16]
         add_all(&mut all, &set);
     }
     all
-}
-
-// Those that are guarded, or that one of the first n nodes returns from, on the original blocks.
-pub fn busy_blocks(
-    guarded: &[u64; 16],
-    bases: &[u16],
-    parts: &[u64],
-    returners: &[u64; 16],
-    n: usize,
-) -> [u64; 16]
-    requires { ⌜ (16 * n ≤ length (now parts)) × (n ≤ length (now bases)) ⌝ }
-    ensures { λ w. ⌜ ((guards : List ℕ) (routes : ℕ) → Joins (λ r b. inSet guards r b) routes (now (guarded .entry)) → Busy guards routes (now (bases .entry)) (returnsIn (now (parts .entry)) (now (returners .entry))) n w) ⌝ }
-{
-    let mut busy = returned_blocks(bases, parts, returners, n);
-    add_all(&mut busy, guarded);
-    sixteen(&busy);
-    busy
-}
-
-// Those that one of the first n nodes returns from, on the original blocks.
-fn returned_blocks(bases: &[u16], parts: &[u64], returners: &[u64; 16], n: usize) -> [u64; 16]
-    requires { ⌜ (16 * n ≤ length (now parts)) × (n ≤ length (now bases)) ⌝ }
-    ensures { λ w. ⌜ Joins (originalReturns (now (bases .entry)) (returnsIn (now (parts .entry)) (now (returners .entry)))) n w ⌝ }
-{
-    let mut all = [0u64; 16];
-    for i in 0..n {
-        if number_in(bases, i) == 0 {
-            let set = set_at(parts, i);
-            add_all(&mut all, &set);
-        }
-    }
-    common_of(&all, returners)
 }
 
 // The nodes on the original blocks that return from one of the 64 blocks of word w: those of the first n, and how many there
@@ -79,4 +46,40 @@ pub fn original_nodes(
         }
     }
     count
+}
+
+// The blocks of word w that have a way out: those that are guarded, and those from which one of the listed nodes returns.
+pub fn busy_in(
+    guarded: &[u64; 16],
+    parts: &[u64],
+    returners: &[u64; 16],
+    originals: &[u16],
+    listed: usize,
+    w: usize,
+) -> u64
+    requires { ⌜ (w < 16) × (listed ≤ length (now originals)) × ((k : ℕ) → k < listed → 16 * getD (now originals) k 0 + 16 ≤ length (now parts)) ⌝ }
+    ensures { λ x. ⌜ BusyIn (now (guarded .entry)) (returnsIn (now (parts .entry)) (now (returners .entry))) (now (originals .entry)) listed w x ⌝ }
+{
+    let mut all = 0;
+    for k in 0..listed {
+        let i = number_in(originals, k);
+        all = all | parts[16 * i + w];
+    }
+    guarded[w] | (all & returners[w])
+}
+
+// Whether the word of block b has it.
+pub fn has_block(word: u64, b: usize) -> bool
+    ensures { λ r. ⌜ r ≡ eqb (word / 2 ^ (b % 64) % 2) 1 ⌝ }
+{
+    (word >> (b % 64)) % 2 == 1
+}
+
+// Where the blocks of word w end, of which there are `blocks` in all.
+pub fn word_end(w: usize, blocks: usize) -> usize
+    requires { ⌜ w < 16 ⌝ }
+    ensures { λ r. ⌜ r ≡ min (64 * w + 64) blocks ⌝ }
+{
+    let end = 64 * w + 64;
+    if end <= blocks { end } else { blocks }
 }

@@ -3,18 +3,17 @@ use crate::emit::alike::goes_on;
 use crate::emit::alike::is_worth;
 use crate::emit::alike::mark_turns;
 use crate::emit::block::gather_block;
-use crate::emit::busy::busy_blocks;
+use crate::emit::busy::busy_in;
 use crate::emit::busy::guarded_blocks;
+use crate::emit::busy::has_block;
 use crate::emit::busy::original_nodes;
+use crate::emit::busy::word_end;
 use crate::emit::entries::LEAVE;
 use crate::tries::store::Counts;
 use crate::tries::store::branch_in;
-use graph::blockset::Lowest;
-use graph::blockset::lowest_in;
-use graph::blockset::take_from;
 use image::section::RouteLayout;
 ghost use mathlib.Core.Path.{_≡_};
-ghost use Prim.Native.Nat.{_*_, _≤_, _<_};
+ghost use Prim.Native.Nat.{_+_, _*_, _≤_, _<_, min};
 ghost use lib.ListN.{length};
 ghost use Rattle.image.specs.Image.{routesIn};
 ghost use Rattle.image.specs.There.{RoutesThere};
@@ -22,9 +21,10 @@ ghost use Rattle.graph.specs.Fold.{flat};
 ghost use Rattle.unwind.specs.Routed.{TriesIn};
 ghost use Rattle.unwind.specs.Placed.{returnsIn};
 ghost use Rattle.unwind.specs.Lent.{Roomy, blockHops};
-ghost use Rattle.unwind.specs.Sizes.{SizesOf, sizesThen, sizesBoth};
+ghost use Rattle.unwind.specs.Sizes.{SizesOf, Summed, sizesThen, sizesBoth};
 ghost use Rattle.unwind.specs.Copies.{SumSize};
 ghost use Rattle.unwind.specs.Members.{BlockSets};
+ghost use Rattle.unwind.specs.Blockwise.{Ready};
 
 // Hops, the lists that they have, and the hops that end at a block: one route edge each.
 pub struct Sizes {
@@ -61,12 +61,6 @@ pub fn count_blocks(
 {
     let routes = y.routes.count as usize;
     let guarded = guarded_blocks(guards, routes);
-    let mut left = busy_blocks(&guarded, bases, parts, returners, stored.nodes);
-    let mut sizes = Sizes {
-        hops: 0,
-        lists: 0,
-        blocks: 0,
-    };
     let worth = is_worth(stored.nodes, landings, stored.ends);
     let mut turns = [0u64; 16];
     if worth {
@@ -80,43 +74,106 @@ pub fn count_blocks(
             &mut turns,
         );
     }
-    let mut listed = 0;
+    let words = (blocks + 63) / 64;
+    let mut sizes = Sizes {
+        hops: 0,
+        lists: 0,
+        blocks: 0,
+    };
+    for w in 0..words {
+        sizes = count_word(
+            s,
+            y,
+            nodes,
+            edges,
+            ends,
+            heads,
+            landings,
+            roots,
+            guards,
+            &guarded,
+            bases,
+            parts,
+            returners,
+            stored,
+            blocks,
+            worth,
+            &turns,
+            w,
+            sizes,
+            originals,
+            exits,
+        );
+    }
+    sizes
+}
+
+// With those of the blocks before, those of the blocks of word w.
+fn count_word(
+    s: &[u8],
+    y: RouteLayout,
+    nodes: &[u16],
+    edges: &[u16],
+    ends: &[u16],
+    heads: &[u16],
+    landings: &[u16],
+    roots: &[u16],
+    guards: &[u64],
+    guarded: &[u64; 16],
+    bases: &[u16],
+    parts: &[u64],
+    returners: &[u64; 16],
+    stored: Counts,
+    blocks: usize,
+    worth: bool,
+    turns: &[u64; 16],
+    w: usize,
+    before: Sizes,
+    originals: &mut [u16],
+    exits: &mut [u16],
+) -> Sizes
+    requires { ⌜ Ready (now s) y (now nodes) (now edges) (now ends) (now heads) (now landings) (now roots) (now guards) (now bases) (now parts) (now returners) stored blocks (now originals) (now exits) (now guarded) worth (now turns) × (64 * w < blocks) × Summed (blockHops (routesIn (now s) y) (now nodes) (now edges) (now ends) (now heads) (now landings) (now roots) (now guards) (now bases) (returnsIn (now parts) (now returners)) stored) (64 * w) 65536 before ⌝ }
+    ensures { λ r. ⌜ Summed (blockHops (routesIn (now (s .entry)) y) (now (nodes .entry)) (now (edges .entry)) (now (ends .entry)) (now (heads .entry)) (now (landings .entry)) (now (roots .entry)) (now (guards .entry)) (now (bases .entry)) (returnsIn (now (parts .entry)) (now (returners .entry))) stored) (min (64 * w + 64) blocks) 65536 r ⌝ }
+{
+    let listed = original_nodes(bases, parts, returners, stored.nodes, w, originals);
+    let busy = busy_in(guarded, parts, returners, originals, listed, w);
+    if busy == 0 {
+        return before;
+    }
+    let past = word_end(w, blocks);
+    let mut sizes = before;
     let mut last = 1024;
     let mut n = 0;
-    loop {
-        let Lowest::At(b) = lowest_in(&left) else {
-            return sizes;
-        };
-        take_from(&mut left, b);
-        if b / 64 != last / 64 {
-            listed = original_nodes(bases, parts, returners, stored.nodes, b / 64, originals);
+    for b in 64 * w..past {
+        if has_block(busy, b) {
+            if !goes_on(worth, turns, last, b) {
+                n = gather_block(
+                    s,
+                    y,
+                    nodes,
+                    edges,
+                    ends,
+                    heads,
+                    landings,
+                    roots,
+                    guards,
+                    guarded,
+                    bases,
+                    parts,
+                    returners,
+                    originals,
+                    listed,
+                    stored,
+                    b,
+                    exits,
+                );
+            }
+            last = b;
+            let more = sizes_of(exits, n);
+            sizes = sizes_both(sizes, more);
         }
-        if !goes_on(worth, &turns, last, b) {
-            n = gather_block(
-                s,
-                y,
-                nodes,
-                edges,
-                ends,
-                heads,
-                landings,
-                roots,
-                guards,
-                &guarded,
-                bases,
-                parts,
-                returners,
-                originals,
-                listed,
-                stored,
-                b,
-                exits,
-            );
-        }
-        last = b;
-        let more = sizes_of(exits, n);
-        sizes = sizes_both(sizes, more);
     }
+    sizes
 }
 
 pub fn sizes_both(p: Sizes, q: Sizes) -> Sizes

@@ -4,17 +4,16 @@ use crate::emit::alike::is_worth;
 use crate::emit::alike::mark_turns;
 use crate::emit::append::add_exits;
 use crate::emit::block::gather_block;
-use crate::emit::busy::busy_blocks;
+use crate::emit::busy::busy_in;
 use crate::emit::busy::guarded_blocks;
+use crate::emit::busy::has_block;
 use crate::emit::busy::original_nodes;
+use crate::emit::busy::word_end;
 use crate::hops::Hops;
 use crate::tries::store::Counts;
-use graph::blockset::Lowest;
-use graph::blockset::lowest_in;
-use graph::blockset::take_from;
 use image::section::RouteLayout;
 ghost use mathlib.Core.Path.{_≡_};
-ghost use Prim.Native.Nat.{_≤_};
+ghost use Prim.Native.Nat.{_+_, _*_, _≤_, _<_, min};
 ghost use lib.ListN.{length};
 ghost use Rattle.image.specs.Image.{routesIn};
 ghost use Rattle.image.specs.There.{RoutesThere};
@@ -24,6 +23,7 @@ ghost use Rattle.unwind.specs.Placed.{returnsIn};
 ghost use Rattle.unwind.specs.Lent.{Roomy, blockHops};
 ghost use Rattle.unwind.specs.HopWords.{rowsIn, noRows, HopsHeld, HopsFit};
 ghost use Rattle.unwind.specs.Members.{BlockSets};
+ghost use Rattle.unwind.specs.Blockwise.{Ready};
 
 // Those of the first `blocks` blocks, of each that has a way out, into words that hold none. `originals` is room for a
 // list of nodes.
@@ -51,7 +51,6 @@ pub fn add_blocks(
 {
     let routes = y.routes.count as usize;
     let guarded = guarded_blocks(guards, routes);
-    let mut left = busy_blocks(&guarded, bases, parts, returners, stored.nodes);
     let worth = is_worth(stored.nodes, landings, stored.ends);
     let mut turns = [0u64; 16];
     if worth {
@@ -65,40 +64,95 @@ pub fn add_blocks(
             &mut turns,
         );
     }
-    let mut listed = 0;
+    let words = (blocks + 63) / 64;
+    for w in 0..words {
+        add_word(
+            h,
+            s,
+            y,
+            nodes,
+            edges,
+            ends,
+            heads,
+            landings,
+            roots,
+            guards,
+            &guarded,
+            bases,
+            parts,
+            returners,
+            stored,
+            blocks,
+            worth,
+            &turns,
+            w,
+            originals,
+            exits,
+        );
+    }
+}
+
+// Those of the blocks of word w, behind those of the blocks before.
+fn add_word(
+    h: &mut Hops,
+    s: &[u8],
+    y: RouteLayout,
+    nodes: &[u16],
+    edges: &[u16],
+    ends: &[u16],
+    heads: &[u16],
+    landings: &[u16],
+    roots: &[u16],
+    guards: &[u64],
+    guarded: &[u64; 16],
+    bases: &[u16],
+    parts: &[u64],
+    returners: &[u64; 16],
+    stored: Counts,
+    blocks: usize,
+    worth: bool,
+    turns: &[u64; 16],
+    w: usize,
+    originals: &mut [u16],
+    exits: &mut [u16],
+)
+    requires { ⌜ Ready (now s) y (now nodes) (now edges) (now ends) (now heads) (now landings) (now roots) (now guards) (now bases) (now parts) (now returners) stored blocks (now originals) (now exits) (now guarded) worth (now turns) × (64 * w < blocks) × HopsHeld (routesIn (now s) y) (64 * w) (now h) (now h) (flat (blockHops (routesIn (now s) y) (now nodes) (now edges) (now ends) (now heads) (now landings) (now roots) (now guards) (now bases) (returnsIn (now parts) (now returners)) stored) (64 * w)) × HopsFit (flat (blockHops (routesIn (now s) y) (now nodes) (now edges) (now ends) (now heads) (now landings) (now roots) (now guards) (now bases) (returnsIn (now parts) (now returners)) stored) blocks) ⌝ }
+    ensures { λ _. ⌜ HopsHeld (routesIn (now (s .entry)) y) (min (64 * w + 64) blocks) (now (h .entry)) (now (h .exit)) (flat (blockHops (routesIn (now (s .entry)) y) (now (nodes .entry)) (now (edges .entry)) (now (ends .entry)) (now (heads .entry)) (now (landings .entry)) (now (roots .entry)) (now (guards .entry)) (now (bases .entry)) (returnsIn (now (parts .entry)) (now (returners .entry))) stored) (min (64 * w + 64) blocks)) ⌝ }
+{
+    let listed = original_nodes(bases, parts, returners, stored.nodes, w, originals);
+    let busy = busy_in(guarded, parts, returners, originals, listed, w);
+    if busy == 0 {
+        return;
+    }
+    let past = word_end(w, blocks);
     let mut last = 1024;
     let mut n = 0;
-    loop {
-        let Lowest::At(b) = lowest_in(&left) else {
-            return;
-        };
-        take_from(&mut left, b);
-        if b / 64 != last / 64 {
-            listed = original_nodes(bases, parts, returners, stored.nodes, b / 64, originals);
+    for b in 64 * w..past {
+        if has_block(busy, b) {
+            if !goes_on(worth, turns, last, b) {
+                n = gather_block(
+                    s,
+                    y,
+                    nodes,
+                    edges,
+                    ends,
+                    heads,
+                    landings,
+                    roots,
+                    guards,
+                    guarded,
+                    bases,
+                    parts,
+                    returners,
+                    originals,
+                    listed,
+                    stored,
+                    b,
+                    exits,
+                );
+            }
+            last = b;
+            add_exits(h, b, exits, n);
         }
-        if !goes_on(worth, &turns, last, b) {
-            n = gather_block(
-                s,
-                y,
-                nodes,
-                edges,
-                ends,
-                heads,
-                landings,
-                roots,
-                guards,
-                &guarded,
-                bases,
-                parts,
-                returners,
-                originals,
-                listed,
-                stored,
-                b,
-                exits,
-            );
-        }
-        last = b;
-        add_exits(h, b, exits, n);
     }
 }

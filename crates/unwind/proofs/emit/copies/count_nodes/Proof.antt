@@ -5,8 +5,9 @@ use native.Mathlib.Omega.{arith}
 use lib.ListN.{length}
 use Rattle.image.specs.Image.{routesIn}
 use Rattle.unwind.specs.Placed.{returnsIn}
+use Rattle.unwind.specs.Sizes.{Summed}
 use Rattle.unwind.specs.Copies.{nodeHops}
-use Rattle.unwind.proofs.SizeLaws.{Summed, summed-none, summed-more}
+use Rattle.unwind.proofs.SizeLaws.{summed-none, summed-more}
 use borrow.Author.Needs.{needs}
 use Rattle.unwind.proofs.emit.copies.count_nodes.Statement.{statement}
 use Rattle.unwind.proofs.emit.copies.count_nodes.Tie as tie

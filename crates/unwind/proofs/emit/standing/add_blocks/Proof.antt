@@ -1,29 +1,29 @@
--- `add_blocks` meets its contract. The invariant: the hops of the blocks taken out are stored, the ways out of the last of them
--- stand in scratch, and the nodes of its word are listed. Assumes nothing.
-use mathlib.Core.Path.{sym, _∙_}
+-- `add_blocks` meets its contract. The invariant: the hops of the words passed are stored. Assumes nothing.
+use mathlib.Core.Path.{_≡_, refl, sym, _∙_}
 use mathlib.Core.Bool.{false≢true}
 use mathlib.Core.Logic.{⊎-elim}
-use mathlib.Core.List.{[]}
+use Prim.Native.Nat.{_+_, _-_, _*_, _≤_, _<_, min}
 use native.Mathlib.Omega.{arith}
 use borrow.Author.Needs.{needs}
-use borrow.Author.Tests.{not-false}
+use lib.ListN.{length}
 use Rattle.image.specs.Image.{routesIn}
-use Rattle.graph.specs.BlockSet.{sizeOf}
+use Rattle.graph.specs.Fold.{flat}
 use Rattle.unwind.specs.Placed.{returnsIn}
 use Rattle.unwind.specs.Lent.{blockHops}
-use Rattle.unwind.proofs.HeldLaws.{held-none, held-room, held-more, block-own}
-use Rattle.unwind.proofs.MemberLaws.{LowestIs, walked-below, walked-less, SetHolding, holding-start, holding-here, holding-fit, holding-next, holding-end}
-use Rattle.unwind.proofs.BlockLoop.{Given, given-guards, given-returns, ready, Going, going-start, going-next, HeldAt, held-stays, ListedAt, list-room, list-stays, gather-room, hops-quiet, hops-below}
+use Rattle.unwind.specs.HopWords.{HopsHeld}
+use Rattle.unwind.specs.Blockwise.{Given, Ready}
+use Rattle.unwind.proofs.HeldLaws.{held-none, held-here, held-on}
+use Rattle.unwind.proofs.BlockLoop.{given-guards, given-returns, ready, ready-kept}
 use Rattle.unwind.proofs.emit.standing.add_blocks.Statement.{statement}
 use Rattle.unwind.proofs.emit.standing.add_blocks.Tie as tie
 
 abbrev Inv-loop : tie.InvT-loop
-Inv-loop h₀ s y nodes edges ends heads landings roots guards bases parts returners stored blocks originals₀ exits₀ routes guarded left₀ worth turns listed₀ last₀ n₀ h originals exits left listed last n =
-    Going s y nodes edges ends heads landings roots guards bases parts returners stored blocks originals₀ exits₀ guarded left₀ worth turns originals exits listed last n
-    × SetHolding (routesIn s y) (blockHops (routesIn s y) nodes edges ends heads landings roots guards bases (returnsIn parts returners) stored) (λ k. k) [] left₀ blocks left h₀ h
+Inv-loop h₀ s y nodes edges ends heads landings roots guards bases parts returners stored blocks originals₀ exits₀ routes guarded worth turns words w₀ h originals exits w =
+    (w ≤ words) × (length originals ≡ length originals₀) × (length exits ≡ length exits₀)
+    × HopsHeld (routesIn s y) (min (64 * w) blocks) h₀ h (flat (blockHops (routesIn s y) nodes edges ends heads landings roots guards bases (returnsIn parts returners) stored) (min (64 * w) blocks))
 
 abbrev μ-loop : tie.MeasureT-loop
-μ-loop h₀ s y nodes edges ends heads landings roots guards bases parts returners stored blocks originals₀ exits₀ routes guarded left₀ worth turns listed₀ last₀ n₀ h originals exits left listed last n = sizeOf left
+μ-loop h₀ s y nodes edges ends heads landings roots guards bases parts returners stored blocks originals₀ exits₀ routes guarded worth turns words w₀ h originals exits w = words - w
 
 -- the contract, by name
 given : (c : tie.Start Inv-loop μ-loop) → let a = c .args in Given (a .s .now) (a .y) (a .nodes .now) (a .edges .now) (a .ends .now) (a .heads .now) (a .landings .now) (a .roots .now) (a .guards .now) (a .bases .now) (a .parts .now) (a .returners .now) (a .stored) (a .blocks) (a .originals .now) (a .exits .now)
@@ -40,56 +40,55 @@ given c =
       originals-fit = c .pre .10;
     }
 
--- the block taken out is the lowest left
-low : (c : tie.After-b Inv-loop μ-loop) → LowestIs (c .before .before .before .before .loop .left) (c .b .given .0 .0)
-low c = rw (c .b .given .1) at (c .before .before .lowest-in .ensures)
+guarded-blocks-requires : tie.Need-guarded-blocks-requires Inv-loop μ-loop
+guarded-blocks-requires c κs = given-guards (given (c .before .before .before .before .before .before .before .before .before .before .before .before .before))
 
--- the nodes of the block's word are listed, now or for the last block
-listed : (c : tie.Joined2 Inv-loop μ-loop) → ListedAt (c .before .before .before .before .before .before .before .before .loop .inv .0) (c .before .before .before .before .b .given .0 .0) (c .if2 .originals) (c .if2 .listed)
-listed c =
-    let going = c .before .before .before .before .before .before .before .before .loop .inv .0 in
-    ⊎-elim (λ w. rw (w .5, w .6) (w .2 .kept .1 .1 .1 .1 .1 .0 ∙ going .listed-long, w .2 .ensures)) (λ w. rw (w .1, w .2) (list-stays going _ (low (c .before .before .before .before) .0) (w .0 .left))) (c .if2 .came)
+mark-turns-requires : tie.Need-mark-turns-requires Inv-loop μ-loop
+mark-turns-requires c κs = let g = given (c .before .before .before .before .before .before .before .before .before .before .before .before .before .before .before .before .before) in (given-guards g, given-returns g, g .few)
 
--- what stands in scratch is gathered of this block, or of the last and the same
-gathered : (c : tie.Joined3 Inv-loop μ-loop) → HeldAt (c .before .before .before .before .before .before .before .before .before .before .before .loop .inv .0) (c .before .before .before .before .before .before .before .b .given .0 .0) (c .if3 .exits) (c .if3 .n)
-gathered c =
-    let top = c .before .before .before .before .before .before .before .before .before .before .before .loop in
-    ⊎-elim (λ w. rw (w .7, w .8) (w .4 .ensures)) (λ w. rw (w .1, w .2) (held-stays (top .inv .0) _ (walked-below (top .inv .1 .walked) _ (low (c .before .before .before .before .before .before .before))) (c .before .goes-on .ensures (not-false _ (w .0 .left))))) (c .if3 .came)
+add-words : tie.Need-add-words Inv-loop μ-loop
+add-words c = omega (arith, c .before .before .before .before .before .before .before .before .before .before .before .before .before .before .before .before .pre .1)
+
+-- what the words need is known
+known : (c : tie.Joined1 Inv-loop μ-loop) → let a = c .before .before .before .before .before .before .before .before .before .before .before .before .before .before .before .before .args in Ready (a .s .now) (a .y) (a .nodes .now) (a .edges .now) (a .ends .now) (a .heads .now) (a .landings .now) (a .roots .now) (a .guards .now) (a .bases .now) (a .parts .now) (a .returners .now) (a .stored) (a .blocks) (a .originals .now) (a .exits .now) (c .before .before .guarded-blocks .result) (c .before .is-worth .result) (c .if1 .turns)
+known c = ready (given (c .before .before .before .before .before .before .before .before .before .before .before .before .before .before .before .before)) (c .if1 .turns) (c .before .before .guarded-blocks .ensures) (c .before .is-worth .ensures) (λ e. ⊎-elim (λ v. rw (v .3) (v .2 .ensures)) (λ v. absurd (false≢true (sym (v .0 .left) ∙ e))) (c .if1 .came))
 
 loop-holds : tie.Need-loop-holds Inv-loop μ-loop
+unfolding flat
 loop-holds c =
-    let from = c .before .before .before .before in
-    let r = ready (given (c .before .before .before .before .before .before .before .before .before .before .before .before .before .before .before .before .before .before)) (c .if1 .turns) (from .guarded-blocks .ensures) (c .before .before .busy-blocks .ensures) (c .before .is-worth .ensures) (λ e. ⊎-elim (λ v. rw (v .3) (v .2 .ensures)) (λ v. absurd (false≢true (sym (v .0 .left) ∙ e))) (c .if1 .came)) in
-    (going-start r, holding-start _ _ _ _ _ _ _ (r .busy .long) (hops-below r) (held-none _ _ (c .before .before .before .before .before .before .before .before .before .before .before .before .before .before .before .before .before .before .pre .3)))
+    let start = c .before .before .before .before .before .before .before .before .before .before .before .before .before .before .before .before in
+    let none : min (64 * 0) (start .args .blocks) ≡ 0 = omega arith in
+    (omega arith, refl, refl, rw none (held-none _ _ (start .pre .3)))
 
-returns : tie.Need-returns Inv-loop μ-loop
-returns c =
-    let top = c .before .before .before .before .loop in
-    (holding-end _ _ _ _ _ _ (hops-quiet (top .inv .0 .ready)) (λ k n h. h) (top .inv .1) (rw (c .enum-told .given .1) at (c .before .before .lowest-in .ensures)), top .inv .0 .long)
+add-word-requires : tie.Need-add-word-requires Inv-loop μ-loop
+add-word-requires c κs =
+    let start = c .before .before .before .before .before .before .before .before .before .before .before .before .before .before .before .before .before .before .before .before .before .before .before in
+    let top = c .before .before .before .before .before .before .loop in
+    let more : 64 * top .w < start .args .blocks = omega (arith, c .before .before .before .before .before .loop-test .taken) in
+    let at : min (64 * top .w) (start .args .blocks) ≡ 64 * top .w = omega arith in
+    (ready-kept (known (c .before .before .before .before .before .before .before)) (top .inv .1) (top .inv .2), more, held-here (rw at at (top .inv .3)), start .pre .4)
 
-add-exits-requires : tie.Need-add-exits-requires Inv-loop μ-loop
-add-exits-requires c κs =
-    let top = c .before .before .before .before .before .before .before .before .before .before .before .before .before .loop in
-    let quiet = hops-quiet (top .inv .0 .ready) in
-    let at = low (c .before .before .before .before .before .before .before .before .before) in
-    let held = gathered (c .before .before) in
-    let here = holding-here _ _ _ _ _ _ quiet (λ k n h. h) (top .inv .1) _ at in
-    let own = block-own _ _ _ _ _ _ _ _ _ _ _ _ _ _ (held .holds) in
-    let room = held-room _ _ here _ _ (holding-fit _ _ _ _ _ _ quiet (λ k n h. h) (top .inv .1) _ at _ own (c .before .before .before .before .before .before .before .before .before .before .before .before .before .before .before .before .before .before .before .before .before .before .before .before .before .before .before .before .before .before .before .before .pre .4)) in
-    (room .0, room .1, room .2, held .holds .ordered .fit)
+add-w : tie.Need-add-w Inv-loop μ-loop
+add-w c = omega (arith, c .before .before .before .before .before .before .before .before .before .before .loop-test .taken, c .before .before .before .before .before .before .before .before .before .before .before .before .before .before .before .before .before .before .before .before .before .before .before .before .before .before .before .before .pre .1)
 
 loop-again : tie.Need-loop-again Inv-loop μ-loop
 loop-again c =
-    let top = c .before .before .before .before .before .before .before .before .before .before .before .before .before .before .loop in
-    let quiet = hops-quiet (top .inv .0 .ready) in
-    let at = low (c .before .before .before .before .before .before .before .before .before .before) in
-    let held = gathered (c .before .before .before) in
-    let here = holding-here _ _ _ _ _ _ quiet (λ k n h. h) (top .inv .1) _ at in
-    let own = block-own _ _ _ _ _ _ _ _ _ _ _ _ _ _ (held .holds) in
-    rw (c .before .before .before .before .before .before .before .take-from .ensures) (
-      going-next (top .inv .0) _ (at .0) (listed (c .before .before .before .before .before .before)) held,
-      holding-next _ _ _ _ _ _ quiet (λ k n h. h) (top .inv .1) _ at _ own _ (omega arith) (held-more _ _ here _ _ (c .add-exits .ensures)),
-    )
+    let call = c .before .before .before .before .add-word in
+    let top = c .before .before .before .before .before .before .before .before .before .before .before .loop in
+    let next : 64 * (top .w + 1) ≡ 64 * top .w + 64 = omega arith in
+    (omega (arith, c .before .before .before .before .before .before .before .before .before .before .loop-test .taken), call .kept .1 .1 .1 .1 .1 .1 .1 .1 .1 .1 .1 .1 .1 .1 .1 .1 .1 .1 .1 .0 ∙ top .inv .1, call .kept .1 .1 .1 .1 .1 .1 .1 .1 .1 .1 .1 .1 .1 .1 .1 .1 .1 .1 .1 .1 .0 ∙ top .inv .2, rw next (held-on (top .inv .3) (call .ensures)))
+
+same-length : tie.Need-same-length Inv-loop μ-loop
+same-length c = c .before .loop .inv .1
+
+same-length-2 : tie.Need-same-length-2 Inv-loop μ-loop
+same-length-2 c = c .before .loop .inv .2
+
+returns : tie.Need-returns Inv-loop μ-loop
+returns c =
+    let end = c .before .loop in
+    let all : min (64 * end .w) (c .before .before .before .before .before .before .before .before .before .before .before .before .before .before .before .before .before .before .args .blocks) ≡ c .before .before .before .before .before .before .before .before .before .before .before .before .before .before .before .before .before .before .args .blocks = omega (arith, end .inv .0) in
+    (rw all at (end .inv .3), end .inv .2)
 
 pub add-blocks-spec : {M : Type 1} → statement M
 add-blocks-spec =
@@ -98,21 +97,15 @@ add-blocks-spec =
     Inv-loop
     μ-loop
     (λ c. search needs)
-    (λ c κs. given-guards (given (c .before .before .before .before .before .before .before .before .before .before .before .before .before)))
-    (λ c κs. let g = given (c .before .before .before .before .before .before .before .before .before .before .before .before .before .before .before) in (given-returns g, g .bases-fit))
+    guarded-blocks-requires
     (λ c κs. search needs)
-    (λ c κs. let g = given (c .before .before .before .before .before .before .before .before .before .before .before .before .before .before .before .before .before .before .before) in (given-guards g, given-returns g, g .few))
+    mark-turns-requires
+    add-words
     loop-holds
-    (λ c κs. search needs)
+    add-word-requires
+    add-w
     (λ c. search needs)
-    (λ c. search needs)
-    (λ c. c .before .before .before .before .loop .inv .0 .listed-long)
-    (λ c. c .before .before .before .before .loop .inv .0 .long)
-    returns
-    (λ c κs. search needs)
-    (λ c κs. list-room (c .before .before .before .before .before .before .before .before .before .loop .inv .0) _ (low (c .before .before .before .before .before) .0))
-    (λ c κs. c .before .before .before .before .before .before .before .before .before .loop .inv .0 .most)
-    (λ c κs. gather-room (c .before .before .before .before .before .before .before .before .before .before .before .before .before .before .loop .inv .0) _ (low (c .before .before .before .before .before .before .before .before .before .before) .0) (listed (c .before .before .before .before .before .before)))
-    add-exits-requires
-    (λ c. let top = c .before .before .before .before .before .before .before .before .before .before .before .before .before .before .loop in rw (c .before .before .before .before .before .before .before .take-from .ensures) (walked-less (top .inv .1 .walked) _ (low (c .before .before .before .before .before .before .before .before .before .before))))
-    loop-again)
+    loop-again
+    same-length
+    same-length-2
+    returns)
