@@ -75,7 +75,7 @@ pub fn has_block(word: u64, b: usize) -> bool
     (word >> (b % 64)) % 2 == 1
 }
 
-// Where the blocks of word w end, of which there are `blocks` in all.
+// Where the blocks of word w end, if there are `blocks` in all.
 pub fn word_end(w: usize, blocks: usize) -> usize
     requires { ⌜ w < 16 ⌝ }
     ensures { λ r. ⌜ r ≡ min (64 * w + 64) blocks ⌝ }
