@@ -28,7 +28,7 @@ pub fn add_checked(
     if !is_small(g, 64, 256) {
         return add_to_any(g, built, s, y, h);
     }
-    if is_few(y, 3, 2, 1) & is_small(g, 16, 32) {
+    if is_few(y, 6, 2, 1) & is_small(g, 16, 32) {
         return add_tiny(g, built, s, y, h);
     }
     if is_few(y, 32, 16, 4) {
@@ -67,23 +67,23 @@ fn is_few(y: RouteLayout, steps: u32, paths: u32, routes: u32) -> bool
 
 // Very few routes, to a very small graph.
 fn add_tiny(g: &mut Words, built: usize, s: &[u8], y: RouteLayout, h: &mut Hops) -> AddedRoutes
-    requires { ⌜ RoutesChecked (heldIn (now g)) built (routesIn (now s) y) × Few y 3 2 1 × Small (heldIn (now g) .graph) 16 32 × RoutesThere (now s) y ⌝ }
+    requires { ⌜ RoutesChecked (heldIn (now g)) built (routesIn (now s) y) × Few y 6 2 1 × Small (heldIn (now g) .graph) 16 32 × RoutesThere (now s) y ⌝ }
     ensures { λ r. ⌜ Adds (routesIn (now (s .entry)) y) (now (g .entry)) (now (g .exit)) (now (h .entry)) (now (h .exit)) r ⌝ }
 {
     let mut starts = [0u16; 3];
-    let mut nodes = [0u16; 24];
-    let mut edges = [0u16; 9];
+    let mut nodes = [0u16; 42];
+    let mut edges = [0u16; 18];
     let mut ends = [0u16; 6];
-    let mut stack = [0u16; 9];
+    let mut stack = [0u16; 18];
     let mut roots = [0u16; 1];
     let mut head = [0u16; 16];
     let mut next = [0u16; 32];
-    let mut bases = [0u16; 4];
-    let mut heads = [0u16; 4];
-    let mut parts = [0u64; 64];
+    let mut bases = [0u16; 7];
+    let mut heads = [0u16; 7];
+    let mut parts = [0u64; 112];
     let mut guards = [0u64; 16];
     let mut landings = [0u16; 2];
-    let mut exits = [0u16; 30];
+    let mut exits = [0u16; 48];
     add_framed(
         g,
         built,
