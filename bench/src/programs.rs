@@ -23,6 +23,7 @@ pub fn all() -> Vec<(&'static str, Image)> {
 pub fn added() -> Vec<(&'static str, Image)> {
     vec![
         ("tiny", one_route()),
+        ("small", routed(8, 1)),
         ("typical", routed(14, 4)),
         ("typical, 8 routes", routed(16, 8)),
         ("large", routed(320, 8)),
