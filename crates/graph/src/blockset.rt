@@ -191,14 +191,14 @@ fn ones_below(word: u64, k: usize) -> usize
 }
 
 // The digits from digit k on.
-fn digits_from(word: u64, k: usize) -> u64
+pub fn digits_from(word: u64, k: usize) -> u64
     requires { ⌜ k < 64 ⌝ }
     ensures { λ r. ⌜ (r ≡ word / 2 ^ k) × (word < 2 ^ 64) ⌝ }
 {
     word >> k
 }
 
-fn zeros_of(word: u64) -> usize
+pub fn zeros_of(word: u64) -> usize
     ensures { λ r. ⌜ (r ≡ trailingZeros 64 word) × (r ≤ 64) × (word < 2 ^ 64) ⌝ }
 {
     u64::trailing_zeros(word) as usize

@@ -55,6 +55,7 @@ pub mod AllNodesLaws
 pub mod FindLaws
 pub mod FlagLaws
 pub mod WantLaws
+pub mod WanterLaws
 pub mod StoreLaws
 pub mod AnswerLaws
 pub mod FrameLaws

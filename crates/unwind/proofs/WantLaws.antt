@@ -13,7 +13,6 @@
 --     flat-start, flat-next        one route, or one node, more
 --     over-wants                   a node that is over wants nothing
 --     place-same, place-copy       where a node has a block
---     lent-stand, lent-wants       all ways of an addition
 -- Assumes nothing.
 use mathlib.Core.Path.{_≡_, refl, sym, ap, ap₂, _∙_, subst}
 use mathlib.Core.Bool.{Bool, true, false, _||_}
@@ -52,7 +51,7 @@ use Rattle.unwind.specs.Sources.{Exit, leapOf}
 use Rattle.unwind.specs.Entries.{endIn}
 use Rattle.unwind.specs.Gather.{exitTo, edgeExits, endNumber, endExits, recordExits}
 use Rattle.unwind.specs.HopWords.{hopRows, hopRow, rowsIn, rowHop, rowHops, hopsIn}
-use Rattle.unwind.specs.Wanted.{wayOf, placeIn, recordWays, guardWays, returnWays, lentWays}
+use Rattle.unwind.specs.Wanted.{wayOf, placeIn, recordWays, guardWays, returnWays}
 use Rattle.unwind.specs.Flags.{pair, leapTo, wayTo, rowLeap, leapAt, HopsRise, HopIs, HopStands, HopsJoin, WaysStand, Flags, FlagSet, seenWith, SameRuns, EdgesWanted, placeOf, setWays, Over}
 use Rattle.addition.proofs.Lists.{or-left, none-in, mem-map, map-mem, mem-joined, mem-flat, mem-getD}
 use Rattle.addition.proofs.Order.{exact-leaps, mem-sorted, sorted-mem}
@@ -440,22 +439,3 @@ module _ (base : ℕ) (part : List ℕ) (o : ℕ) where
   pub place-copy : (base ≡ 0 → ⊥) → base + count (member part) o ≡ placeOf base part o
   unfolding placeOf
   place-copy ne = rw (ne-eqb base 0 ne)
-
--- ---- all ways of an addition
-
-module _ (m : RouteImage) (nodes edges ends heads landings roots guards bases parts returns : List ℕ) (routes n : ℕ) (h : List ℕ) where
-  abbrev guarded : List Way
-  guarded = flat (guardWays m nodes edges ends heads landings roots guards) routes
-
-  abbrev returned : List Way
-  returned = flat (returnWays m nodes edges ends heads landings bases parts returns) n
-
-  pub lent-stand : hopsIn m h ≡ hopsOf (lentWays m nodes edges ends heads landings roots guards bases parts returns routes n) → WaysStand h (flat (guardWays m nodes edges ends heads landings roots guards) routes) × WaysStand h (flat (returnWays m nodes edges ends heads landings bases parts returns) n)
-  unfolding lentWays
-  lent-stand e = let all = ways-stand m h (guarded ++ returned) e in (stand-front guarded returned all, stand-back guarded returned all)
-
-  pub lent-wants : {g g₁ g₂ : List ℕ} {done₁ done₂ : List ℕ} → EdgesWanted h g (replicate 33 0) (flat (guardWays m nodes edges ends heads landings roots guards) routes) g₁ done₁
-      → EdgesWanted h g₁ done₁ (flat (returnWays m nodes edges ends heads landings bases parts returns) n) g₂ done₂
-      → Added g g₂ (routeEdges (heldIn g .graph) [] (lentWays m nodes edges ends heads landings roots guards bases parts returns routes n)) [] []
-  unfolding lentWays
-  lent-wants a b = wants-then a b .added [] (flags-none h)

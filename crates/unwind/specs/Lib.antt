@@ -24,6 +24,7 @@ pub mod HopWords
 pub mod AllNodes
 pub mod Wanted
 pub mod Flags
+pub mod Wanters
 pub mod Instances
 pub mod Answers
 pub mod Frames

@@ -2,6 +2,7 @@
 // says whether it was wanted before.
 mod find;
 mod flags;
+mod wanter;
 
 use crate::blocks::first_of;
 use crate::blocks::last_of;
@@ -9,7 +10,6 @@ use crate::emit::entries::LEAVE;
 use crate::emit::gather::end_number;
 use crate::hops::Hops;
 use crate::part::EXCEPTION_UNWIND;
-use crate::slots::common_at;
 use crate::slots::set_at;
 use crate::tries::store::Counts;
 use crate::tries::store::branch_in;
@@ -19,10 +19,12 @@ use crate::wants::find::find_hop;
 use crate::wants::flags::Flags;
 use crate::wants::flags::likely_hop;
 use crate::wants::flags::mark_wanted;
+use crate::wants::wanter::Wanter;
+use crate::wants::wanter::is_idle;
+use crate::wants::wanter::next_block;
+use crate::wants::wanter::wanter_of;
 use graph::blockset::Lowest;
-use graph::blockset::next_in;
 use graph::blockset::rank_in;
-use graph::blockset::sixteen;
 use graph::record::Edge;
 use graph::store::Words;
 use graph::store::edges::add_edge;
@@ -30,23 +32,23 @@ use image::section::RouteLayout;
 ghost use mathlib.Core.Path.{_≡_};
 ghost use mathlib.Core.Bool.{true};
 ghost use mathlib.Core.List.{List, [], _∷_, map};
-ghost use Prim.Native.Nat.{ℕ, _+_, _*_, _≤_, _<_};
+ghost use Prim.Native.Nat.{ℕ, _+_, _-_, _*_, _≤_, _<_};
 ghost use lib.ListN.{length, getD};
 ghost use Rattle.image.specs.Image.{RouteImage, routesIn};
 ghost use Rattle.graph.specs.Graph.{block};
 ghost use Rattle.graph.specs.Words.{heldIn};
-ghost use Rattle.graph.specs.Fold.{flat};
 ghost use Rattle.graph.specs.BlockSet.{member};
 ghost use Rattle.graph.specs.Adding.{Added};
 ghost use Rattle.unwind.specs.Nodes.{branchIn, recordIn};
 ghost use Rattle.addition.specs.Ways.{hopsOf, routeEdge, routeEdges};
-ghost use Rattle.unwind.specs.Gather.{inSet, edgeExits, endNumber, endExits, NodeThere, AllThere};
+ghost use Rattle.unwind.specs.Gather.{edgeExits, endNumber, endExits, NodeThere};
 ghost use Rattle.unwind.specs.Routed.{TriesIn};
-ghost use Rattle.unwind.specs.Placed.{returnsIn};
+ghost use Rattle.unwind.specs.Placed.{setAt, returnsIn};
 ghost use Rattle.unwind.specs.HopWords.{hopsIn};
 ghost use Rattle.unwind.specs.Members.{BlockSets};
-ghost use Rattle.unwind.specs.Wanted.{wayOf, recordWays, guardWays, returnWays, lentWays, RunsFit};
-ghost use Rattle.unwind.specs.Flags.{leapTo, wayTo, HopsRise, HopStands, HopsJoin, SomeStand, EdgesWanted, AllWanted, placeOf, setWays, Over};
+ghost use Rattle.unwind.specs.Wanted.{wayOf, recordWays, lentWays, RunsFit};
+ghost use Rattle.unwind.specs.Flags.{leapTo, wayTo, HopsRise, HopStands, HopsJoin, SomeStand, EdgesWanted, AllWanted, placeOf, setWays};
+ghost use Rattle.unwind.specs.Wanters.{wanterSet, wanterWays, WanterThere};
 
 const ROUTE: u64 = 10;
 
@@ -74,37 +76,30 @@ pub fn add_route_edges(
 {
     let mut done = [0u64; 33];
     let routes = y.routes.count as usize;
-    want_guarded(
-        g,
-        h,
-        nodes,
-        edges,
-        heads,
-        landings,
-        roots,
-        guards,
-        routes,
-        blocks,
-        &mut done,
-    );
-    want_returned(
-        g,
-        h,
-        nodes,
-        edges,
-        heads,
-        landings,
-        bases,
-        parts,
-        returners,
-        stored.nodes,
-        blocks,
-        &mut done,
-    );
+    let all = routes + stored.nodes;
+    for k in 0..all {
+        want_by(
+            g,
+            h,
+            nodes,
+            edges,
+            heads,
+            landings,
+            roots,
+            guards,
+            routes,
+            bases,
+            parts,
+            returners,
+            k,
+            blocks,
+            &mut done,
+        );
+    }
 }
 
-// What each of the n routes wants out of the blocks that it guards.
-fn want_guarded(
+// What wanter k wants.
+fn want_by(
     g: &mut Words,
     h: &Hops,
     nodes: &[u16],
@@ -113,98 +108,40 @@ fn want_guarded(
     landings: &[u16],
     roots: &[u16],
     guards: &[u64],
-    n: usize,
-    blocks: usize,
-    done: &mut Flags,
-)
-    requires { ⌜ SomeStand (now h) (λ m ends. flat (guardWays m (now nodes) (now edges) ends (now heads) (now landings) (now roots) (now guards)) n) × HopsJoin (now h) (heldIn (now g) .graph) × (16 * n ≤ length (now guards)) × AllThere (now nodes) (now edges) (now heads) (now landings) (λ r. getD (now roots) r 0) n × (n ≤ length (now roots)) × ((r b : ℕ) → r < n → inSet (now guards) r b ≡ true → b < blocks) × (blocks ≤ 1024) ⌝ }
-    ensures { λ _. ⌜ AllWanted (now (h .entry)) (now (g .entry)) (now (done .entry)) (λ m ends. flat (guardWays m (now (nodes .entry)) (now (edges .entry)) ends (now (heads .entry)) (now (landings .entry)) (now (roots .entry)) (now (guards .entry))) n) (now (g .exit)) (now (done .exit)) ⌝ }
-{
-    for r in 0..n {
-        let i = number_in(roots, r);
-        let set = set_at(guards, r);
-        want_set(
-            g,
-            h,
-            nodes,
-            edges,
-            heads,
-            landings,
-            i,
-            r,
-            0,
-            &set,
-            &set,
-            blocks,
-            done,
-        );
-    }
-}
-
-// What each of the n nodes wants out of the blocks from which it returns.
-fn want_returned(
-    g: &mut Words,
-    h: &Hops,
-    nodes: &[u16],
-    edges: &[u16],
-    heads: &[u16],
-    landings: &[u16],
+    routes: usize,
     bases: &[u16],
     parts: &[u64],
     returners: &[u64; 16],
-    n: usize,
+    k: usize,
     blocks: usize,
     done: &mut Flags,
 )
-    requires { ⌜ SomeStand (now h) (λ m ends. flat (returnWays m (now nodes) (now edges) ends (now heads) (now landings) (now bases) (now parts) (returnsIn (now parts) (now returners))) n) × HopsJoin (now h) (heldIn (now g) .graph) × (16 * n ≤ length (now parts)) × ((i : ℕ) → i < n → getD (now bases) i 0 ≤ 1024) × AllThere (now nodes) (now edges) (now heads) (now landings) (λ i. i) n × (n ≤ length (now bases)) × ((i b : ℕ) → i < n → inSet (returnsIn (now parts) (now returners)) i b ≡ true → b < blocks) × (blocks ≤ 1024) ⌝ }
-    ensures { λ _. ⌜ AllWanted (now (h .entry)) (now (g .entry)) (now (done .entry)) (λ m ends. flat (returnWays m (now (nodes .entry)) (now (edges .entry)) ends (now (heads .entry)) (now (landings .entry)) (now (bases .entry)) (now (parts .entry)) (returnsIn (now (parts .entry)) (now (returners .entry)))) n) (now (g .exit)) (now (done .exit)) ⌝ }
+    requires { ⌜ SomeStand (now h) (λ m ends. wanterWays m (now nodes) (now edges) ends (now heads) (now landings) (now roots) (now guards) (now bases) (now parts) (returnsIn (now parts) (now returners)) routes k) × HopsJoin (now h) (heldIn (now g) .graph) × WanterThere (now nodes) (now edges) (now heads) (now landings) (now roots) (now guards) (now bases) (now parts) (returnsIn (now parts) (now returners)) routes blocks k × (blocks ≤ 1024) ⌝ }
+    ensures { λ _. ⌜ AllWanted (now (h .entry)) (now (g .entry)) (now (done .entry)) (λ m ends. wanterWays m (now (nodes .entry)) (now (edges .entry)) ends (now (heads .entry)) (now (landings .entry)) (now (roots .entry)) (now (guards .entry)) (now (bases .entry)) (now (parts .entry)) (returnsIn (now (parts .entry)) (now (returners .entry))) routes k) (now (g .exit)) (now (done .exit)) ⌝ }
 {
-    for i in 0..n {
-        if !is_over(nodes, landings, i) {
-            let r = node_in(nodes, i).route;
-            let base = number_in(bases, i);
-            let part = set_at(parts, i);
-            let set = common_at(parts, i, returners);
-            want_set(
-                g,
-                h,
-                nodes,
-                edges,
-                heads,
-                landings,
-                i,
-                r,
-                base,
-                &part,
-                &set,
-                blocks,
-                done,
-            );
-        }
+    if is_idle(nodes, landings, routes, k) {
+        return;
     }
+    let x = wanter_of(nodes, roots, bases, routes, k);
+    want_set(
+        g,
+        h,
+        nodes,
+        edges,
+        heads,
+        landings,
+        x,
+        guards,
+        routes,
+        parts,
+        returners,
+        k,
+        blocks,
+        done,
+    );
 }
 
-// Whether node i wants nothing: it has no edges, and all its ends leave.
-fn is_over(nodes: &[u16], landings: &[u16], i: usize) -> bool
-    requires { ⌜ (6 * i + 6 ≤ length (now nodes)) × (recordIn (now nodes) i .«first_end» + recordIn (now nodes) i .ends ≤ length (now landings)) ⌝ }
-    ensures { λ r. ⌜ (r ≡ true → Over (now (nodes .entry)) (now (landings .entry)) i) ⌝ }
-{
-    let node = node_in(nodes, i);
-    if node.edges != 0 {
-        return false;
-    }
-    let first = node.first_end;
-    let n = node.ends;
-    for k in 0..n {
-        if number_in(landings, first + k) != LEAVE {
-            return false;
-        }
-    }
-    true
-}
-
-// What node i wants for route r out of the blocks of a set, all below `blocks`; where `base` is not 0, out of the copies that
-// it has of them.
+// What wanter k, which is x, wants out of its blocks.
 fn want_set(
     g: &mut Words,
     h: &Hops,
@@ -212,39 +149,50 @@ fn want_set(
     edges: &[u16],
     heads: &[u16],
     landings: &[u16],
-    i: usize,
-    r: usize,
-    base: usize,
-    part: &[u64; 16],
-    set: &[u64; 16],
+    x: Wanter,
+    guards: &[u64],
+    routes: usize,
+    parts: &[u64],
+    returners: &[u64; 16],
+    k: usize,
     blocks: usize,
     done: &mut Flags,
 )
-    requires { ⌜ SomeStand (now h) (λ m ends. setWays m (now nodes) (now edges) ends (now heads) (now landings) i r base (now part) (now set)) × HopsJoin (now h) (heldIn (now g) .graph) × (base ≤ 1024) × NodeThere (now nodes) (now edges) (now heads) (now landings) i × ((b : ℕ) → member (now set) b ≡ true → b < blocks) × (blocks ≤ 1024) ⌝ }
-    ensures { λ _. ⌜ AllWanted (now (h .entry)) (now (g .entry)) (now (done .entry)) (λ m ends. setWays m (now (nodes .entry)) (now (edges .entry)) ends (now (heads .entry)) (now (landings .entry)) i r base (now (part .entry)) (now (set .entry))) (now (g .exit)) (now (done .exit)) ⌝ }
+    requires { ⌜ SomeStand (now h) (λ m ends. setWays m (now nodes) (now edges) ends (now heads) (now landings) (x .node) (x .route) (x .base) (setAt (now parts) (x .node)) (wanterSet (now guards) (returnsIn (now parts) (now returners)) routes k)) × HopsJoin (now h) (heldIn (now g) .graph) × (x .base ≤ 1024) × NodeThere (now nodes) (now edges) (now heads) (now landings) (x .node) × ((b : ℕ) → member (wanterSet (now guards) (returnsIn (now parts) (now returners)) routes k) b ≡ true → b < blocks) × (blocks ≤ 1024) × (16 * routes ≤ length (now guards)) × (16 * (k - routes) + 16 ≤ length (now parts)) × (16 * x .node + 16 ≤ length (now parts)) ⌝ }
+    ensures { λ _. ⌜ AllWanted (now (h .entry)) (now (g .entry)) (now (done .entry)) (λ m ends. setWays m (now (nodes .entry)) (now (edges .entry)) ends (now (heads .entry)) (now (landings .entry)) (x .node) (x .route) (x .base) (setAt (now (parts .entry)) (x .node)) (wanterSet (now (guards .entry)) (returnsIn (now (parts .entry)) (now (returners .entry))) routes k)) (now (g .exit)) (now (done .exit)) ⌝ }
 {
-    sixteen(set);
     let mut from = 0;
     loop {
-        let Lowest::At(o) = next_in(set, from, blocks) else {
+        let Lowest::At(o) = next_block(guards, parts, returners, routes, k, from, blocks) else {
             return;
         };
         from = o + 1;
-        let b = place_of(base, part, o);
-        want_from(g, h, nodes, edges, heads, landings, i, r, b, done);
+        let b = place_of(x, parts, o);
+        want_from(
+            g,
+            h,
+            nodes,
+            edges,
+            heads,
+            landings,
+            x.node,
+            x.route,
+            b,
+            done,
+        );
     }
 }
 
 // Where a node has block o.
-fn place_of(base: usize, part: &[u64; 16], o: usize) -> usize
-    requires { ⌜ (base ≤ 1024) × (o < 1024) ⌝ }
-    ensures { λ r. ⌜ (r ≡ placeOf base (now (part .entry)) o) × (r < 65536) ⌝ }
+fn place_of(x: Wanter, parts: &[u64], o: usize) -> usize
+    requires { ⌜ (x .base ≤ 1024) × (o < 1024) × (16 * x .node + 16 ≤ length (now parts)) ⌝ }
+    ensures { λ r. ⌜ (r ≡ placeOf (x .base) (setAt (now (parts .entry)) (x .node)) o) × (r < 65536) ⌝ }
 {
-    if base == 0 {
+    if x.base == 0 {
         return o;
     }
-    sixteen(part);
-    base + rank_in(part, o)
+    let part = set_at(parts, x.node);
+    x.base + rank_in(&part, o)
 }
 
 // What node i wants for route r out of block b.

@@ -7,8 +7,8 @@ use native.Mathlib.Omega.{arith}
 use borrow.Author.Count.{below-more}
 use borrow.Author.Needs.{needs}
 use lib.ListN.{getD}
-use Rattle.unwind.proofs.wants.is_over.Statement.{statement}
-use Rattle.unwind.proofs.wants.is_over.Tie as tie
+use Rattle.unwind.proofs.wants.wanter.is_over.Statement.{statement}
+use Rattle.unwind.proofs.wants.wanter.is_over.Tie as tie
 
 abbrev Inv-loop : tie.InvT-loop
 Inv-loop nodes landings i first n k₀ k = (k ≤ n) × ((j : ℕ) → j < k → getD landings (first + j) 0 ≡ 65535)
