@@ -64,8 +64,8 @@ module _ {s : List ℕ} {y : RouteLayout} {nodes edges ends heads landings roots
           originals-fit = omega (arith, g .originals-fit);
         }
 
-    pub ready : {guarded : List ℕ} {worth : Bool} (turns : List ℕ) → Joins (λ r b. inSet guards r b) (y .routes .count) guarded → (worth ≡ true → Moves landings (stored .ends)) → (worth ≡ true → Turning guards (y .routes .count) (returnsIn parts returners) (stored .nodes) blocks turns) → Ready s y nodes edges ends heads landings roots guards bases parts returners stored blocks originals exits guarded worth turns
-    ready turns joined moves turning = record { given = g; joined = joined; turning = λ e. (moves e, turning e) }
+    pub ready : {worth : Bool} (turns : List ℕ) → (worth ≡ true → Moves landings (stored .ends)) → (worth ≡ true → Turning guards (y .routes .count) (returnsIn parts returners) (stored .nodes) blocks turns) → Ready s y nodes edges ends heads landings roots guards bases parts returners stored blocks originals exits worth turns
+    ready turns moves turning = record { given = g; turning = λ e. (moves e, turning e) }
 
     pub list-room : (w : ℕ) → w < 16 → (stored .nodes ≤ length originals) × (stored .nodes ≤ 544) × (16 * stored .nodes ≤ length parts) × (w < 16) × (stored .nodes ≤ length bases)
     list-room w low = (g .originals-fit, g .tries .nodes-most, given-returns, low, g .bases-fit)
@@ -74,22 +74,22 @@ module _ {s : List ℕ} {y : RouteLayout} {nodes edges ends heads landings roots
       pub busy-room : w < 16 → (w < 16) × (listed ≤ length l) × ((k : ℕ) → k < listed → 16 * getD l k 0 + 16 ≤ length parts)
       busy-room low = (low, omega (arith, g .originals-fit, list .few), λ k h. omega (arith, list .within k h, given-returns))
 
-  module _ {guarded : List ℕ} {worth : Bool} {turns : List ℕ} (r : Ready s y nodes edges ends heads landings roots guards bases parts returners stored blocks originals exits guarded worth turns) where
-    pub ready-kept : {l l′ : List ℕ} → length l ≡ length originals → length l′ ≡ length exits → Ready s y nodes edges ends heads landings roots guards bases parts returners stored blocks l l′ guarded worth turns
-    ready-kept e f = record { given = given-kept (r .given) e f; joined = r .joined; turning = r .turning }
+  module _ {worth : Bool} {turns : List ℕ} (r : Ready s y nodes edges ends heads landings roots guards bases parts returners stored blocks originals exits worth turns) where
+    pub ready-kept : {l l′ : List ℕ} → length l ≡ length originals → length l′ ≡ length exits → Ready s y nodes edges ends heads landings roots guards bases parts returners stored blocks l l′ worth turns
+    ready-kept e f = record { given = given-kept (r .given) e f; turning = r .turning }
 
-    module _ {l : List ℕ} {w listed : ℕ} (list : Originals bases (returnsIn parts returners) l (stored .nodes) w listed) where
+    module _ {l : List ℕ} {w listed guarded : ℕ} (joined : Joins (λ r b. inSet guards r b) (y .routes .count) w guarded) (list : Originals bases (returnsIn parts returners) l (stored .nodes) w listed) where
       pub hops-quiet : {x : ℕ} → BusyIn guarded (returnsIn parts returners) l listed w x → (b : ℕ) → b / 64 ≡ w → eqb (x / 2 ^ (b % 64) % 2) 1 ≡ false → blockHops (routesIn s y) nodes edges ends heads landings roots guards bases (returnsIn parts returners) stored b ≡ []
-      hops-quiet {x} busy = busy-quiet (routesIn s y) nodes edges ends heads landings roots guards bases (returnsIn parts returners) stored (y .routes .count) (length-records routeFrom s (y .routes)) guarded (r .joined) l listed w x list busy
+      hops-quiet {x} busy = busy-quiet (routesIn s y) nodes edges ends heads landings roots guards bases (returnsIn parts returners) stored (y .routes .count) (length-records routeFrom s (y .routes)) l listed w x guarded joined list busy
 
       pub word-quiet : BusyIn guarded (returnsIn parts returners) l listed w 0 → (b : ℕ) → 64 * w ≤ b → b < 64 * w + 64 → blockHops (routesIn s y) nodes edges ends heads landings roots guards bases (returnsIn parts returners) stored b ≡ []
       word-quiet busy b low high = hops-quiet busy b (omega arith) (none-set (b % 64))
 
       module _ {now : List ℕ} {last n : ℕ} (p : Going s y nodes edges ends heads landings roots guards bases parts returners stored exits now last n) (b : ℕ) where
-        pub gather-room : length l ≡ length originals → b < blocks → b / 64 ≡ w → TriesIn (routesIn s y) nodes edges ends roots stored × (b < 1024) × (2 * (length edges + length ends) ≤ length now) × Originals bases (returnsIn parts returners) l (stored .nodes) (b / 64) listed × RoutesThere s y × (stored .nodes ≤ length heads) × (stored .ends ≤ length landings) × (stored .nodes ≤ length l) × (16 * length (routesIn s y .routes) ≤ length guards) × (16 * stored .nodes ≤ length parts) × Joins (λ r c. inSet guards r c) (y .routes .count) guarded
+        pub gather-room : length l ≡ length originals → b < blocks → b / 64 ≡ w → TriesIn (routesIn s y) nodes edges ends roots stored × (b < 1024) × (2 * (length edges + length ends) ≤ length now) × Originals bases (returnsIn parts returners) l (stored .nodes) (b / 64) listed × RoutesThere s y × (stored .nodes ≤ length heads) × (stored .ends ≤ length landings) × (stored .nodes ≤ length l) × (16 * length (routesIn s y .routes) ≤ length guards) × (16 * stored .nodes ≤ length parts) × Joins (λ r c. inSet guards r c) (y .routes .count) (b / 64) guarded
         gather-room long low here =
             let g = r .given in
-            (g .tries, omega (arith, g .few), omega (arith, g .roomy .room, p .long), rw here list, g .there, g .heads-fit, g .landings-fit, omega (arith, g .originals-fit), g .sets .guards-fit, given-returns g, r .joined)
+            (g .tries, omega (arith, g .few), omega (arith, g .roomy .room, p .long), rw here list, g .there, g .heads-fit, g .landings-fit, omega (arith, g .originals-fit), g .sets .guards-fit, given-returns g, rw here joined)
 
     module _ {now : List ℕ} {last n : ℕ} (p : Going s y nodes edges ends heads landings roots guards bases parts returners stored exits now last n) where
       abbrev pub HeldAt : ℕ → List ℕ → ℕ → Type 0

@@ -8,7 +8,6 @@
 --     copy-rank, copy-rises, copy-more     the number of a copy by the members below
 --     copy-here, copy-quiet        the hops out of a copy, and of a block from which the node does not return
 --     sets-quiet, sets-below, sets-few, sets-number, sets-here, sets-more     the same by the sets of a node
---     joins-none, joins-more       one set more
 --     routes-quiet                 no route gives a way out of a block that none guards
 --     originals-none, originals-more, originals-skip     the nodes on the original blocks, one after the other
 --     originals-records            they give what all nodes give
@@ -17,7 +16,7 @@
 -- Assumes nothing.
 use mathlib.Core.Path.{_≡_, refl, sym, ap, _∙_, subst}
 use mathlib.Core.Logic.{_⊎_, ⊎-elim}
-use mathlib.Core.Bool.{Bool, true, false, cond, _||_, false≢true}
+use mathlib.Core.Bool.{Bool, true, false, cond, false≢true}
 use mathlib.Core.List.{List, [], _++_, append-nil}
 use Prim.Native.Nat.{ℕ, zero, suc, _+_, _*_, _/_, _%_, _^_, _≤_, _<_}
 use native.Mathlib.Nat.{not-suc-le-zero}
@@ -33,9 +32,9 @@ use Rattle.image.specs.Deal.{routesOf}
 use Rattle.graph.specs.Graph.{Graph}
 use Rattle.graph.specs.Fold.{flat, some, count}
 use Rattle.graph.specs.Route.{routeAt}
-use Rattle.graph.specs.BlockSet.{member, none, excluding, Union}
+use Rattle.graph.specs.BlockSet.{member, excluding}
 use Rattle.graph.proofs.FoldLaws.{decided, some-none, flat-none, flat-same, flat-more, count-yes, count-no}
-use Rattle.graph.proofs.BlockLaws.{member-none, member-excluding, length-excluding}
+use Rattle.graph.proofs.BlockLaws.{member-excluding, length-excluding}
 use Rattle.unwind.specs.declared.emit.count.Sizes.{Sizes}
 use Rattle.unwind.specs.declared.tries.store.Counts.{Counts}
 use Rattle.addition.specs.Order.{sorted}
@@ -273,16 +272,6 @@ module _ (m : RouteImage) (nodes edges ends heads landings parts returns : List 
 
 -- ---- blocks that have a way out
 
-module _ (f : ℕ → ℕ → Bool) where
-  pub joins-none : Joins f 0 none
-  unfolding some
-  joins-none = record { has = member-none }
-
-  module _ {w : List ℕ} {n : ℕ} (p : Joins f n w) where
-    pub joins-more : (v : List ℕ) → ((b : ℕ) → f n b ≡ member v b) → {w′ : List ℕ} → Union w v w′ → Joins f (n + 1) w′
-    unfolding some
-    joins-more v is u = record { has = λ b. u b ∙ (λ t. p .has b t || sym (is b) t) ∙ ap (some (λ i. f i b)) (sym (add-one n)) }
-
 pub routes-quiet : (m : RouteImage) (b : ℕ) (nodes edges ends heads landings roots guards : List ℕ) (routes : ℕ) → some (λ r. inSet guards r b) routes ≡ false → flat (routeRecords m b edges ends heads landings nodes roots guards) routes ≡ []
 unfolding routeRecords
 routes-quiet m b nodes edges ends heads landings roots guards routes none =
@@ -336,7 +325,7 @@ originals-records m b nodes edges ends heads landings bases returns originals n 
     (λ copies. sym (node-copy m b edges ends heads landings nodes bases returns i copies))
     (λ none. sym (node-off m b edges ends heads landings nodes bases returns i (set-none returns i b none)))))
 
-module _ (m : RouteImage) (nodes edges ends heads landings roots guards bases returns : List ℕ) (c : Counts) (routes : ℕ) (is : length (m .routes) ≡ routes) (guarded : List ℕ) (joined : Joins (λ r b. inSet guards r b) routes guarded) (originals : List ℕ) (listed w x : ℕ) (list : Originals bases returns originals (c .nodes) w listed) (busy : BusyIn guarded returns originals listed w x) (b : ℕ) (here : b / 64 ≡ w) (out : eqb (x / 2 ^ (b % 64) % 2) 1 ≡ false) where
+module _ (m : RouteImage) (nodes edges ends heads landings roots guards bases returns : List ℕ) (c : Counts) (routes : ℕ) (is : length (m .routes) ≡ routes) (originals : List ℕ) (listed w x guarded : ℕ) (joined : Joins (λ r b. inSet guards r b) routes w guarded) (list : Originals bases returns originals (c .nodes) w listed) (busy : BusyIn guarded returns originals listed w x) (b : ℕ) (here : b / 64 ≡ w) (out : eqb (x / 2 ^ (b % 64) % 2) 1 ≡ false) where
   listed-quiet : flat (λ k. returnRecords m b edges ends heads landings nodes returns (getD originals k 0)) listed ≡ []
   unfolding returnRecords
   listed-quiet =
@@ -346,7 +335,7 @@ module _ (m : RouteImage) (nodes edges ends heads landings roots guards bases re
   records-quiet : blockRecords m b nodes edges ends heads landings roots guards bases returns c ≡ []
   unfolding blockRecords
   records-quiet =
-      (λ t. (ap (flat (routeRecords m b edges ends heads landings nodes roots guards)) is ∙ routes-quiet m b nodes edges ends heads landings roots guards routes (sym (joined .has b) ∙ busy .unguarded b here out)) t
+      (λ t. (ap (flat (routeRecords m b edges ends heads landings nodes roots guards)) is ∙ routes-quiet m b nodes edges ends heads landings roots guards routes (sym (joined .has b here) ∙ busy .unguarded b here out)) t
       ++ (sym (originals-records m b nodes edges ends heads landings bases returns originals (c .nodes) listed (rw here list)) ∙ listed-quiet) t)
 
   pub busy-quiet : blockHops m nodes edges ends heads landings roots guards bases returns c b ≡ []

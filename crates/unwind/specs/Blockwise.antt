@@ -9,11 +9,10 @@ use Rattle.image.specs.There.{RoutesThere}
 use Rattle.image.specs.declared.section.RouteLayout.{RouteLayout}
 use Rattle.unwind.specs.declared.tries.store.Counts.{Counts}
 use Rattle.unwind.specs.Routed.{TriesIn}
-use Rattle.unwind.specs.Gather.{inSet}
 use Rattle.unwind.specs.Placed.{returnsIn}
 use Rattle.unwind.specs.Lent.{Roomy}
 use Rattle.unwind.specs.Alike.{Moves, Turning}
-use Rattle.unwind.specs.Members.{Joins, BlockSets}
+use Rattle.unwind.specs.Members.{BlockSets}
 
 module _ (s : List ℕ) (y : RouteLayout) (nodes edges ends heads landings roots guards bases parts returners : List ℕ) (stored : Counts) (blocks : ℕ) (originals exits : List ℕ) where
   -- tries whose nodes are placed, and room in scratch
@@ -28,8 +27,7 @@ module _ (s : List ℕ) (y : RouteLayout) (nodes edges ends heads landings roots
     pub bases-fit : stored .nodes ≤ length bases
     pub originals-fit : stored .nodes ≤ length originals
 
-  -- and which blocks are guarded; where it is worth knowing, turns marks where the ways out differ
-  pub record Ready (guarded : List ℕ) (worth : Bool) (turns : List ℕ) : Type 0 where
+  -- and where it is worth knowing, turns marks where the ways out differ
+  pub record Ready (worth : Bool) (turns : List ℕ) : Type 0 where
     pub given : Given
-    pub joined : Joins (λ r b. inSet guards r b) (y .routes .count) guarded
     pub turning : worth ≡ true → Moves landings (stored .ends) × Turning guards (y .routes .count) (returnsIn parts returners) (stored .nodes) blocks turns

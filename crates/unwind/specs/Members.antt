@@ -7,7 +7,6 @@ use Prim.Native.Nat.{ℕ, _+_, _*_, _/_, _%_, _^_, _≤_, _<_}
 use lib.Dec.{eqb}
 use lib.ListN.{length, getD}
 use Rattle.graph.specs.Fold.{flat, some}
-use Rattle.graph.specs.BlockSet.{member}
 use Rattle.unwind.specs.Sources.{Exit}
 use Rattle.unwind.specs.Gather.{inSet}
 
@@ -23,9 +22,9 @@ pub record NodesSets (parts returns : List ℕ) (blocks n : ℕ) : Type 0 where
 
 -- ---- the blocks that have a way out
 
--- w has the blocks of each of the first n sets
-pub record Joins (f : ℕ → ℕ → Bool) (n : ℕ) (w : List ℕ) : Type 0 where
-  pub has : (b : ℕ) → member w b ≡ some (λ i. f i b) n
+-- word x has the blocks of word w that one of the first n sets has
+pub record Joins (f : ℕ → ℕ → Bool) (n w x : ℕ) : Type 0 where
+  pub has : (b : ℕ) → b / 64 ≡ w → eqb (x / 2 ^ (b % 64) % 2) 1 ≡ some (λ i. f i b) n
 
 -- the sets of the routes and of the first n nodes stand in the slices, and have the first `blocks` blocks alone
 pub record BlockSets (guards returns : List ℕ) (blocks routes n : ℕ) : Type 0 where
@@ -44,7 +43,7 @@ pub record Originals (bases returns originals : List ℕ) (n w count : ℕ) : Ty
   pub original : (k : ℕ) → k < count → getD bases (getD originals k 0) 0 ≡ 0
   pub all : (f : ℕ → List Exit) → ((i : ℕ) → i < n → (getD bases i 0 ≡ 0 → ⊥) ⊎ (getD returns (16 * i + w) 0 ≡ 0) → f i ≡ []) → flat f n ≡ flat (λ k. f (getD originals k 0)) count
 
--- a block of word w that word x has not is guarded by no route, and none of the listed nodes returns from it
-pub record BusyIn (guarded returns originals : List ℕ) (listed w x : ℕ) : Type 0 where
-  pub unguarded : (b : ℕ) → b / 64 ≡ w → eqb (x / 2 ^ (b % 64) % 2) 1 ≡ false → member guarded b ≡ false
+-- a block of word w that word x has not, word `guarded` has not, and none of the listed nodes returns from it
+pub record BusyIn (guarded : ℕ) (returns originals : List ℕ) (listed w x : ℕ) : Type 0 where
+  pub unguarded : (b : ℕ) → b / 64 ≡ w → eqb (x / 2 ^ (b % 64) % 2) 1 ≡ false → eqb (guarded / 2 ^ (b % 64) % 2) 1 ≡ false
   pub unreturned : (b : ℕ) → b / 64 ≡ w → eqb (x / 2 ^ (b % 64) % 2) 1 ≡ false → (k : ℕ) → k < listed → inSet returns (getD originals k 0) b ≡ false

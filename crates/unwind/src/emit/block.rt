@@ -1,4 +1,5 @@
 // All ways out of a block that stood: of the routes that guard it, and of the nodes on the original blocks that return there.
+use crate::emit::busy::has_block;
 use crate::emit::gather::gather_node;
 use crate::slots::in_set;
 use crate::tries::store::Counts;
@@ -17,8 +18,8 @@ ghost use Rattle.unwind.specs.Placed.{returnsIn};
 ghost use Rattle.unwind.specs.Lent.{blockRecords, BlockHeld};
 ghost use Rattle.unwind.specs.Members.{Joins, Originals};
 
-// All of them, and how many there are. `guarded` are the blocks that a route guards, and `originals` the nodes on the original
-// blocks that return from a block of its word.
+// All of them, and how many there are. Of the word of b, `guarded` has the blocks that a route guards, and `originals` the
+// nodes on the original blocks that return from one.
 pub fn gather_block(
     s: &[u8],
     y: RouteLayout,
@@ -29,7 +30,7 @@ pub fn gather_block(
     landings: &[u16],
     roots: &[u16],
     guards: &[u64],
-    guarded: &[u64; 16],
+    guarded: u64,
     bases: &[u16],
     parts: &[u64],
     returners: &[u64; 16],
@@ -39,7 +40,7 @@ pub fn gather_block(
     b: usize,
     exits: &mut [u16],
 ) -> usize
-    requires { ⌜ TriesIn (routesIn (now s) y) (now nodes) (now edges) (now ends) (now roots) stored × (b < 1024) × (2 * (length (now edges) + length (now ends)) ≤ length (now exits)) × Originals (now bases) (returnsIn (now parts) (now returners)) (now originals) (stored .nodes) (b / 64) listed × RoutesThere (now s) y × (stored .nodes ≤ length (now heads)) × (stored .ends ≤ length (now landings)) × (stored .nodes ≤ length (now originals)) × (16 * length (routesIn (now s) y .routes) ≤ length (now guards)) × (16 * stored .nodes ≤ length (now parts)) × Joins (λ r k. inSet (now guards) r k) (y .routes .count) (now guarded) ⌝ }
+    requires { ⌜ TriesIn (routesIn (now s) y) (now nodes) (now edges) (now ends) (now roots) stored × (b < 1024) × (2 * (length (now edges) + length (now ends)) ≤ length (now exits)) × Originals (now bases) (returnsIn (now parts) (now returners)) (now originals) (stored .nodes) (b / 64) listed × RoutesThere (now s) y × (stored .nodes ≤ length (now heads)) × (stored .ends ≤ length (now landings)) × (stored .nodes ≤ length (now originals)) × (16 * length (routesIn (now s) y .routes) ≤ length (now guards)) × (16 * stored .nodes ≤ length (now parts)) × Joins (λ r k. inSet (now guards) r k) (y .routes .count) (b / 64) guarded ⌝ }
     ensures { λ r. ⌜ BlockHeld (routesIn (now (s .entry)) y) b (blockRecords (routesIn (now (s .entry)) y) b (now (nodes .entry)) (now (edges .entry)) (now (ends .entry)) (now (heads .entry)) (now (landings .entry)) (now (roots .entry)) (now (guards .entry)) (now (bases .entry)) (returnsIn (now (parts .entry)) (now (returners .entry))) stored) (now (edges .entry)) (now (ends .entry)) (now (exits .entry)) (now (exits .exit)) r ⌝ }
 {
     let count = y.routes.count as usize;
@@ -88,16 +89,16 @@ fn gather_routes(
     landings: &[u16],
     roots: &[u16],
     guards: &[u64],
-    guarded: &[u64; 16],
+    guarded: u64,
     count: usize,
     b: usize,
     exits: &mut [u16],
     held: usize,
 ) -> usize
-    requires { ⌜ Pooled (routesIn (now s) y) b (now edges) (now ends) (now heads) (now landings) (now exits) held × (b < 1024) × (16 * count ≤ length (now guards)) × AllFit (now nodes) (now edges) (now ends) (λ r. getD (now roots) r 0) count × RoutesThere (now s) y × AllThere (now nodes) (now edges) (now heads) (now landings) (λ r. getD (now roots) r 0) count × (count ≤ length (now roots)) × Joins (λ r k. inSet (now guards) r k) count (now guarded) ⌝ }
+    requires { ⌜ Pooled (routesIn (now s) y) b (now edges) (now ends) (now heads) (now landings) (now exits) held × (b < 1024) × (16 * count ≤ length (now guards)) × AllFit (now nodes) (now edges) (now ends) (λ r. getD (now roots) r 0) count × RoutesThere (now s) y × AllThere (now nodes) (now edges) (now heads) (now landings) (λ r. getD (now roots) r 0) count × (count ≤ length (now roots)) × Joins (λ r k. inSet (now guards) r k) count (b / 64) guarded ⌝ }
     ensures { λ r. ⌜ Adds (routesIn (now (s .entry)) y) b (now (edges .entry)) (now (ends .entry)) (now (heads .entry)) (now (landings .entry)) (now (exits .entry)) held (flat (routeRecords (routesIn (now (s .entry)) y) b (now (edges .entry)) (now (ends .entry)) (now (heads .entry)) (now (landings .entry)) (now (nodes .entry)) (now (roots .entry)) (now (guards .entry))) count) (now (exits .exit)) r ⌝ }
 {
-    if !has_in(guarded, b) {
+    if !has_block(guarded, b) {
         return held;
     }
     let mut n = held;

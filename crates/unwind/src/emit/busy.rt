@@ -1,7 +1,5 @@
 // The blocks that have a way out, and the nodes that return from some of them: the others need not be looked at.
-use crate::slots::set_at;
 use crate::tries::store::number_in;
-use graph::blockset::add_all;
 ghost use mathlib.Core.Path.{_≡_};
 ghost use Prim.Native.Nat.{ℕ, _+_, _*_, _/_, _%_, _^_, _≤_, _<_, min};
 ghost use lib.Dec.{eqb};
@@ -10,15 +8,14 @@ ghost use Rattle.unwind.specs.Gather.{inSet};
 ghost use Rattle.unwind.specs.Placed.{returnsIn};
 ghost use Rattle.unwind.specs.Members.{Joins, Originals, BusyIn};
 
-// Those that one of the routes guards.
-pub fn guarded_blocks(guards: &[u64], routes: usize) -> [u64; 16]
-    requires { ⌜ 16 * routes ≤ length (now guards) ⌝ }
-    ensures { λ w. ⌜ Joins (λ r b. inSet (now (guards .entry)) r b) routes w ⌝ }
+// The blocks of word w that one of the routes guards.
+pub fn guarded_in(guards: &[u64], routes: usize, w: usize) -> u64
+    requires { ⌜ (16 * routes ≤ length (now guards)) × (w < 16) ⌝ }
+    ensures { λ x. ⌜ Joins (λ r b. inSet (now (guards .entry)) r b) routes w x ⌝ }
 {
-    let mut all = [0u64; 16];
+    let mut all = 0;
     for r in 0..routes {
-        let set = set_at(guards, r);
-        add_all(&mut all, &set);
+        all = all | guards[16 * r + w];
     }
     all
 }
@@ -50,7 +47,7 @@ pub fn original_nodes(
 
 // The blocks of word w that have a way out: those that are guarded, and those from which one of the listed nodes returns.
 pub fn busy_in(
-    guarded: &[u64; 16],
+    guarded: u64,
     parts: &[u64],
     returners: &[u64; 16],
     originals: &[u16],
@@ -58,14 +55,14 @@ pub fn busy_in(
     w: usize,
 ) -> u64
     requires { ⌜ (w < 16) × (listed ≤ length (now originals)) × ((k : ℕ) → k < listed → 16 * getD (now originals) k 0 + 16 ≤ length (now parts)) ⌝ }
-    ensures { λ x. ⌜ BusyIn (now (guarded .entry)) (returnsIn (now (parts .entry)) (now (returners .entry))) (now (originals .entry)) listed w x ⌝ }
+    ensures { λ x. ⌜ BusyIn guarded (returnsIn (now (parts .entry)) (now (returners .entry))) (now (originals .entry)) listed w x ⌝ }
 {
     let mut all = 0;
     for k in 0..listed {
         let i = number_in(originals, k);
         all = all | parts[16 * i + w];
     }
-    guarded[w] | (all & returners[w])
+    guarded | (all & returners[w])
 }
 
 // Whether the word of block b has it.

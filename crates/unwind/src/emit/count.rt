@@ -4,7 +4,7 @@ use crate::emit::alike::is_worth;
 use crate::emit::alike::mark_turns;
 use crate::emit::block::gather_block;
 use crate::emit::busy::busy_in;
-use crate::emit::busy::guarded_blocks;
+use crate::emit::busy::guarded_in;
 use crate::emit::busy::has_block;
 use crate::emit::busy::original_nodes;
 use crate::emit::busy::word_end;
@@ -60,7 +60,6 @@ pub fn count_blocks(
     ensures { λ r. ⌜ SumSize (flat (blockHops (routesIn (now (s .entry)) y) (now (nodes .entry)) (now (edges .entry)) (now (ends .entry)) (now (heads .entry)) (now (landings .entry)) (now (roots .entry)) (now (guards .entry)) (now (bases .entry)) (returnsIn (now (parts .entry)) (now (returners .entry))) stored) blocks) (now (exits .entry)) (now (exits .exit)) r ⌝ }
 {
     let routes = y.routes.count as usize;
-    let guarded = guarded_blocks(guards, routes);
     let worth = is_worth(stored.nodes, landings, stored.ends);
     let mut turns = [0u64; 16];
     if worth {
@@ -91,7 +90,6 @@ pub fn count_blocks(
             landings,
             roots,
             guards,
-            &guarded,
             bases,
             parts,
             returners,
@@ -119,7 +117,6 @@ fn count_word(
     landings: &[u16],
     roots: &[u16],
     guards: &[u64],
-    guarded: &[u64; 16],
     bases: &[u16],
     parts: &[u64],
     returners: &[u64; 16],
@@ -132,9 +129,11 @@ fn count_word(
     originals: &mut [u16],
     exits: &mut [u16],
 ) -> Sizes
-    requires { ⌜ Ready (now s) y (now nodes) (now edges) (now ends) (now heads) (now landings) (now roots) (now guards) (now bases) (now parts) (now returners) stored blocks (now originals) (now exits) (now guarded) worth (now turns) × (64 * w < blocks) × Summed (blockHops (routesIn (now s) y) (now nodes) (now edges) (now ends) (now heads) (now landings) (now roots) (now guards) (now bases) (returnsIn (now parts) (now returners)) stored) (64 * w) 65536 before ⌝ }
+    requires { ⌜ Ready (now s) y (now nodes) (now edges) (now ends) (now heads) (now landings) (now roots) (now guards) (now bases) (now parts) (now returners) stored blocks (now originals) (now exits) worth (now turns) × (64 * w < blocks) × Summed (blockHops (routesIn (now s) y) (now nodes) (now edges) (now ends) (now heads) (now landings) (now roots) (now guards) (now bases) (returnsIn (now parts) (now returners)) stored) (64 * w) 65536 before ⌝ }
     ensures { λ r. ⌜ Summed (blockHops (routesIn (now (s .entry)) y) (now (nodes .entry)) (now (edges .entry)) (now (ends .entry)) (now (heads .entry)) (now (landings .entry)) (now (roots .entry)) (now (guards .entry)) (now (bases .entry)) (returnsIn (now (parts .entry)) (now (returners .entry))) stored) (min (64 * w + 64) blocks) 65536 r ⌝ }
 {
+    let routes = y.routes.count as usize;
+    let guarded = guarded_in(guards, routes, w);
     let listed = original_nodes(bases, parts, returners, stored.nodes, w, originals);
     let busy = busy_in(guarded, parts, returners, originals, listed, w);
     if busy == 0 {

@@ -5,7 +5,7 @@ use crate::emit::alike::mark_turns;
 use crate::emit::append::add_exits;
 use crate::emit::block::gather_block;
 use crate::emit::busy::busy_in;
-use crate::emit::busy::guarded_blocks;
+use crate::emit::busy::guarded_in;
 use crate::emit::busy::has_block;
 use crate::emit::busy::original_nodes;
 use crate::emit::busy::word_end;
@@ -50,7 +50,6 @@ pub fn add_blocks(
     ensures { λ _. ⌜ HopsHeld (routesIn (now (s .entry)) y) blocks (now (h .entry)) (now (h .exit)) (flat (blockHops (routesIn (now (s .entry)) y) (now (nodes .entry)) (now (edges .entry)) (now (ends .entry)) (now (heads .entry)) (now (landings .entry)) (now (roots .entry)) (now (guards .entry)) (now (bases .entry)) (returnsIn (now (parts .entry)) (now (returners .entry))) stored) blocks) × (length (now (exits .exit)) ≡ length (now (exits .entry))) ⌝ }
 {
     let routes = y.routes.count as usize;
-    let guarded = guarded_blocks(guards, routes);
     let worth = is_worth(stored.nodes, landings, stored.ends);
     let mut turns = [0u64; 16];
     if worth {
@@ -77,7 +76,6 @@ pub fn add_blocks(
             landings,
             roots,
             guards,
-            &guarded,
             bases,
             parts,
             returners,
@@ -104,7 +102,6 @@ fn add_word(
     landings: &[u16],
     roots: &[u16],
     guards: &[u64],
-    guarded: &[u64; 16],
     bases: &[u16],
     parts: &[u64],
     returners: &[u64; 16],
@@ -116,9 +113,11 @@ fn add_word(
     originals: &mut [u16],
     exits: &mut [u16],
 )
-    requires { ⌜ Ready (now s) y (now nodes) (now edges) (now ends) (now heads) (now landings) (now roots) (now guards) (now bases) (now parts) (now returners) stored blocks (now originals) (now exits) (now guarded) worth (now turns) × (64 * w < blocks) × HopsHeld (routesIn (now s) y) (64 * w) (now h) (now h) (flat (blockHops (routesIn (now s) y) (now nodes) (now edges) (now ends) (now heads) (now landings) (now roots) (now guards) (now bases) (returnsIn (now parts) (now returners)) stored) (64 * w)) × HopsFit (flat (blockHops (routesIn (now s) y) (now nodes) (now edges) (now ends) (now heads) (now landings) (now roots) (now guards) (now bases) (returnsIn (now parts) (now returners)) stored) blocks) ⌝ }
+    requires { ⌜ Ready (now s) y (now nodes) (now edges) (now ends) (now heads) (now landings) (now roots) (now guards) (now bases) (now parts) (now returners) stored blocks (now originals) (now exits) worth (now turns) × (64 * w < blocks) × HopsHeld (routesIn (now s) y) (64 * w) (now h) (now h) (flat (blockHops (routesIn (now s) y) (now nodes) (now edges) (now ends) (now heads) (now landings) (now roots) (now guards) (now bases) (returnsIn (now parts) (now returners)) stored) (64 * w)) × HopsFit (flat (blockHops (routesIn (now s) y) (now nodes) (now edges) (now ends) (now heads) (now landings) (now roots) (now guards) (now bases) (returnsIn (now parts) (now returners)) stored) blocks) ⌝ }
     ensures { λ _. ⌜ HopsHeld (routesIn (now (s .entry)) y) (min (64 * w + 64) blocks) (now (h .entry)) (now (h .exit)) (flat (blockHops (routesIn (now (s .entry)) y) (now (nodes .entry)) (now (edges .entry)) (now (ends .entry)) (now (heads .entry)) (now (landings .entry)) (now (roots .entry)) (now (guards .entry)) (now (bases .entry)) (returnsIn (now (parts .entry)) (now (returners .entry))) stored) (min (64 * w + 64) blocks)) ⌝ }
 {
+    let routes = y.routes.count as usize;
+    let guarded = guarded_in(guards, routes, w);
     let listed = original_nodes(bases, parts, returners, stored.nodes, w, originals);
     let busy = busy_in(guarded, parts, returners, originals, listed, w);
     if busy == 0 {

@@ -1,5 +1,5 @@
 -- `gather_routes` meets its contract: none guards b, or each is asked. The invariant: those passed are gathered. Assumes nothing.
-use mathlib.Core.Path.{_≡_, sym, _∙_}
+use mathlib.Core.Path.{_≡_, refl, sym, _∙_}
 use Prim.Native.Nat.{_-_, _≤_}
 use native.Mathlib.Omega.{arith}
 use Rattle.image.specs.Image.{routesIn}
@@ -24,7 +24,7 @@ returns c =
     let start = c .before .before .before .before .before .before .before .before .before .before .before in
     let a = start .args in
     let m = routesIn (a .s .now) (a .y) in
-    let none = sym (start .pre .7 .has (a .b)) ∙ sym (c .before .has-in .ensures) ∙ not-true _ (c .if1 .taken) in
+    let none = sym (start .pre .7 .has (a .b) refl) ∙ sym (c .before .has-block .ensures) ∙ not-true _ (c .if1 .taken) in
     adds-some m (a .b) (a .edges .now) (a .ends .now) (a .heads .now) (a .landings .now) (sym (routes-quiet m (a .b) (a .nodes .now) (a .edges .now) (a .ends .now) (a .heads .now) (a .landings .now) (a .roots .now) (a .guards .now) (a .count) none))
     (adds-none m (a .b) (a .edges .now) (a .ends .now) (a .heads .now) (a .landings .now) (a .exits .now) (a .held) (start .pre .0))
 

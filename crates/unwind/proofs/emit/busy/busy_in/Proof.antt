@@ -1,20 +1,23 @@
--- `busy_in` meets its contract. The invariant: the parts of the nodes passed are joined. Assumes nothing.
+-- `busy_in` meets its contract. The invariant: the words of the parts of the nodes passed are joined. Assumes nothing.
 use mathlib.Core.Path.{_≡_}
 use Prim.Native.Nat.{_-_, _≤_}
 use native.Mathlib.Omega.{arith}
 use borrow.Author.Needs.{needs}
-use Rattle.unwind.proofs.BusyLaws.{Parted, parted-none, parted-more, busy-in}
+use lib.ListN.{getD}
+use Rattle.unwind.specs.Gather.{inSet}
+use Rattle.unwind.specs.Members.{Joins}
+use Rattle.unwind.proofs.BusyLaws.{joins-none, joins-more, busy-in}
 use Rattle.unwind.proofs.emit.busy.busy_in.Statement.{statement}
 use Rattle.unwind.proofs.emit.busy.busy_in.Tie as tie
 
 abbrev Inv-loop : tie.InvT-loop
-Inv-loop guarded parts returners originals listed w all₀ k₀ all k = (k ≤ listed) × Parted parts originals w k all
+Inv-loop guarded parts returners originals listed w all₀ k₀ all k = (k ≤ listed) × Joins (λ n b. inSet parts (getD originals n 0) b) k w all
 
 abbrev μ-loop : tie.MeasureT-loop
 μ-loop guarded parts returners originals listed w all₀ k₀ all k = listed - k
 
 loop-holds : tie.Need-loop-holds Inv-loop μ-loop
-loop-holds c = let a = c .before .before .args in (omega arith, parted-none (a .parts .now) (a .originals .now) (a .w) 0)
+loop-holds c = let a = c .before .before .args in (omega arith, joins-none (a .parts .now) (λ n. getD (a .originals .now) n 0) (a .w))
 
 number-in-requires : tie.Need-number-in-requires Inv-loop μ-loop
 number-in-requires c κs = omega (arith, c .before .before .before .before .pre .1, c .loop-test .taken)
@@ -35,20 +38,21 @@ shared-slice-read-all c =
 
 loop-again : tie.Need-loop-again Inv-loop μ-loop
 loop-again c =
-    let a = c .before .before .before .before .before .before .args in
+    let start = c .before .before .before .before .before .before in
+    let a = start .args in
     let top = c .before .before .before .loop in
-    (omega (arith, c .before .before .loop-test .taken), rw (c .before .number-in .ensures .0) (parted-more (a .parts .now) (a .originals .now) (a .w) (top .k) (top .all) (top .inv .1)))
+    (omega (arith, c .before .before .loop-test .taken), rw (c .before .number-in .ensures .0) (joins-more (a .parts .now) (λ n. getD (a .originals .now) n 0) (a .w) (top .k) (top .all) (start .pre .0) (top .inv .1)))
 
 element-copy-out-result : tie.Need-element-copy-out-result Inv-loop μ-loop
 element-copy-out-result c = omega (arith, c .before .before .before .before .pre .0)
 
 returns : tie.Need-returns Inv-loop μ-loop
 returns c =
-    let start = c .before .before .before .before .before .before in
+    let start = c .before .before .before .before .before in
     let a = start .args in
-    let end = c .before .before .before .loop in
+    let end = c .before .before .loop in
     let all : end .k ≡ a .listed = omega (arith, end .inv .0) in
-    busy-in (a .guarded .now) (a .parts .now) (a .returners .now) (a .originals .now) (a .listed) (a .w) (end .all) (start .pre .0) (rw all at (end .inv .1))
+    busy-in (a .guarded) (a .parts .now) (a .returners .now) (a .originals .now) (a .listed) (a .w) (end .all) (start .pre .0) (rw all at (end .inv .1))
 
 pub busy-in-spec : {M : Type 1} → statement M
 busy-in-spec =
@@ -67,6 +71,4 @@ busy-in-spec =
     loop-again
     (λ c. search needs)
     element-copy-out-result
-    (λ c. search needs)
-    (λ c. search needs)
     returns)

@@ -13,29 +13,32 @@ use Rattle.unwind.specs.Lent.{blockHops}
 use Rattle.unwind.specs.HopWords.{HopsHeld}
 use Rattle.unwind.proofs.HeldLaws.{held-room, held-more, held-step, held-quiet, fit-block, block-own}
 use Rattle.unwind.proofs.MemberLaws.{held-over}
-use Rattle.unwind.proofs.BlockLoop.{list-room, busy-room, Going, going-start, HeldAt, held-stays, going-next, gather-room, hops-quiet, word-quiet}
+use Rattle.unwind.proofs.BlockLoop.{given-guards, list-room, busy-room, Going, going-start, HeldAt, held-stays, going-next, gather-room, hops-quiet, word-quiet}
 use Rattle.unwind.proofs.emit.standing.add_word.Statement.{statement}
 use Rattle.unwind.proofs.emit.standing.add_word.Tie as tie
 
 abbrev Inv-loop : tie.InvT-loop
-Inv-loop h₀ s y nodes edges ends heads landings roots guards guarded bases parts returners stored blocks worth turns w originals exits₀ listed busy past last₀ n₀ b₀ h exits last n b =
+Inv-loop h₀ s y nodes edges ends heads landings roots guards bases parts returners stored blocks worth turns w originals exits₀ routes guarded listed busy past last₀ n₀ b₀ h exits last n b =
     (64 * w ≤ b) × (b ≤ past)
     × Going s y nodes edges ends heads landings roots guards bases parts returners stored exits₀ exits last n
     × HopsHeld (routesIn s y) b h₀ h (flat (blockHops (routesIn s y) nodes edges ends heads landings roots guards bases (returnsIn parts returners) stored) b)
 
 abbrev μ-loop : tie.MeasureT-loop
-μ-loop h₀ s y nodes edges ends heads landings roots guards guarded bases parts returners stored blocks worth turns w originals exits₀ listed busy past last₀ n₀ b₀ h exits last n b = past - b
+μ-loop h₀ s y nodes edges ends heads landings roots guards bases parts returners stored blocks worth turns w originals exits₀ routes guarded listed busy past last₀ n₀ b₀ h exits last n b = past - b
 
 -- the word is one of the sixteen
 low : (c : tie.Start Inv-loop μ-loop) → c .args .w < 16
 low c = omega (arith, c .pre .1, c .pre .0 .given .few)
 
+guarded-in-requires : tie.Need-guarded-in-requires Inv-loop μ-loop
+guarded-in-requires c κs = let start = c .before .before .before .before .before .before .before .before .before .before .before .before .before in (given-guards (start .pre .0 .given), low start)
+
 original-nodes-requires : tie.Need-original-nodes-requires Inv-loop μ-loop
-original-nodes-requires c κs = let start = c .before .before .before .before .before .before .before .before .before .before .before .before .before in list-room (start .pre .0 .given) _ (low start)
+original-nodes-requires c κs = let start = c .before .before .before .before .before .before .before .before .before .before .before .before .before .before .before in list-room (start .pre .0 .given) _ (low start)
 
 busy-in-requires : tie.Need-busy-in-requires Inv-loop μ-loop
 busy-in-requires c κs =
-    let start = c .before .before .before .before .before .before .before .before .before .before .before .before .before .before .before .before .before in
+    let start = c .before .before .before .before .before .before .before .before .before .before .before .before .before .before .before .before .before .before .before in
     let list = c .before .before .before .original-nodes in
     busy-room (start .pre .0 .given) (list .kept .1 .1 .1 .1 .1 .0) (list .ensures) (low start)
 
@@ -44,47 +47,47 @@ same-length c = c .before .before .before .before .before .original-nodes .kept 
 
 returns : tie.Need-returns Inv-loop μ-loop
 returns c =
-    let start = c .before .before .before .before .before .before .before .before .before .before .before .before .before .before .before .before .before .before .before in
-    held-over _ _ _ (omega (arith, start .pre .1)) (λ b from to. word-quiet (start .pre .0) (c .before .before .before .before .before .original-nodes .ensures) (rw (c .if1 .taken) at (c .before .busy-in .ensures)) b from (omega arith)) (start .pre .2)
+    let start = c .before .before .before .before .before .before .before .before .before .before .before .before .before .before .before .before .before .before .before .before .before in
+    held-over _ _ _ (omega (arith, start .pre .1)) (λ b from to. word-quiet (start .pre .0) (c .before .before .before .before .before .before .before .guarded-in .ensures) (c .before .before .before .before .before .original-nodes .ensures) (rw (c .if1 .taken) at (c .before .busy-in .ensures)) b from (omega arith)) (start .pre .2)
 
 word-end-requires : tie.Need-word-end-requires Inv-loop μ-loop
-word-end-requires c κs = low (c .before .before .before .before .before .before .before .before .before .before .before .before .before .before .before .before .before .before .before)
+word-end-requires c κs = low (c .before .before .before .before .before .before .before .before .before .before .before .before .before .before .before .before .before .before .before .before .before)
 
 loop-holds : tie.Need-loop-holds Inv-loop μ-loop
 loop-holds c =
-    let start = c .before .before .before .before .before .before .before .before .before .before .before .before .before .before .before .before .before .before .before .before in
+    let start = c .before .before .before .before .before .before .before .before .before .before .before .before .before .before .before .before .before .before .before .before .before .before in
     (omega arith, omega (arith, start .pre .1, c .word-end .ensures), going-start _ _ _ _ _ _ _ _ _ _ _ _ _ _, start .pre .2)
 
 -- the block at hand is one of the word's
 module _ (c : tie.In-loop Inv-loop μ-loop) where
-  below : c .before .loop .b < c .before .before .before .before .before .before .before .before .before .before .before .before .before .before .before .before .before .before .before .before .before .before .args .blocks
+  below : c .before .loop .b < c .before .before .before .before .before .before .before .before .before .before .before .before .before .before .before .before .before .before .before .before .before .before .before .before .args .blocks
   below = omega (arith, c .loop-test .taken, c .before .before .word-end .ensures)
 
-  here : c .before .loop .b / 64 ≡ c .before .before .before .before .before .before .before .before .before .before .before .before .before .before .before .before .before .before .before .before .before .before .args .w
+  here : c .before .loop .b / 64 ≡ c .before .before .before .before .before .before .before .before .before .before .before .before .before .before .before .before .before .before .before .before .before .before .before .before .args .w
   here = omega (arith, c .before .loop .inv .0, c .loop-test .taken, c .before .before .word-end .ensures)
 
 gather-block-requires : tie.Need-gather-block-requires Inv-loop μ-loop
 gather-block-requires c κs =
     let at = c .before .before .before .before .before .before in
     let list = c .before .before .before .before .before .before .before .before .before .before .before .before .before .before .original-nodes in
-    gather-room (c .before .before .before .before .before .before .before .before .before .before .before .before .before .before .before .before .before .before .before .before .before .before .before .before .before .before .before .before .pre .0) (list .ensures) (at .before .loop .inv .2) _ (list .kept .1 .1 .1 .1 .1 .0) (below at) (here at)
+    gather-room (c .before .before .before .before .before .before .before .before .before .before .before .before .before .before .before .before .before .before .before .before .before .before .before .before .before .before .before .before .before .before .pre .0) (c .before .before .before .before .before .before .before .before .before .before .before .before .before .before .before .before .guarded-in .ensures) (list .ensures) (at .before .loop .inv .2) _ (list .kept .1 .1 .1 .1 .1 .0) (below at) (here at)
 
 -- what stands in scratch is gathered of this block, or of the last and the same
-gathered : (c : tie.Joined3 Inv-loop μ-loop) → HeldAt (c .before .before .before .before .before .before .before .before .before .before .before .before .before .before .before .before .before .before .before .before .before .before .before .before .before .before .pre .0) (c .before .before .before .before .before .loop .inv .2) (c .before .before .before .before .before .loop .b) (c .if3 .exits) (c .if3 .n)
+gathered : (c : tie.Joined3 Inv-loop μ-loop) → HeldAt (c .before .before .before .before .before .before .before .before .before .before .before .before .before .before .before .before .before .before .before .before .before .before .before .before .before .before .before .before .pre .0) (c .before .before .before .before .before .loop .inv .2) (c .before .before .before .before .before .loop .b) (c .if3 .exits) (c .if3 .n)
 gathered c =
-    ⊎-elim (λ w. rw (w .6, w .7) (w .3 .ensures)) (λ w. rw (w .1, w .2) (held-stays (c .before .before .before .before .before .before .before .before .before .before .before .before .before .before .before .before .before .before .before .before .before .before .before .before .before .before .pre .0) (c .before .before .before .before .before .loop .inv .2) _ (below (c .before .before .before .before)) (c .before .goes-on .ensures (not-false _ (w .0 .left))))) (c .if3 .came)
+    ⊎-elim (λ w. rw (w .6, w .7) (w .3 .ensures)) (λ w. rw (w .1, w .2) (held-stays (c .before .before .before .before .before .before .before .before .before .before .before .before .before .before .before .before .before .before .before .before .before .before .before .before .before .before .before .before .pre .0) (c .before .before .before .before .before .loop .inv .2) _ (below (c .before .before .before .before)) (c .before .goes-on .ensures (not-false _ (w .0 .left))))) (c .if3 .came)
 
 add-exits-requires : tie.Need-add-exits-requires Inv-loop μ-loop
 add-exits-requires c κs =
     let top = c .before .before .before .before .before .before .before .loop in
     let held = gathered (c .before .before) in
     let own = block-own _ _ _ _ _ _ _ _ _ _ _ _ _ _ (held .holds) in
-    let room = held-room _ _ (top .inv .3) _ _ (fit-block _ _ _ own (below (c .before .before .before .before .before .before)) (c .before .before .before .before .before .before .before .before .before .before .before .before .before .before .before .before .before .before .before .before .before .before .before .before .before .before .before .before .pre .3)) in
+    let room = held-room _ _ (top .inv .3) _ _ (fit-block _ _ _ own (below (c .before .before .before .before .before .before)) (c .before .before .before .before .before .before .before .before .before .before .before .before .before .before .before .before .before .before .before .before .before .before .before .before .before .before .before .before .before .before .pre .3)) in
     (room .0, room .1, room .2, held .holds .ordered .fit)
 
 loop-again : tie.Need-loop-again Inv-loop μ-loop
 loop-again c =
-    let r = c .before .before .before .before .before .before .before .before .before .before .before .before .before .before .before .before .before .before .before .before .before .before .before .before .pre .0 in
+    let r = c .before .before .before .before .before .before .before .before .before .before .before .before .before .before .before .before .before .before .before .before .before .before .before .before .before .before .pre .0 in
     let at = c .before .before in
     let top = at .before .loop in
     let more = at .loop-test .taken in
@@ -94,7 +97,7 @@ loop-again c =
     let own = block-own _ _ _ _ _ _ _ _ _ _ _ _ _ _ (held .holds) in
     rw (w .6, w .7, w .8, w .9) (omega (arith, top .inv .0), omega (arith, more), going-next r (top .inv .2) _ (below at) held, held-step _ _ own (held-more _ _ (top .inv .3) _ _ (w .5 .ensures))))
     (λ w.
-    let quiet = hops-quiet r (c .before .before .before .before .before .before .before .before .before .before .original-nodes .ensures) (c .before .before .before .before .before .before .busy-in .ensures) _ (here at) (sym (c .before .has-block .ensures) ∙ w .0 .left) in
+    let quiet = hops-quiet r (c .before .before .before .before .before .before .before .before .before .before .before .before .guarded-in .ensures) (c .before .before .before .before .before .before .before .before .before .before .original-nodes .ensures) (c .before .before .before .before .before .before .busy-in .ensures) _ (here at) (sym (c .before .has-block .ensures) ∙ w .0 .left) in
     rw (w .1, w .2, w .3, w .4) (omega (arith, top .inv .0), omega (arith, more), top .inv .2, held-quiet _ _ quiet (top .inv .3)))
     (c .if2 .came)
 
@@ -116,6 +119,8 @@ add-word-spec =
     (tie.spec
     Inv-loop
     μ-loop
+    (λ c. search needs)
+    guarded-in-requires
     original-nodes-requires
     busy-in-requires
     same-length
