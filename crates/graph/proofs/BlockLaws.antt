@@ -4,18 +4,17 @@
 --     member-including, -excluding         a block more or less; length-including, length-excluding
 --     size-including, size-excluding       how many blocks there are then; size-le
 --     including-past, excluding-is         what a store writes
---     Ored, Anded, size-more, lowest-from, lowest-is, none-more    a word more of a loop
+--     Anded, size-more, lowest-from, lowest-is, none-more    a word more of a loop
 --     rank-more, rank-all     how many blocks are below one
 --     zero-below, shift-below, word-below     a set's blocks are below n
 -- Assumes nothing.
 use mathlib.Core.Path.{_≡_, refl, sym, ap, ap₂, _∙_}
 use mathlib.Core.Bool.{Bool, true, false, cond, not, _&&_, _||_}
 use mathlib.Core.List.{List}
-use Prim.Native.Nat.{ℕ, zero, suc, _+_, _-_, _*_, _/_, _%_, _^_, _≤_, _<_, min, max}
-use native.Mathlib.Nat.{not-suc-le-zero, div-eq-of-lt, div-lt-iff-lt-mul}
+use Prim.Native.Nat.{ℕ, zero, suc, _+_, _-_, _*_, _/_, _%_, _^_, _≤_, _<_, min}
+use native.Mathlib.Nat.{div-eq-of-lt, div-lt-iff-lt-mul}
 use native.Mathlib.Decide.{ℕ-discrete, decLt}
 use native.Mathlib.Omega.{arith}
-use borrow.Author.Count.{below-more}
 use borrow.Author.Tests.{eq-eqb, ne-eqb, eqb-true, lt-ltb, le-ltb}
 use lib.Bits.{bitAnd, bitOr, bitXor, differ, and-step, and-shr}
 use lib.Count.{ones, trailingZeros}
@@ -24,7 +23,7 @@ use lib.Pow.{pow-pos, pow-mono}
 use lib.ListN.{length, getD, set, length-set, getD-replicate, List·getD-eq-default}
 use lib.Seq.{getD-set-same, getD-set-other, set-out}
 use Rattle.graph.specs.Fold.{count}
-use Rattle.graph.specs.BlockSet.{member, none, including, excluding, Union, Common, sizeOf, LowestOf, LowestFrom}
+use Rattle.graph.specs.BlockSet.{member, none, including, excluding, Common, sizeOf, LowestOf, LowestFrom}
 use Rattle.graph.specs.WellFormed.{within}
 use Rattle.graph.specs.declared.blockset.Lowest.the-variants.{At}
 use Rattle.graph.proofs.FoldLaws.{count-same, count-none, count-add, count-one, count-le}
@@ -192,26 +191,6 @@ split P i c below here =
       | no ge ↦ let e : 64 * i + (c - 64 * i) ≡ c = omega arith in rw (← e) (here (c - 64 * i) e)
     ]
 
-or-digits : (x y : ℕ) → x < 2 → y < 2 → eqb (max x y) 1 ≡ (eqb x 1 || eqb y 1)
-or-digits zero zero hx hy = refl
-or-digits zero (suc zero) hx hy = refl
-or-digits (suc zero) zero hx hy = refl
-or-digits (suc zero) (suc zero) hx hy = refl
-or-digits zero (suc (suc y)) hx hy = absurd (omega arith)
-or-digits (suc zero) (suc (suc y)) hx hy = absurd (omega arith)
-or-digits (suc (suc x)) y hx hy = absurd (omega arith)
-
-union-is : (u v w : List ℕ) → length u ≡ 16 → length v ≡ 16 → length w ≡ 16 → ((k : ℕ) → k < 16 → getD w k 0 ≡ bitOr (getD u k 0) (getD v k 0)) → Union u v w
-union-is u v w lu lv lw all b =
-    elim (decLt b 1024) [
-      | yes h ↦
-          let x = bit (getD u (b / 64) 0) (b % 64) in
-          let y = bit (getD v (b / 64) 0) (b % 64) in
-          let digits : digit w b ≡ max x y = rw (all (b / 64) (omega arith)) (bit-or (getD u (b / 64) 0) (getD v (b / 64) 0) (b % 64)) in
-          member-bit w b ∙ rw (digits, member-bit u b, member-bit v b) (or-digits x y (bit-lt _ _) (bit-lt _ _))
-      | no ge ↦ rw (member-past u b lu (omega arith), member-past v b lv (omega arith)) (member-past w b lw (omega arith))
-    ]
-
 module _ (w : List ℕ) (i : ℕ) where
   pub none-more : (n : ℕ) → getD w i 0 ≡ 0 → ((c : ℕ) → n ≤ c → c < 64 * i → member w c ≡ false) → (c : ℕ) → n ≤ c → c < 64 * (i + 1) → member w c ≡ false
   none-more n z below c ge h =
@@ -260,30 +239,6 @@ rank-all w long b =
 -- nothing in sixteen words is nothing at all
 pub none-at-all : (w : List ℕ) → length w ≡ 16 → ((c : ℕ) → c < 1024 → member w c ≡ false) → (c : ℕ) → member w c ≡ false
 none-at-all w long below c = elim (decLt c 1024) [ yes lt ↦ below c lt | no ge ↦ member-past w c long (omega arith) ]
-
--- w is u with the words below i joined to v's
-pub record Ored (u v w : List ℕ) (i : ℕ) : Type 0 where
-  pub long : (length u ≡ 16) × (length v ≡ 16) × (length w ≡ 16)
-  pub done : (k : ℕ) → k < i → getD w k 0 ≡ bitOr (getD u k 0) (getD v k 0)
-  pub left : (k : ℕ) → i ≤ k → getD w k 0 ≡ getD u k 0
-
-pub ored-none : (u v : List ℕ) → length u ≡ 16 → length v ≡ 16 → Ored u v u 0
-ored-none u v lu lv = record { long = (lu, lv, lu); done = λ k h. absurd (not-suc-le-zero h); left = λ k h. refl }
-
-module _ (u v w : List ℕ) (i : ℕ) (o : Ored u v w i) where
-  pub ored-more : i < 16 → Ored u v (set w i (bitOr (getD w i 0) (getD v i 0))) (i + 1)
-  ored-more h =
-      record {
-        long = (o .long .0, o .long .1, length-set w i _ ∙ o .long .2);
-        done =
-            below-more (λ (k : ℕ). getD (set w i (bitOr (getD w i 0) (getD v i 0))) k 0 ≡ bitOr (getD u k 0) (getD v k 0)) i
-            (λ k lt. getD-set-other w i k _ 0 (omega arith) ∙ o .done k lt)
-            (getD-set-same w i _ 0 (let l = o .long .2 in omega arith) ∙ ap (λ (x : ℕ). bitOr x (getD v i 0)) (o .left i (omega arith)));
-        left = λ k le. getD-set-other w i k _ 0 (omega arith) ∙ o .left k (omega arith);
-      }
-
-  pub ored-all : 16 ≤ i → Union u v w
-  ored-all h = union-is u v w (o .long .0) (o .long .1) (o .long .2) (λ k lt. o .done k (omega arith))
 
 -- ---- the blocks of both
 

@@ -1,6 +1,6 @@
 -- A set of blocks, of which there are 1,024, as sixteen words: block b is bit b % 64 of word b / 64.
 use mathlib.Core.Path.{_≡_}
-use mathlib.Core.Bool.{Bool, true, false, cond, _&&_, _||_}
+use mathlib.Core.Bool.{Bool, true, false, cond, _&&_}
 use mathlib.Core.List.{List}
 use Prim.Native.Nat.{ℕ, _/_, _%_, _^_, _≤_, _<_}
 use lib.Bits.{bitOr, bitXor}
@@ -22,10 +22,6 @@ including w b = set w (b / 64) (bitOr (getD w (b / 64) 0) (2 ^ (b % 64)))
 
 unfoldable pub excluding : List ℕ → ℕ → List ℕ
 excluding w b = cond (member w b) (set w (b / 64) (bitXor (getD w (b / 64) 0) (2 ^ (b % 64)))) w
-
--- w has the blocks of either
-abbrev pub Union : List ℕ → List ℕ → List ℕ → Type 0
-Union u v w = (b : ℕ) → member w b ≡ (member u b || member v b)
 
 -- w has the blocks of both
 abbrev pub Common : List ℕ → List ℕ → List ℕ → Type 0

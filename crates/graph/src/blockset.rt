@@ -6,7 +6,7 @@ ghost use lib.Count.{ones, trailingZeros};
 ghost use lib.Dec.{ltb};
 ghost use lib.ListN.{length};
 ghost use Rattle.graph.specs.Fold.{count};
-ghost use Rattle.graph.specs.BlockSet.{member, none, including, excluding, Union, sizeOf, LowestOf, LowestFrom};
+ghost use Rattle.graph.specs.BlockSet.{member, none, including, excluding, sizeOf, LowestOf, LowestFrom};
 ghost use Rattle.graph.specs.WellFormed.{within};
 
 pub struct BlockSet {
@@ -79,17 +79,6 @@ pub fn take_from(w: &mut [u64; 16], b: usize)
     if has_in(w, b) {
         let k = b / 64;
         w[k] = w[k] ^ (1 << (b % 64));
-    }
-}
-
-// The blocks of v, put into w.
-pub fn add_all(w: &mut [u64; 16], v: &[u64; 16])
-    ensures { λ _. ⌜ Union (now (w .entry)) (now (v .entry)) (now (w .exit)) ⌝ }
-{
-    sixteen(w);
-    sixteen(v);
-    for i in 0..16 {
-        w[i] = w[i] | v[i];
     }
 }
 
