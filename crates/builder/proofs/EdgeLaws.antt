@@ -7,15 +7,17 @@
 --     case-next, case-inside, case-fits        and so do its cases
 --     flow-is, flow-most, first-is, second-is          its flow under the policy, and its two slots
 --     flow-edges, given-edges              what the instruction at p gives by its flow, and where edges are given
---     switch-count, two-count, slot-count-is     how many transfers it has, as the code counts them
+--     switch-count, two-count              how many transfers it has
+--     end-most, end-all                    how many of them the code goes through: no more, and they give all
 --     case-is-slot                         case k of a Switch is its transfer k + 1
 --     switch-edges, two-edges              a Switch: its default, and its cases behind it; any other flow: two slots
 --     X-unresolved                         the same of records, for X of flow, given, switch, two
 --     terminator-is                        the last instruction of a block, by the leaders' marks
 -- Assumes nothing.
 use mathlib.Core.Bool.{Bool, true, false, cond, _&&_, _||_, or-true, or-false}
-use mathlib.Core.Path.{_≡_, sym, ap, _∙_}
-use mathlib.Core.List.{List, [], _∷_, _++_}
+use mathlib.Core.Path.{_≡_, refl, sym, ap, _∙_}
+use mathlib.Core.Logic.{_⊎_, inl, inr, ⊎-elim}
+use mathlib.Core.List.{List, [], _∷_, _++_, append-nil}
 use Prim.Native.Nat.{ℕ, suc, _+_, _<_, _≤_}
 use native.Mathlib.Decide.{ℕ-discrete}
 use native.Mathlib.Numerals.{add-one}
@@ -44,7 +46,7 @@ use Rattle.builder.specs.declared.cursor.Cursor.{Cursor}
 use Rattle.builder.specs.Cursor.{Sourced, cursorAt}
 use Rattle.builder.specs.Marks.{Leading}
 use Rattle.builder.specs.Emit.{Emitting, Resolves, edgeBetween, unresolvedFrom, slotEdges, slotUnresolved, caseAt, caseEdges, caseUnresolved}
-use Rattle.builder.proofs.CursorLaws.{edge-is, edges-within, case-is, cases-within}
+use Rattle.builder.proofs.CursorLaws.{edge-is, edges-within, case-is, cases-within, cases-length}
 
 module _ (m : Image) (x : Transfer) where
   pub resolves : (f : Found) → hasTarget x ≡ true → Finds (tableOf m) (x .target) f → Resolves m x f
@@ -66,6 +68,13 @@ module _ (m : Image) (x : Transfer) where
     pub edge-none : resolved m x ≡ false → transferEdges m p x ≡ []
     unfolding transferEdges
     edge-none e = rw e
+
+    edge-empty : x .from ≡ From.nowhere → transferEdges m p x ≡ []
+    edge-empty e = edge-none (resolved-not (rw e))
+
+    unresolved-empty : x .from ≡ From.nowhere → transferUnresolved m p x ≡ []
+    unfolding transferUnresolved
+    unresolved-empty e = rw e
 
     pub unresolved-none : resolved m x ≡ true → transferUnresolved m p x ≡ []
     unfolding transferUnresolved
@@ -174,10 +183,6 @@ module _ (m : Image) (p : ℕ) where
         go true = omega arith
         go false = rw is (h .flows p)
 
-    pub slot-count-is : (n : ℕ) → n ≡ cond (eqb f Flow.switch) (suc (i .cases)) 2 → length (casesAt m p) ≡ i .cases → n ≡ slotCount m p
-    unfolding slotCount
-    slot-count-is n n-is cases = rw (n-is, flow-is, cases)
-
     module _ (x : Transfer) (z : Slot × Slot) (z-is : z ≡ slotsOf f) where
       pub first-is : x ≡ slotTransfer i (z .0) → x ≡ transferAt m p 0
       unfolding transferAt
@@ -186,6 +191,32 @@ module _ (m : Image) (p : ℕ) where
       pub second-is : (f ≡ Flow.switch → ⊥) → x ≡ slotTransfer i (z .1) → x ≡ transferAt m p 1
       unfolding transferAt
       second-is other e = rw (ne-eqb (flowAt m p) Flow.switch (rw flow-is at other), e, is, z-is, flow-is)
+
+    -- where the code stops there is no transfer left, or one that is empty
+    module _ (z : Slot × Slot) (z-is : z ≡ slotsOf f) (n : ℕ) (n-is : n ≡ cond (eqb f Flow.switch) (suc (i .cases)) (cond (eqb (z .1 .from) From.nowhere) 1 2)) (h : Sourced m) (here : p < size m) where
+      left : (n ≡ slotCount m p) ⊎ ((n ≡ 1) × (slotCount m p ≡ 2) × (transferAt m p 1 .from ≡ From.nowhere))
+      unfolding slotTransfer
+      left =
+          elim (ℕ-discrete f Flow.switch) [
+            | yes switch ↦ inl (rw (n-is, eq-eqb f Flow.switch switch, switch-count (sym flow-is ∙ switch), cases-length m h p here, is))
+            | no other ↦
+                let two = two-count (rw flow-is at other) in
+                let second = second-is (slotTransfer i (z .1)) z z-is other refl in
+                elim (ℕ-discrete (z .1 .from) From.nowhere) [
+                  | yes none ↦ inr (rw (n-is, ne-eqb f Flow.switch other, eq-eqb (z .1 .from) From.nowhere none), two, rw (← second) none)
+                  | no one ↦ inl (rw (n-is, ne-eqb f Flow.switch other, ne-eqb (z .1 .from) From.nowhere one, two))
+                ]
+          ]
+
+      pub end-most : n ≤ slotCount m p
+      end-most = ⊎-elim (λ all. omega arith) (λ one. omega arith) left
+
+      end-flat : {A : Type 0} (g : Transfer → List A) → ((x : Transfer) → x .from ≡ From.nowhere → g x ≡ []) → flat (λ k. g (transferAt m p k)) n ≡ flat (λ k. g (transferAt m p k)) (slotCount m p)
+      unfolding flat
+      end-flat g none = ⊎-elim (λ all. rw all) (λ one. rw (one .0, one .1, none (transferAt m p 1) (one .2)) (sym (append-nil (g (transferAt m p 0))))) left
+
+      pub end-all : (slotEdges m p n ≡ slotEdges m p (slotCount m p)) × (slotUnresolved m p n ≡ slotUnresolved m p (slotCount m p))
+      end-all = (end-flat (transferEdges m p) (λ x. edge-empty m x p), end-flat (transferUnresolved m p) (λ x. unresolved-empty m x p))
 
   pub terminator-is : (marks : List Bool) → Leading m marks → p < size m → (eqb (p + 1) (size m) || getD marks (p + 1) false) ≡ isTerminator m p
   unfolding isTerminator

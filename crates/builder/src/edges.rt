@@ -6,6 +6,8 @@ use crate::cursor::cursor_after;
 use crate::cursor::cursor_start;
 use crate::cursor::given_at;
 use crate::lookup::find;
+use crate::transfer::Origin;
+use crate::transfer::Slot;
 use crate::transfer::Slots;
 use crate::transfer::Transfer;
 use crate::transfer::case_transfer;
@@ -44,7 +46,7 @@ ghost use Rattle.graph.specs.Flow.{Flow, From, slotsOf, fallsThrough, flowUnder
 ghost use Rattle.graph.specs.Transfer.{tableOf, size, instructionAt, addressAt, transferAt, slotCount, isGiven, givenAt};
 ghost use Rattle.graph.specs.Edges.{transferEdges, transferUnresolved, givenEdge, edgesAt, unresolvedAt, normalEdges, unresolvedOf};
 ghost use Rattle.graph.specs.Adding.{Added};
-ghost use Rattle.builder.specs.Slots.{slotsIn, transferIn};
+ghost use Rattle.builder.specs.Slots.{slotIn, slotsIn, transferIn};
 ghost use Rattle.builder.specs.Cursor.{Sourced, cursorAt};
 ghost use Rattle.builder.specs.Marks.{Leading};
 ghost use Rattle.builder.specs.Emit.{Emitting, Visiting, Resolves, edgeBetween, unresolvedFrom, slotEdges, slotUnresolved};
@@ -191,7 +193,7 @@ fn add_transfers(
 {
     let flow = flow_under(y.header.calls, i.flow);
     let slots = slots_of(flow);
-    let n = slot_count(flow, i.cases);
+    let n = slot_end(flow, i.cases, slots.1);
     let p = c.at;
     let source = i.address;
     for k in 0..n {
@@ -200,12 +202,22 @@ fn add_transfers(
     }
 }
 
-// How many transfers an instruction of this flow has: a default and its cases, or two.
-fn slot_count(flow: u64, cases: usize) -> usize
+// Where the transfers of an instruction of this flow end: behind a default and its cases, behind two, or behind one where the
+// second slot is empty.
+fn slot_end(flow: u64, cases: usize, second: Slot) -> usize
     requires { ⌜ cases ≤ 512 ⌝ }
-    ensures { λ r. ⌜ r ≡ cond (eqb flow Flow.switch) (suc cases) 2 ⌝ }
+    ensures { λ r. ⌜ r ≡ cond (eqb flow Flow.switch) (suc cases) (cond (eqb (slotIn second .from) From.nowhere) 1 2) ⌝ }
 {
-    if flow == SWITCH { cases + 1 } else { 2 }
+    if flow == SWITCH {
+        return cases + 1;
+    }
+    let from = second.1;
+    match from {
+        Origin::Nowhere => 1,
+        Origin::Computed => 2,
+        Origin::Named => 2,
+        Origin::End => 2,
+    }
 }
 
 // Transfer k of the instruction at a cursor: that of a slot, or a case of a Switch.

@@ -1,17 +1,16 @@
 -- The invariant: what the first k slots give is added. Assumes nothing.
-use mathlib.Core.Path.{_≡_, sym, ap, _∙_}
+use mathlib.Core.Path.{_≡_, ap}
 use mathlib.Core.List.{[]}
 use Prim.Native.Nat.{_-_, _≤_}
 use Rattle.image.specs.Image.{imageIn}
 use Rattle.image.specs.declared.record.Instruction.{Instruction}
 use Rattle.graph.specs.Fold.{flat}
-use Rattle.graph.specs.Transfer.{transferAt, slotCount}
+use Rattle.graph.specs.Transfer.{transferAt}
 use Rattle.graph.specs.Edges.{transferEdges, transferUnresolved}
 use Rattle.graph.specs.Adding.{Added}
 use Rattle.graph.proofs.AddingLaws.{added-none, flow-more}
 use Rattle.builder.specs.Emit.{slotEdges, slotUnresolved}
-use Rattle.builder.proofs.CursorLaws.{cases-length}
-use Rattle.builder.proofs.EdgeLaws.{case-fits, flow-most, slot-count-is}
+use Rattle.builder.proofs.EdgeLaws.{case-fits, flow-most, end-most, end-all}
 use native.Mathlib.Omega.{arith}
 use borrow.Author.Needs.{needs}
 use Rattle.builder.proofs.edges.add_transfers.Statement.{statement}
@@ -29,8 +28,8 @@ slots-of-requires c κs =
     let a = start .args in
     flow-most (imageIn (a .s .now) (a .y)) (a .c .at) (a .i) (start .pre .1 .2) _ (c .flow-under .ensures) (start .pre .0 .sourced .accepted)
 
-slot-count-requires : tie.Need-slot-count-requires Inv-loop μ-loop
-slot-count-requires c κs =
+slot-end-requires : tie.Need-slot-end-requires Inv-loop μ-loop
+slot-end-requires c κs =
     let start = c .before .before .before .before .before in
     let a = start .args in
     omega (arith, case-fits (imageIn (a .s .now) (a .y)) (start .pre .0 .sourced) (a .c) (start .pre .1 .0) (start .pre .1 .1), ap (λ (x : Instruction). x .cases) (start .pre .1 .2))
@@ -43,10 +42,11 @@ transfer-of-requires : tie.Need-transfer-of-requires Inv-loop μ-loop
 transfer-of-requires c κs =
     let start = c .before .before .before .before .before .before .before .before in
     let a = start .args in
-    let m = imageIn (a .s .now) (a .y) in
-    let cases = cases-length m (start .pre .0 .sourced) (a .c .at) (start .pre .1 .1) ∙ sym (ap (λ (x : Instruction). x .cases) (start .pre .1 .2)) in
-    let all = slot-count-is m (a .c .at) (a .i) (start .pre .1 .2) _ (c .before .before .before .before .flow-under .ensures) _ (c .before .before .slot-count .ensures) cases in
-    ((start .pre .0 .sourced, start .pre .1 .0, start .pre .1 .1, start .pre .1 .2, search needs), (c .before .before .before .before .flow-under .ensures, c .before .before .before .slots-of .ensures, omega (arith, all, c .loop-test .taken)))
+    let q = start .pre .1 in
+    let flow = c .before .before .before .before .flow-under .ensures in
+    let slots = c .before .before .before .slots-of .ensures in
+    let most = end-most (imageIn (a .s .now) (a .y)) (a .c .at) (a .i) (q .2) _ flow _ slots _ (c .before .before .slot-end .ensures) (start .pre .0 .sourced) (q .1) in
+    ((start .pre .0 .sourced, q .0, q .1, q .2, search needs), (flow, slots, omega (arith, most, c .loop-test .taken)))
 
 add-transfer-requires : tie.Need-add-transfer-requires Inv-loop μ-loop
 add-transfer-requires c κs = let start = c .before .before .before .before .before .before .before .before .before .before in (start .pre .0, (start .pre .1 .1, ap (λ (x : Instruction). x .address) (start .pre .1 .2), search needs))
@@ -67,10 +67,10 @@ returns c =
     let start = c .before .before .before .before .before .before .before .before in
     let a = start .args in
     let m = imageIn (a .s .now) (a .y) in
-    let cases = cases-length m (start .pre .0 .sourced) (a .c .at) (start .pre .1 .1) ∙ sym (ap (λ (x : Instruction). x .cases) (start .pre .1 .2)) in
-    let count = slot-count-is m (a .c .at) (a .i) (start .pre .1 .2) _ (c .before .before .before .before .flow-under .ensures) _ (c .before .before .slot-count .ensures) cases in
-    let all : c .before .loop .k ≡ slotCount m (a .c .at) = omega (arith, count) in
-    rw (← all) (c .before .loop .inv .1)
+    let p = a .c .at in
+    let all = end-all m p (a .i) (start .pre .1 .2) _ (c .before .before .before .before .flow-under .ensures) _ (c .before .before .before .slots-of .ensures) _ (c .before .before .slot-end .ensures) (start .pre .0 .sourced) (start .pre .1 .1) in
+    let last : c .before .loop .k ≡ c .before .before .slot-end .result = omega arith in
+    rw (← all .0, ← all .1, ← last) (c .before .loop .inv .1)
 
 pub add-transfers-spec : {M : Type 1} → statement M
 add-transfers-spec =
@@ -80,7 +80,7 @@ add-transfers-spec =
     μ-loop
     (λ c κs. search needs)
     slots-of-requires
-    slot-count-requires
+    slot-end-requires
     loop-holds
     transfer-of-requires
     add-transfer-requires
