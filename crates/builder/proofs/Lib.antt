@@ -1,5 +1,6 @@
 pub mod DraftLaws
 pub mod RegionLaws
+pub mod RangedLaws
 pub mod ExceptionLaws
 pub mod CursorLaws
 pub mod ScanLaws

@@ -29,7 +29,6 @@ use Rattle.graph.specs.declared.found.Found.the-variants.{At}
 use Rattle.graph.specs.Lookup.{Finds}
 use Rattle.graph.specs.Transfer.{tableOf}
 use Rattle.graph.specs.Blocks.{blockOf, blockAt}
-use Rattle.graph.specs.declared.error.AddressBuildError.{AddressBuildError}
 use Rattle.graph.specs.Edges.{rangeFirst, rangeSize}
 use Rattle.graph.specs.Leaders.{handlerAt}
 use Rattle.graph.specs.Build.{handlerCheck}
@@ -43,7 +42,7 @@ use Rattle.graph.specs.Regions.{sameRange, contains, span, place, isDraft, draf
 use Rattle.graph.proofs.FoldLaws.{length-table}
 use Rattle.graph.proofs.StoredLaws.{stored-then, region-more, handler-more}
 use Rattle.graph.proofs.TableLaws.{length-entries}
-use Rattle.builder.specs.declared.ranges.Ranged.the-variants.{Positions, Refused}
+use Rattle.builder.specs.declared.ranges.Ranged.the-variants.{Positions}
 use Rattle.builder.specs.Emit.{Numbered}
 use Rattle.builder.specs.Ranges.{Ranges}
 use Rattle.builder.specs.Drafts.{Extents, Whole, withRegions, withHandlers}
@@ -136,9 +135,8 @@ module _ (m : Image) where
     unfolding handlerCheck
     range-clear = then-left (rangeCheck (tableOf m) (handlerAt m h .start) (handlerAt m h .end)) (unless (isStart (tableOf m) (handlerAt m h .entry)) (refusal 13 (handlerAt m h .entry) 0)) passed
 
-    pub range-never : (a : Handler) (e : AddressBuildError) → a ≡ handlerAt m h → Ranges (tableOf m) (a .start) (a .end) (Refused e) → ⊥
-    range-never a e is refusal =
-        let passes = rw is at refusal in let z : _≡_ {A = ℕ} 0 1 = cc range-clear in omega arith
+    pub range-passes : (a : Handler) → a ≡ handlerAt m h → rangeCheck (tableOf m) (a .start) (a .end) ≡ clear
+    range-passes a is = rw is range-clear
 
 module _ (l : List ℕ) (whole : Whole l) where
   pub regions-none : heldIn l .graph .regions ≡ [] → Stored l l (held (withRegions (heldIn l .graph) []))

@@ -15,7 +15,7 @@ use Rattle.graph.specs.Leaders.{routes}
 use Rattle.graph.specs.Route.{funclets, handlerOf, routeCheck, stepsBefore}
 use Rattle.graph.specs.Build.{tableCheck, handlerCheck}
 use Rattle.builder.specs.declared.ranges.Ranged.{Ranged}
-use Rattle.builder.specs.declared.ranges.Ranged.the-variants.{Positions, Refused}
+use Rattle.builder.specs.declared.ranges.Ranged.the-variants.{Positions, Empty, NoStart, NoEnd}
 use Rattle.builder.specs.declared.route.Entered.{Entered}
 use Rattle.builder.specs.declared.route.Entered.the-variants.{Next, Refused as NotEntered}
 
@@ -23,11 +23,13 @@ use Rattle.builder.specs.declared.route.Entered.the-variants.{Next, Refu
 abbrev pub Ended : List TableEntry → ℕ → Type 0
 Ended t end = (tableCheck t ≡ clear) × (end ≡ codeEnd t)
 
--- the positions of a range, from `first` up to `past`, or the refusal
+-- the positions of a range, from `first` up to `past`, or which refusal it is
 abbrev pub Ranges : List TableEntry → ℕ → ℕ → Ranged → Type 0
 Ranges t start end (Positions first past) =
     (rangeCheck t start end ≡ clear) × (first ≡ below t start) × (past ≡ below t end) × (first < past) × (past ≤ length t)
-Ranges t start end (Refused e) = rangeCheck t start end ≡ refused (refusalOf e)
+Ranges t start end Empty = rangeCheck t start end ≡ refused (refusal 10 start end)
+Ranges t start end NoStart = rangeCheck t start end ≡ refused (refusal 11 start 0)
+Ranges t start end NoEnd = rangeCheck t start end ≡ refused (refusal 12 end 0)
 
 -- a check that is clear, and where the steps of the path behind start, or the refusal
 abbrev pub Enters : RouteImage → Check → ℕ → Entered → Type 0

@@ -17,6 +17,7 @@ use crate::marks::mark_if;
 use crate::marks::mark_range;
 use crate::marks::mark_target;
 use crate::marks::mark_target_if;
+use crate::ranges::range_check;
 use graph::found::Found;
 use image::access::handler_in;
 use image::access::instruction_in;
@@ -207,6 +208,7 @@ fn mark_handler(
 {
     let table = y.code.instructions;
     let handler = handler_in(s, y.code.handlers, h);
-    mark_range(marks, s, table, hints, code_end, handler.start, handler.end);
+    let range = range_check(s, table, hints, code_end, handler.start, handler.end);
+    mark_range(marks, range);
     mark_target(marks, s, table, hints, handler.entry);
 }

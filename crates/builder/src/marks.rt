@@ -1,42 +1,34 @@
 // Marks of positions, lent to be set: `[bool; 512]`, as many as a table may have.
 use crate::lookup::find;
 use crate::ranges::Ranged;
-use crate::ranges::range_check;
 use graph::found::Found;
 use image::section::Section;
 ghost use mathlib.Core.Bool.{_&&_};
 ghost use mathlib.Core.Path.{_≡_};
-ghost use Prim.Native.Nat.{_≤_};
-ghost use lib.Dec.{eqb, leb};
+ghost use Prim.Native.Nat.{ℕ, _≤_};
+ghost use lib.Dec.{eqb};
 ghost use lib.ListN.{length};
 ghost use Rattle.image.specs.Refusal.{clear};
+ghost use Rattle.image.specs.Image.{Image};
 ghost use Rattle.image.specs.There.{Holds};
-ghost use Rattle.graph.specs.Table.{below, codeEnd, rangeCheck};
+ghost use Rattle.graph.specs.Table.{rangeCheck};
 ghost use Rattle.graph.specs.Lookup.{Rising, entriesIn};
-ghost use Rattle.graph.specs.Build.{tableCheck};
+ghost use Rattle.graph.specs.Transfer.{tableOf};
+ghost use Rattle.graph.specs.Leaders.{rangeMark};
 ghost use Rattle.builder.specs.Marks.{Marked, startMark};
+ghost use Rattle.builder.specs.Ranges.{Ranges};
 
-// The positions from the start of a range up to its end, the end with them.
-pub fn mark_range(
-    marks: &mut [bool; 512],
-    s: &[u8],
-    y: Section,
-    hints: &[u16],
-    code_end: u64,
-    start: u64,
-    end: u64,
-)
-    requires { ⌜ (tableCheck (entriesIn (now s) y) ≡ clear) × («code_end» ≡ codeEnd (entriesIn (now s) y)) × Holds (now s) y 31 ⌝ }
-    requires { ⌜ (rangeCheck (entriesIn (now s) y) start end ≡ clear) × (y .count ≤ 512) ⌝ }
-    ensures { λ _. ⌜ Marked (y .count) (λ p. leb (below (entriesIn (now (s .entry)) y) start) p && leb p (below (entriesIn (now (s .entry)) y) end)) (now (marks .entry)) (now (marks .exit)) ⌝ }
+// The positions of a range that no check refused, and the one behind them.
+pub fn mark_range(marks: &mut [bool; 512], range: Ranged)
+    ensures { λ _. ⌜ ((m : Image) (start end : ℕ) → rangeCheck (tableOf m) start end ≡ clear → Ranges (tableOf m) start end range → Marked 512 (rangeMark m start end) (now (marks .entry)) (now (marks .exit))) ⌝ }
 {
-    let Ranged::Positions { first, past } = range_check(s, y, hints, code_end, start, end) else {
+    let Ranged::Positions { first, past } = range else {
         return;
     };
-    let behind = past + 1;
-    for p in first..behind {
+    for p in first..past {
         mark_at(marks, p);
     }
+    mark_at(marks, past);
 }
 
 // The start at a, where `leads` holds.

@@ -12,16 +12,18 @@ ghost use Prim.Native.Nat.{_<_};
 ghost use Rattle.image.specs.Image.{imageIn};
 ghost use Rattle.image.specs.There.{Holds, ImageThere};
 ghost use Rattle.graph.specs.Error.{checkOf};
-ghost use Rattle.graph.specs.Table.{codeEnd};
+ghost use Rattle.graph.specs.Table.{codeEnd, rangeCheck};
 ghost use Rattle.graph.specs.Lookup.{entriesIn};
 ghost use Rattle.graph.specs.Transfer.{tableOf};
 ghost use Rattle.graph.specs.Build.{handlerCheck};
 ghost use Rattle.builder.specs.Ranges.{Ended, Ranges, handlersCheck};
 
-// The positions of a range's instructions: from `first` up to `past`.
+// The positions of a range's instructions, from `first` up to `past`; or what is wrong with it (10, 11, 12).
 pub enum Ranged {
     Positions { first: usize, past: usize },
-    Refused(AddressBuildError),
+    Empty,
+    NoStart,
+    NoEnd,
 }
 
 // The greatest end of all: a range may end there, where no instruction starts.
@@ -40,7 +42,8 @@ pub fn code_end(s: &[u8], y: Section) -> u64
     greatest
 }
 
-// The positions of the range from `start` to `end`, in a table that ends at `code_end`.
+// The range from `start` to `end`, in a table that ends at `code_end`. It is asked for at six places and kept so short that the
+// compiler copies it into each of them: a call would hand over two slices and a section in memory.
 pub fn range_check(
     s: &[u8],
     y: Section,
@@ -53,19 +56,41 @@ pub fn range_check(
     ensures { λ r. ⌜ Ranges (entriesIn (now (s .entry)) y) start end r ⌝ }
 {
     if end <= start {
-        return Ranged::Refused(AddressBuildError::EmptyProtectedRange { start, end });
+        return Ranged::Empty;
     }
     let Found::At(first) = find(s, y, hints, start) else {
-        return Ranged::Refused(AddressBuildError::MissingRangeStart { address: start });
+        return Ranged::NoStart;
     };
     if end == code_end {
         let past = y.count as usize;
         return Ranged::Positions { first, past };
     }
     let Found::At(past) = find(s, y, hints, end) else {
-        return Ranged::Refused(AddressBuildError::MissingRangeEnd { address: end });
+        return Ranged::NoEnd;
     };
     Ranged::Positions { first, past }
+}
+
+// The refusal of a range.
+pub fn check_range(
+    s: &[u8],
+    y: Section,
+    hints: &[u16],
+    code_end: u64,
+    start: u64,
+    end: u64,
+) -> Checked
+    requires { ⌜ Ended (entriesIn (now s) y) «code_end» × Holds (now s) y 31 ⌝ }
+    ensures { λ r. ⌜ checkOf r ≡ rangeCheck (entriesIn (now (s .entry)) y) start end ⌝ }
+{
+    match range_check(s, y, hints, code_end, start, end) {
+        Ranged::Positions { .. } => Checked::Clear,
+        Ranged::Empty => Checked::Refused(AddressBuildError::EmptyProtectedRange { start, end }),
+        Ranged::NoStart => Checked::Refused(AddressBuildError::MissingRangeStart {
+            address: start,
+        }),
+        Ranged::NoEnd => Checked::Refused(AddressBuildError::MissingRangeEnd { address: end }),
+    }
 }
 
 // The first refusal among those of the handlers.
@@ -92,7 +117,7 @@ fn check_handler(s: &[u8], y: Layout, hints: &[u16], code_end: u64, h: usize) ->
     let handler = handler_in(s, code.handlers, h);
     let start = handler.start;
     let end = handler.end;
-    if let Ranged::Refused(e) = range_check(s, instructions, hints, code_end, start, end) {
+    if let Checked::Refused(e) = check_range(s, instructions, hints, code_end, start, end) {
         return Checked::Refused(e);
     }
     let entry = handler.entry;

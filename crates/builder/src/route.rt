@@ -1,7 +1,6 @@
 // Routes: the range of each, Resume after a funclet, and the entries that its paths name (10 to 12, 15, 14).
 use crate::lookup::find;
-use crate::ranges::Ranged;
-use crate::ranges::range_check;
+use crate::ranges::check_range;
 use graph::error::AddressBuildError;
 use graph::error::Checked;
 use graph::found::Found;
@@ -72,7 +71,7 @@ fn check_route(
     let route = route_in(s, y.routes, r);
     let start = route.start;
     let end = route.end;
-    if let Ranged::Refused(e) = range_check(s, t, hints, code_end, start, end) {
+    if let Checked::Refused(e) = check_range(s, t, hints, code_end, start, end) {
         return Entered::Refused(e);
     }
     if resumes_late(s, y, r, path, step) {

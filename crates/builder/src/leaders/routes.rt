@@ -1,6 +1,7 @@
 // Marks of the routes: what they protect, and the funclets and handlers that their paths name.
 use crate::marks::mark_range;
 use crate::marks::mark_target_if;
+use crate::ranges::range_check;
 use image::access::path_in;
 use image::access::route_in;
 use image::access::step_in;
@@ -56,15 +57,9 @@ fn mark_route_range(
     ensures { λ _. ⌜ Marked (y .code .instructions .count) (routeRange (imageIn (now (s .entry)) y) r) (now (marks .entry)) (now (marks .exit)) ⌝ }
 {
     let route = route_in(s, y.routes.routes, r);
-    mark_range(
-        marks,
-        s,
-        y.code.instructions,
-        hints,
-        code_end,
-        route.start,
-        route.end,
-    );
+    let table = y.code.instructions;
+    let range = range_check(s, table, hints, code_end, route.start, route.end);
+    mark_range(marks, range);
 }
 
 // The funclets that the routes' paths enter.

@@ -1,7 +1,9 @@
 -- The handler passed its check, so its range has positions; between them stand those that keep. Assumes nothing.
 use Rattle.image.specs.Image.{imageIn}
+use Rattle.graph.specs.Transfer.{tableOf}
 use Rattle.graph.proofs.TableLaws.{length-entries}
-use Rattle.builder.proofs.RegionLaws.{range-never}
+use Rattle.builder.proofs.RegionLaws.{range-passes}
+use Rattle.builder.proofs.RangedLaws.{has-positions}
 use Rattle.builder.proofs.CountLaws.{kept-between}
 use native.Mathlib.Omega.{arith}
 use borrow.Author.Needs.{needs}
@@ -10,9 +12,10 @@ use Rattle.builder.proofs.edge_count.kept_by.Tie as tie
 
 returns : tie.Need-returns
 returns c =
-    let start = c .before .before .before .before .before .before in
+    let start = c .before .before .before .before .before in
     let a = start .args in
-    absurd (range-never (imageIn (a .s .now) (a .y)) (a .h) (start .pre .0 .1) _ (c .enum-told .given .0 .0) (c .before .before .before .handler .ensures) (rw (c .enum-told .given .1) at (c .before .before .range-check .ensures)))
+    let m = imageIn (a .s .now) (a .y) in
+    absurd (has-positions (tableOf m) _ _ (range-passes m (a .h) (start .pre .0 .1) _ (c .before .before .handler .ensures)) (c .before .range-check .result) (c .before .range-check .ensures) (c .match .keys2))
 
 mul-result : tie.Need-mul-result
 mul-result c =
@@ -58,8 +61,7 @@ kept-by-spec =
     (tie.spec
     (λ c κs. search needs)
     (λ c κs. search needs)
-    (λ c. search needs)
-    (λ c. search needs)
+    (λ c. c .match .keys1)
     returns
     mul-result
     element-copy-out-result

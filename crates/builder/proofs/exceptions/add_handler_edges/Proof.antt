@@ -4,14 +4,15 @@ use mathlib.Core.List.{[]}
 use Prim.Native.Nat.{_+_, _-_, _≤_}
 use Rattle.image.specs.Image.{imageIn}
 use Rattle.graph.specs.Fold.{flat}
-use Rattle.graph.specs.Transfer.{Transfer}
+use Rattle.graph.specs.Transfer.{tableOf, Transfer}
 use Rattle.graph.specs.Blocks.{blockAt}
 use Rattle.graph.specs.Edges.{unwindEdges}
 use Rattle.graph.specs.Adding.{Added}
 use Rattle.graph.proofs.TableLaws.{length-entries}
 use Rattle.graph.proofs.AddingLaws.{added-none}
 use Rattle.graph.proofs.BuiltRegions.{entry-clear}
-use Rattle.builder.proofs.RegionLaws.{range-never}
+use Rattle.builder.proofs.RegionLaws.{range-passes}
+use Rattle.builder.proofs.RangedLaws.{has-positions}
 use Rattle.builder.proofs.ExceptionLaws.{entry-resolved, unwind-is, range-first, range-size, edges-from}
 use native.Mathlib.Omega.{arith}
 use borrow.Author.Needs.{needs}
@@ -27,9 +28,10 @@ abbrev μ-loop : tie.MeasureT-loop
 
 returns : tie.Need-returns Inv-loop μ-loop
 returns c =
-    let start = c .before .before .before .before .before .before .before in
+    let start = c .before .before .before .before .before .before in
     let a = start .args in
-    absurd (range-never (imageIn (a .s .now) (a .y)) (a .h) (start .pre .1) _ (c .enum-told .given .0 .0) (c .before .before .before .handler .ensures) (rw (c .enum-told .given .1) at (c .before .before .range-check .ensures)))
+    let m = imageIn (a .s .now) (a .y) in
+    absurd (has-positions (tableOf m) _ _ (range-passes m (a .h) (start .pre .1) _ (c .before .before .handler .ensures)) (c .before .range-check .result) (c .before .range-check .ensures) (c .match .keys2))
 
 block-at-requires : tie.Need-block-at-requires Inv-loop μ-loop
 block-at-requires c κs =
@@ -87,8 +89,7 @@ add-handler-edges-spec =
     μ-loop
     (λ c κs. search needs)
     (λ c κs. search needs)
-    (λ c. search needs)
-    (λ c. search needs)
+    (λ c. c .match .keys1)
     returns
     block-at-requires
     (λ c κs. search needs)

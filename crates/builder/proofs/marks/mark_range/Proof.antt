@@ -1,70 +1,44 @@
 -- The invariant: the marks of the run before p. Assumes nothing.
 use mathlib.Core.Bool.{_&&_}
 use mathlib.Core.Path.{_≡_}
-use Prim.Native.Nat.{_+_, _-_, _≤_}
+use Prim.Native.Nat.{_-_, _≤_}
 use lib.Dec.{ltb, leb}
-use Rattle.graph.specs.Lookup.{entriesIn}
-use Rattle.graph.specs.Table.{below}
-use Rattle.graph.proofs.TableLaws.{size-is}
+use Rattle.graph.specs.Transfer.{tableOf}
+use Rattle.graph.specs.Leaders.{rangeMark}
 use Rattle.builder.specs.Marks.{Marked}
-use Rattle.image.proofs.Checks.{not-clear}
-use Rattle.builder.proofs.MarkLaws.{mark-within, run-none, run-more, run-all}
+use Rattle.builder.proofs.RangedLaws.{has-positions}
+use Rattle.builder.proofs.MarkLaws.{run-none, run-more, run-all}
 use native.Mathlib.Omega.{arith}
 use borrow.Author.Needs.{needs}
 use Rattle.builder.proofs.marks.mark_range.Statement.{statement}
 use Rattle.builder.proofs.marks.mark_range.Tie as tie
 
 abbrev Inv-loop : tie.InvT-loop
-Inv-loop marks₀ s hints code-end start end first past behind p₀ marks p =
-    (first ≤ p) × (p ≤ behind) × (behind ≤ 513) × Marked 512 (λ q. leb first q && ltb q p) marks₀ marks
+Inv-loop marks₀ first past p₀ marks p =
+    (first ≤ p) × (first ≤ past → p ≤ past) × Marked 512 (λ q. leb first q && ltb q p) marks₀ marks
 
 abbrev μ-loop : tie.MeasureT-loop
-μ-loop marks₀ s hints code-end start end first past behind p₀ marks p = behind - p
-
-range-check-requires : tie.Need-range-check-requires Inv-loop μ-loop
-range-check-requires c κs = search needs
-
-enum-known-first : tie.Need-enum-known-first Inv-loop μ-loop
-enum-known-first c = search needs
-
-enum-told : tie.Need-enum-told Inv-loop μ-loop
-enum-told c = search needs
+μ-loop marks₀ first past p₀ marks p = past - p
 
 returns : tie.Need-returns Inv-loop μ-loop
-returns c = absurd (not-clear (rw (c .enum-told .given .1) at (c .before .before .range-check .ensures)) (c .before .before .before .before .before .pre .1 .0))
-
-add-behind : tie.Need-add-behind Inv-loop μ-loop
-add-behind c =
-    let start = c .before .before .before .before .before .before in
-    let found = rw (c .before .first .given .1) at (c .before .before .before .range-check .ensures) in
-    omega (arith, found .4, start .pre .1 .1, size-is (start .args .s .now) (start .args .y))
+returns c m start end passes ranges = absurd (has-positions (tableOf m) start end passes (c .before .args .range) ranges (c .match .keys2))
 
 loop-holds : tie.Need-loop-holds Inv-loop μ-loop
-loop-holds c =
-    let found = rw (c .before .first .given .1) at (c .before .before .before .range-check .ensures) in
-    let start = c .before .before .before .before .before .before in
-    (search needs, omega (arith, found .3), omega (arith, found .4, start .pre .1 .1, size-is (start .args .s .now) (start .args .y)), run-none _)
-
-mark-at-requires : tie.Need-mark-at-requires Inv-loop μ-loop
-mark-at-requires c κs = search needs
-
-add-p : tie.Need-add-p Inv-loop μ-loop
-add-p c = search needs
-
-loop-less : tie.Need-loop-less Inv-loop μ-loop
-loop-less c = search needs
+loop-holds c = (search needs, λ le. le, run-none _)
 
 loop-again : tie.Need-loop-again Inv-loop μ-loop
-loop-again c = let top = c .before .before .before .loop in (search needs, search needs, search needs, run-more _ (top .p) (top .inv .0) (top .inv .3) (c .mark-at .ensures))
+loop-again c =
+    let top = c .before .before .before .loop in
+    (search needs, λ _. omega (arith, c .before .before .loop-test .taken), run-more _ (top .p) (top .inv .0) (top .inv .2) (c .mark-at .ensures))
 
 returns-2 : tie.Need-returns-2 Inv-loop μ-loop
-returns-2 c =
-    let end = c .before .loop in
-    let start = c .before .before .before .before .before .before .before .before in
-    let found = rw (c .before .before .before .first .given .1) at (c .before .before .before .before .before .range-check .ensures) in
-    let last = below (entriesIn (start .args .s .now) (start .args .y)) (start .args .end) in
-    let all : end .p ≡ last + 1 = omega (arith, found .2) in
-    mark-within _ (start .pre .1 .1) (rw (found .1) at (run-all _ last (rw all at (end .inv .3))))
+unfolding rangeMark
+returns-2 c m start end passes ranges =
+    let first = c .before .before .before .before .before .range .given in
+    let found = rw (first .1) at ranges in
+    let last = c .before .before .before .loop in
+    let all : last .p ≡ first .0 .1 .0 = omega (arith, found .3, last .inv .1 (omega (arith, found .3)), c .before .before .loop-test .left) in
+    rw (found .1, found .2) at (run-all _ _ (run-more _ _ (omega (arith, found .3)) (rw all at (last .inv .2)) (c .mark-at2 .ensures)))
 
 pub mark-range-spec : {M : Type 1} → statement M
 mark-range-spec =
@@ -72,14 +46,12 @@ mark-range-spec =
     (tie.spec
     Inv-loop
     μ-loop
-    range-check-requires
-    enum-known-first
-    enum-told
+    (λ c. c .match .keys1)
     returns
-    add-behind
     loop-holds
-    mark-at-requires
-    add-p
-    loop-less
+    (λ c κs. search needs)
+    (λ c. search needs)
+    (λ c. search needs)
     loop-again
+    (λ c κs. search needs)
     returns-2)

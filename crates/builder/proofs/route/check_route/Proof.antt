@@ -23,16 +23,16 @@ route-in-requires c κs =
     let start = c .before .before in
     (start .pre .3 .routes-there, rw (length-records routeFrom (start .args .s .now) (start .args .y .routes)) at (start .pre .1 .1))
 
-range-check-requires : tie.Need-range-check-requires
-range-check-requires c κs = (c .before .before .before .pre .0, search needs)
+check-range-requires : tie.Need-check-range-requires
+check-range-requires c κs = (c .before .before .before .pre .0, search needs)
 
 returns : tie.Need-returns
 returns c =
     let start = c .before .before .before .before .before .before .before in
     let m = routesIn (start .args .s .now) (start .args .y) in
     let t = entriesIn (start .args .s .now) (start .args .t) in
-    let range = rw (c .before .e .given .1, c .before .before .before .before .route-in .ensures) at (c .before .before .before .range-check .ensures) in
-    rw (route-check m (start .pre .1 .0) (start .args .r) (start .pre .1 .1) t, range)
+    let range = rw (c .before .e .given .1, c .before .before .before .before .route-in .ensures) at (c .before .before .before .check-range .ensures) in
+    rw (route-check m (start .pre .1 .0) (start .args .r) (start .pre .1 .1) t, ← range)
 
 resumes-late-requires : tie.Need-resumes-late-requires
 resumes-late-requires c κs = let start = c .before .before .before .before .before .before in (start .pre .1, start .pre .3)
@@ -42,9 +42,9 @@ returns-2 c =
     let start = c .before .before .before .before .before .before .before .before in
     let m = routesIn (start .args .s .now) (start .args .y) in
     let t = entriesIn (start .args .s .now) (start .args .t) in
-    let range = rw (c .before .before .enum-told .given .1, c .before .before .before .before .before .route-in .ensures) at (c .before .before .before .before .range-check .ensures) in
+    let range = rw (c .before .before .enum-told .given .1, c .before .before .before .before .before .route-in .ensures) at (c .before .before .before .before .check-range .ensures) in
     let late = sym (c .before .resumes-late .ensures) ∙ c .if1 .taken in
-    rw (route-check m (start .pre .1 .0) (start .args .r) (start .pre .1 .1) t, range .0, late)
+    rw (route-check m (start .pre .1 .0) (start .args .r) (start .pre .1 .1) t, ← range, late)
 
 check-entries-requires : tie.Need-check-entries-requires
 check-entries-requires c κs =
@@ -61,9 +61,9 @@ returns-3 c =
     let m = routesIn (a .s .now) (a .y) in
     let t = entriesIn (a .s .now) (a .t) in
     let route = c .before .before .before .before .before .before .route-in in
-    let range = rw (c .before .before .before .enum-told .given .1, route .ensures) at (c .before .before .before .before .before .range-check .ensures) in
+    let range = rw (c .before .before .before .enum-told .given .1, route .ensures) at (c .before .before .before .before .before .check-range .ensures) in
     let late = sym (c .before .before .resumes-late .ensures) ∙ c .before .if1 .left in
-    let rest : checks (λ (k : ℕ). pathCheck t (pathIn m (a .path + k))) (route .result .paths) ≡ routeCheck t (routesOf m) (a .r) = rw (p .2, route .ensures, route-check m (p .0) (a .r) (p .1) t, range .0, late) in
+    let rest : checks (λ (k : ℕ). pathCheck t (pathIn m (a .path + k))) (route .result .paths) ≡ routeCheck t (routesOf m) (a .r) = rw (p .2, route .ensures, route-check m (p .0) (a .r) (p .1) t, ← range, late) in
     let next : a .path + route .result .paths ≡ pathsBefore m (a .r + 1) = rw (paths-next m (a .r), p .2, route .ensures) in
     subst₂ (λ (x : Check) (n : ℕ). Enters m x n (c .check-entries .result)) rest next (c .check-entries .ensures)
 
@@ -72,7 +72,7 @@ check-route-spec =
     tie.close
     (tie.spec
     route-in-requires
-    range-check-requires
+    check-range-requires
     (λ c. search needs)
     returns
     (λ c. search needs)
