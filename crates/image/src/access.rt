@@ -14,6 +14,7 @@ use crate::record::Route;
 use crate::record::Step;
 use crate::section::Section;
 use crate::section::place;
+use crate::section::place_by;
 ghost use mathlib.Core.List.{[]};
 ghost use mathlib.Core.Path.{_≡_};
 ghost use Prim.Native.Nat.{_+_, _≤_, _<_};
@@ -44,49 +45,49 @@ pub fn source_in(s: &[u8], y: Section, i: usize) -> GivenSource
     requires { ⌜ Holds (now s) y 12 × (i < y .count) ⌝ }
     ensures { λ r. ⌜ r ≡ getD (recordsIn sourceFrom (now (s .entry)) y) i (sourceFrom [] 0) ⌝ }
 {
-    source_there(s, place(y, i))
+    source_there(s, place_by(y, 12, i))
 }
 
 pub fn case_in(s: &[u8], y: Section, i: usize) -> Case
     requires { ⌜ Holds (now s) y 12 × (i < y .count) ⌝ }
     ensures { λ r. ⌜ r ≡ getD (recordsIn caseFrom (now (s .entry)) y) i (caseFrom [] 0) ⌝ }
 {
-    case_there(s, place(y, i))
+    case_there(s, place_by(y, 12, i))
 }
 
 pub fn edge_in(s: &[u8], y: Section, i: usize) -> GivenEdge
     requires { ⌜ Holds (now s) y 13 × (i < y .count) ⌝ }
     ensures { λ r. ⌜ r ≡ getD (recordsIn edgeFrom (now (s .entry)) y) i (edgeFrom [] 0) ⌝ }
 {
-    edge_there(s, place(y, i))
+    edge_there(s, place_by(y, 13, i))
 }
 
 pub fn handler_in(s: &[u8], y: Section, i: usize) -> Handler
     requires { ⌜ Holds (now s) y 29 × (i < y .count) ⌝ }
     ensures { λ r. ⌜ r ≡ getD (recordsIn handlerFrom (now (s .entry)) y) i (handlerFrom [] 0) ⌝ }
 {
-    handler_there(s, place(y, i))
+    handler_there(s, place_by(y, 29, i))
 }
 
 pub fn route_in(s: &[u8], y: Section, i: usize) -> Route
     requires { ⌜ Holds (now s) y 20 × (i < y .count) ⌝ }
     ensures { λ r. ⌜ r ≡ getD (recordsIn routeFrom (now (s .entry)) y) i (routeFrom [] 0) ⌝ }
 {
-    route_there(s, place(y, i))
+    route_there(s, place_by(y, 20, i))
 }
 
 pub fn path_in(s: &[u8], y: Section, i: usize) -> Path
     requires { ⌜ Holds (now s) y 13 × (i < y .count) ⌝ }
     ensures { λ r. ⌜ r ≡ getD (recordsIn pathFrom (now (s .entry)) y) i (pathFrom [] 0) ⌝ }
 {
-    path_there(s, place(y, i))
+    path_there(s, place_by(y, 13, i))
 }
 
 pub fn step_in(s: &[u8], y: Section, i: usize) -> Step
     requires { ⌜ Holds (now s) y 9 × (i < y .count) ⌝ }
     ensures { λ r. ⌜ r ≡ getD (recordsIn stepFrom (now (s .entry)) y) i (stepFrom [] 0) ⌝ }
 {
-    step_there(s, place(y, i))
+    step_there(s, place_by(y, 9, i))
 }
 
 // A record that is there: each field is one load.

@@ -43,6 +43,16 @@ pub fn place(y: Section, i: usize) -> usize
     at + width * i
 }
 
+// The same by a width that the caller knows: a number in the code costs less than one that is read. Not so for 31, which takes
+// two operations in the place of one.
+pub fn place_by(y: Section, width: usize, i: usize) -> usize
+    requires { ⌜ (y .width ≡ width) × (i ≤ y .count) ⌝ }
+    ensures { λ r. ⌜ r ≡ placeIn y i ⌝ }
+{
+    let at = y.at as usize;
+    at + width * i
+}
+
 pub fn end_of(y: Section) -> usize
     ensures { λ r. ⌜ r ≡ endOf y ⌝ }
 {

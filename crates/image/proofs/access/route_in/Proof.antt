@@ -6,19 +6,19 @@ use borrow.Author.Needs.{needs}
 use Rattle.image.proofs.access.route_in.Statement.{statement}
 use Rattle.image.proofs.access.route_in.Tie as tie
 
-place-requires : tie.Need-place-requires
-place-requires c κs = search needs
+place-by-requires : tie.Need-place-by-requires
+place-by-requires c κs = search needs
 
 route-there-requires : tie.Need-route-there-requires
 route-there-requires c κs =
     let start = c .before .before in
-    rw (c .place .ensures .0) (record-there (start .args .s .now) (start .args .y) (start .args .i) 20 (start .pre .0) (start .pre .1))
+    rw (c .place-by .ensures) (record-there (start .args .s .now) (start .args .y) (start .args .i) 20 (start .pre .0) (start .pre .1))
 
 returns : tie.Need-returns
 returns c =
     let start = c .before .before .before in
     let a = start .args in
-    c .route-there .ensures ∙ ap (routeFrom (a .s .now)) (c .before .place .ensures .0) ∙ sym (records-in routeFrom (a .s .now) (a .y) (a .i) (start .pre .1))
+    c .route-there .ensures ∙ ap (routeFrom (a .s .now)) (c .before .place-by .ensures) ∙ sym (records-in routeFrom (a .s .now) (a .y) (a .i) (start .pre .1))
 
 pub route-in-spec : {M : Type 1} → statement M
-route-in-spec = tie.close (tie.spec place-requires route-there-requires returns)
+route-in-spec = tie.close (tie.spec place-by-requires route-there-requires returns)

@@ -6,19 +6,19 @@ use borrow.Author.Needs.{needs}
 use Rattle.image.proofs.access.step_in.Statement.{statement}
 use Rattle.image.proofs.access.step_in.Tie as tie
 
-place-requires : tie.Need-place-requires
-place-requires c κs = search needs
+place-by-requires : tie.Need-place-by-requires
+place-by-requires c κs = search needs
 
 step-there-requires : tie.Need-step-there-requires
 step-there-requires c κs =
     let start = c .before .before in
-    rw (c .place .ensures .0) (record-there (start .args .s .now) (start .args .y) (start .args .i) 9 (start .pre .0) (start .pre .1))
+    rw (c .place-by .ensures) (record-there (start .args .s .now) (start .args .y) (start .args .i) 9 (start .pre .0) (start .pre .1))
 
 returns : tie.Need-returns
 returns c =
     let start = c .before .before .before in
     let a = start .args in
-    c .step-there .ensures ∙ ap (stepFrom (a .s .now)) (c .before .place .ensures .0) ∙ sym (records-in stepFrom (a .s .now) (a .y) (a .i) (start .pre .1))
+    c .step-there .ensures ∙ ap (stepFrom (a .s .now)) (c .before .place-by .ensures) ∙ sym (records-in stepFrom (a .s .now) (a .y) (a .i) (start .pre .1))
 
 pub step-in-spec : {M : Type 1} → statement M
-step-in-spec = tie.close (tie.spec place-requires step-there-requires returns)
+step-in-spec = tie.close (tie.spec place-by-requires step-there-requires returns)
