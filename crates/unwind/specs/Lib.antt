@@ -9,6 +9,7 @@ pub mod Kept
 pub mod Lower
 pub mod Seen
 pub mod Interns
+pub mod Tallied
 pub mod Routed
 pub mod Placed
 pub mod Most

@@ -12,6 +12,7 @@ use crate::tries::intern::intern;
 use crate::tries::paths::Group;
 use crate::tries::paths::path_starts;
 use crate::tries::store::Counts;
+use crate::tries::store::counts_in;
 use image::access::route_in;
 use image::section::RouteLayout;
 ghost use mathlib.Core.Path.{_≡_};
@@ -21,7 +22,7 @@ ghost use Rattle.image.specs.There.{RoutesThere};
 ghost use Rattle.unwind.specs.Interns.{rootGroup};
 ghost use Rattle.unwind.specs.Routed.{Scratch, TriesIn};
 
-// The nodes of all routes, and the root of each; how much is stored of them, which is counted in three numbers as in `intern`.
+// The nodes of all routes, and the root of each; how much is stored of them.
 pub fn intern_routes(
     s: &[u8],
     y: RouteLayout,
@@ -37,9 +38,7 @@ pub fn intern_routes(
 {
     path_starts(s, y, starts);
     let n = y.routes.count as usize;
-    let mut node_count = 0;
-    let mut edge_count = 0;
-    let mut end_count = 0;
+    let mut tally = [0; 3];
     let mut seen = [0u64; 16];
     let mut first = 0;
     for r in 0..n {
@@ -55,24 +54,13 @@ pub fn intern_routes(
             ends,
             stack,
             &mut seen,
-            Counts {
-                nodes: node_count,
-                edges: edge_count,
-                ends: end_count,
-            },
+            &mut tally,
             0,
         );
-        roots[r] = root.place as u16;
-        node_count = root.counts.nodes;
-        edge_count = root.counts.edges;
-        end_count = root.counts.ends;
+        roots[r] = root as u16;
         first += count;
     }
-    Counts {
-        nodes: node_count,
-        edges: edge_count,
-        ends: end_count,
-    }
+    counts_in(&tally)
 }
 
 // All paths of a route: none has gone a step yet.

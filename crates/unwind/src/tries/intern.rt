@@ -10,7 +10,10 @@ use crate::tries::paths::Group;
 use crate::tries::store::Branch;
 use crate::tries::store::Counts;
 use crate::tries::store::NodeRecord;
+use crate::tries::store::Tally;
+use crate::tries::store::counts_in;
 use crate::tries::store::put_branch;
+use crate::tries::store::put_counts;
 use image::section::RouteLayout;
 ghost use mathlib.Core.Path.{_≡_};
 ghost use Prim.Native.Nat.{suc, _+_, _≤_, _<_};
@@ -22,11 +25,12 @@ ghost use Rattle.unwind.specs.Interning.{pathsOf};
 ghost use Rattle.unwind.specs.Laid.{endsList};
 ghost use Rattle.unwind.specs.Lower.{Lower};
 ghost use Rattle.unwind.specs.Seen.{Seen};
+ghost use Rattle.unwind.specs.Tallied.{countsIn, internedIn};
 ghost use Rattle.unwind.specs.Interns.{weight, groupBehind, funcletOf, Grouped, Room, Closes, Interns};
 
 // The node of a group. It calls itself for each group that its paths lead to, which has fewer steps left; the edges of the
-// calls that are not finished stand on the stack, this one's from `top` on. What is stored is counted in three numbers: a struct
-// that a call has just written would be read at a loss.
+// calls that are not finished stand on the stack, this one's from `top` on. How much is stored is lent too: to hand it over and
+// give it back would cost more.
 pub fn intern(
     s: &[u8],
     y: RouteLayout,
@@ -37,21 +41,19 @@ pub fn intern(
     ends: &mut [u16],
     stack: &mut [u16],
     seen: &mut [u64; 16],
-    counts: Counts,
+    tally: &mut Tally,
     top: usize,
-) -> Interned
-    requires { ⌜ Grouped (routesIn (now s) y) (now starts) g × Stored (now nodes) (now edges) (now ends) counts × Room (now nodes) (now edges) (now ends) (now stack) counts top (suc (weight (pathsOf (routesIn (now s) y) g))) (weight (pathsOf (routesIn (now s) y) g)) (length (pathsOf (routesIn (now s) y) g)) × Lower (nodesIn (routesIn (now s) y) (now nodes) (now edges) (now ends) (counts .nodes)) × Seen (routesIn (now s) y) (now nodes) (counts .nodes) (now seen) × RoutesThere (now s) y ⌝ }
-    ensures { λ r. ⌜ Interns (routesIn (now (s .entry)) y) g (now (nodes .entry)) (now (edges .entry)) (now (ends .entry)) (now (stack .entry)) counts top (now (nodes .exit)) (now (edges .exit)) (now (ends .exit)) (now (stack .exit)) r × Seen (routesIn (now (s .entry)) y) (now (nodes .exit)) (r .counts .nodes) (now (seen .exit)) ⌝ }
+) -> usize
+    requires { ⌜ Grouped (routesIn (now s) y) (now starts) g × Stored (now nodes) (now edges) (now ends) (countsIn (now tally)) × Room (now nodes) (now edges) (now ends) (now stack) (countsIn (now tally)) top (suc (weight (pathsOf (routesIn (now s) y) g))) (weight (pathsOf (routesIn (now s) y) g)) (length (pathsOf (routesIn (now s) y) g)) × Lower (nodesIn (routesIn (now s) y) (now nodes) (now edges) (now ends) (countsIn (now tally) .nodes)) × Seen (routesIn (now s) y) (now nodes) (countsIn (now tally) .nodes) (now seen) × RoutesThere (now s) y ⌝ }
+    ensures { λ r. ⌜ Interns (routesIn (now (s .entry)) y) g (now (nodes .entry)) (now (edges .entry)) (now (ends .entry)) (now (stack .entry)) (countsIn (now (tally .entry))) top (now (nodes .exit)) (now (edges .exit)) (now (ends .exit)) (now (stack .exit)) (internedIn r (now (tally .exit))) × Seen (routesIn (now (s .entry)) y) (now (nodes .exit)) (countsIn (now (tally .exit)) .nodes) (now (seen .exit)) ⌝ }
 {
-    let mut node_count = counts.nodes;
-    let mut edge_count = counts.edges;
-    let mut end_count = counts.ends;
     let mut n = 0;
     let mut last = NextKey::Nothing;
     loop {
         let next = next_key(s, y, starts, g, last);
         let NextKey::At(key) = next else {
-            return close_node(
+            let counts = counts_in(tally);
+            let closed = close_node(
                 s,
                 y,
                 starts,
@@ -61,14 +63,12 @@ pub fn intern(
                 ends,
                 stack,
                 seen,
-                Counts {
-                    nodes: node_count,
-                    edges: edge_count,
-                    ends: end_count,
-                },
+                counts,
                 top,
                 n,
             );
+            put_counts(tally, closed.counts);
+            return closed.place;
         };
         let behind = group_behind(g, key);
         let child = intern(
@@ -81,11 +81,7 @@ pub fn intern(
             ends,
             stack,
             seen,
-            Counts {
-                nodes: node_count,
-                edges: edge_count,
-                ends: end_count,
-            },
+            tally,
             top + n,
         );
         put_branch(
@@ -94,12 +90,9 @@ pub fn intern(
             Branch {
                 step: key.step,
                 calls: key.calls,
-                what: child.place,
+                what: child,
             },
         );
-        node_count = child.counts.nodes;
-        edge_count = child.counts.edges;
-        end_count = child.counts.ends;
         n += 1;
         last = next;
     }

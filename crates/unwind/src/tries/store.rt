@@ -3,6 +3,7 @@
 ghost use mathlib.Core.Path.{_≡_};
 ghost use Prim.Native.Nat.{_+_, _*_, _≤_, _<_};
 ghost use lib.ListN.{length, getD};
+ghost use Rattle.unwind.specs.Tallied.{countsIn};
 ghost use Rattle.unwind.specs.Nodes.{NodeRead, BranchRead, NodeSmall, BranchSmall, NodePut, BranchPut, ThreePut};
 
 // The step that names the funclet, plus 1, or 0 at the root of a route; the route whose interning created the node; where
@@ -28,6 +29,25 @@ pub struct Counts {
     pub nodes: usize,
     pub edges: usize,
     pub ends: usize,
+}
+
+// The same, where it is lent to be changed.
+pub type Tally = [usize; 3];
+
+pub fn counts_in(tally: &Tally) -> Counts
+    ensures { λ r. ⌜ r ≡ countsIn (now (tally .entry)) ⌝ }
+{
+    Counts {
+        nodes: tally[0],
+        edges: tally[1],
+        ends: tally[2],
+    }
+}
+
+pub fn put_counts(tally: &mut Tally, c: Counts)
+    ensures { λ _. ⌜ countsIn (now (tally .exit)) ≡ c ⌝ }
+{
+    *tally = [c.nodes, c.edges, c.ends];
 }
 
 // Node i, one of those that there is room for.

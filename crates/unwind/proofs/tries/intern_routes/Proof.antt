@@ -10,6 +10,7 @@ use Rattle.image.specs.declared.record.Route.{Route}
 use Rattle.image.proofs.Tables.{length-records}
 use Rattle.graph.proofs.RouteLaws.{paths-in}
 use Rattle.unwind.specs.Seen.{Seen}
+use Rattle.unwind.specs.Tallied.{countsIn}
 use Rattle.unwind.proofs.SeenLaws.{seen-none}
 use Rattle.unwind.proofs.TrieRoutes.{Routed, route-start, route-grouped, route-room, place-small, route-next, route-done}
 use borrow.Author.Needs.{needs}
@@ -17,11 +18,12 @@ use Rattle.unwind.proofs.tries.intern_routes.Statement.{statement}
 use Rattle.unwind.proofs.tries.intern_routes.Tie as tie
 
 abbrev Inv-loop : tie.InvT-loop
-Inv-loop s y starts nodes₀ edges₀ ends₀ stack₀ roots₀ n node₀ edge₀ end₀ seen₀ first₀ r₀ nodes edges ends stack roots node edge end seen first r =
-    (r ≤ y .routes .count) × Routed (routesIn s y) nodes₀ edges₀ ends₀ stack₀ roots₀ nodes edges ends stack roots (record { nodes = node; edges = edge; ends = end }) first r × Seen (routesIn s y) nodes node seen
+Inv-loop s y starts nodes₀ edges₀ ends₀ stack₀ roots₀ n tally₀ seen₀ first₀ r₀ nodes edges ends stack roots tally seen first r =
+    (r ≤ y .routes .count) × Routed (routesIn s y) nodes₀ edges₀ ends₀ stack₀ roots₀ nodes edges ends stack roots (countsIn tally) first r × Seen (routesIn s y) nodes (countsIn tally .nodes) seen
 
 abbrev μ-loop : tie.MeasureT-loop
-μ-loop s y starts nodes₀ edges₀ ends₀ stack₀ roots₀ n node₀ edge₀ end₀ seen₀ first₀ r₀ nodes edges ends stack roots node edge end seen first r = n - r
+μ-loop s y starts nodes₀ edges₀ ends₀ stack₀ roots₀ n tally₀ seen₀ first₀ r₀ nodes edges ends stack roots tally seen first r =
+    n - r
 
 path-starts-requires : tie.Need-path-starts-requires Inv-loop μ-loop
 path-starts-requires c κs = let pre = c .before .before .before .before .before .before .before .before .pre in (pre .0, pre .1 .starts-fit, search needs)
@@ -35,11 +37,11 @@ among c = let a = c .before .before .before .before .before .before .before .bef
 
 intern-requires : tie.Need-intern-requires Inv-loop μ-loop
 intern-requires c κs =
-    let pre = c .before .before .before .before .before .before .before .before .before .before .before .before .before .before .before .before .before .before .before .before .before .before .pre in
-    let inv = c .before .before .before .before .before .before .before .before .before .loop .inv in
-    let h = among (c .before .before .before .before .before .before .before .before) in
-    rw (c .before .before .before .before .before .before .root-group .ensures, c .before .before .before .before .before .before .before .route-in .ensures) (
-      route-grouped _ (pre .0) _ _ _ _ _ _ (pre .1) _ _ _ _ _ _ _ _ (inv .1) h _ (c .before .before .before .before .before .before .before .before .before .before .before .before .before .path-starts .ensures),
+    let pre = c .before .before .before .before .before .before .before .before .before .before .before .before .before .before .before .before .before .before .before .before .before .before .before .pre in
+    let inv = c .before .before .before .before .before .before .before .before .before .before .loop .inv in
+    let h = among (c .before .before .before .before .before .before .before .before .before) in
+    rw (c .before .before .before .before .before .before .before .root-group .ensures, c .before .before .before .before .before .before .before .before .route-in .ensures) (
+      route-grouped _ (pre .0) _ _ _ _ _ _ (pre .1) _ _ _ _ _ _ _ _ (inv .1) h _ (c .before .before .before .before .before .before .before .before .before .before .before .before .before .before .path-starts .ensures),
       inv .1 .stored,
       route-room _ (pre .0) _ _ _ _ _ _ (pre .1) _ _ _ _ _ _ _ _ (inv .1) h,
       inv .1 .lower,
@@ -50,7 +52,7 @@ intern-requires c κs =
 cast-roots : tie.Need-cast-roots Inv-loop μ-loop
 cast-roots c =
     let pre = c .before .before .before .before .before .before .before .before .before .before .before .before .before .before .before .before .before .before .before .before .before .before .before .before .before .before .before .before .before .before .before .before .pre in
-    let done = rw (c .before .before .before .before .before .before .before .before .before .before .before .before .before .before .before .before .root-group .ensures, c .before .before .before .before .before .before .before .before .before .before .before .before .before .before .before .before .before .route-in .ensures) at (c .before .before .before .before .before .before .before .before .before .intern .ensures .0) in
+    let done = rw (c .before .before .before .before .before .before .before .before .before .before .before .before .before .before .before .before .root-group .ensures, c .before .before .before .before .before .before .before .before .before .before .before .before .before .before .before .before .before .route-in .ensures) at (c .before .before .before .before .before .before .before .before .intern .ensures .0) in
     omega (arith, place-small _ (pre .0) _ _ _ _ _ _ (pre .1) _ _ _ _ _ _ _ _ (c .before .before .before .before .before .before .before .before .before .before .before .before .before .before .before .before .before .before .before .loop .inv .1) (among (c .before .before .before .before .before .before .before .before .before .before .before .before .before .before .before .before .before .before)) _ _ _ _ _ done)
 
 mul-roots : tie.Need-mul-roots Inv-loop μ-loop
@@ -71,7 +73,7 @@ add-r c = omega (arith, among (c .before .before .before .before .before .before
 loop-again : tie.Need-loop-again Inv-loop μ-loop
 loop-again c =
     let pre = c .before .before .before .before .before .before .before .before .before .before .before .before .before .before .before .before .before .before .before .before .before .before .before .before .before .before .before .before .before .before .before .before .pre in
-    let root = c .before .before .before .before .before .before .before .before .before .intern in
+    let root = c .before .before .before .before .before .before .before .before .intern in
     let done = rw (c .before .before .before .before .before .before .before .before .before .before .before .before .before .before .before .before .root-group .ensures, c .before .before .before .before .before .before .before .before .before .before .before .before .before .before .before .before .before .route-in .ensures) at (root .ensures .0) in
     rw (c .before .before .before .before .before .before .before .before .before .before .before .before .before .before .before .before .before .route-in .ensures) (
       omega (arith, c .before .before .before .before .before .before .before .before .before .before .before .before .before .before .before .before .before .before .loop-test .taken),
@@ -80,27 +82,28 @@ loop-again c =
     )
 
 same-length-2 : tie.Need-same-length-2 Inv-loop μ-loop
-same-length-2 c = c .before .loop .inv .1 .nodes-long
+same-length-2 c = c .before .before .before .loop .inv .1 .nodes-long
 
 same-length-3 : tie.Need-same-length-3 Inv-loop μ-loop
-same-length-3 c = c .before .loop .inv .1 .edges-long
+same-length-3 c = c .before .before .before .loop .inv .1 .edges-long
 
 same-length-4 : tie.Need-same-length-4 Inv-loop μ-loop
-same-length-4 c = c .before .loop .inv .1 .ends-long
+same-length-4 c = c .before .before .before .loop .inv .1 .ends-long
 
 same-length-5 : tie.Need-same-length-5 Inv-loop μ-loop
-same-length-5 c = c .before .loop .inv .1 .stack-long
+same-length-5 c = c .before .before .before .loop .inv .1 .stack-long
 
 same-length-6 : tie.Need-same-length-6 Inv-loop μ-loop
-same-length-6 c = c .before .loop .inv .1 .roots-long
+same-length-6 c = c .before .before .before .loop .inv .1 .roots-long
 
 returns : tie.Need-returns Inv-loop μ-loop
 returns c =
-    let start = c .before .before .before .before .before .before .before .before .before .before .before .before .before .before in
+    let start = c .before .before .before .before .before .before .before .before .before .before .before .before .before .before .before .before in
     let a = start .args in
     let m = routesIn (a .s .now) (a .y) in
-    let all : c .before .loop .r ≡ length (m .routes) = rw (length-records routeFrom (a .s .now) (a .y .routes)) (omega arith) in
-    route-done m (start .pre .0) _ _ _ _ _ _ (start .pre .1) _ _ _ _ _ _ _ _ (c .before .loop .inv .1) all
+    let top = c .before .before .before .loop in
+    let all : top .r ≡ length (m .routes) = rw (length-records routeFrom (a .s .now) (a .y .routes)) (omega (arith, c .before .before .loop-test .left, top .inv .0)) in
+    rw (c .counts-in .ensures) (route-done m (start .pre .0) _ _ _ _ _ _ (start .pre .1) _ _ _ _ _ _ _ _ (top .inv .1) all)
 
 pub intern-routes-spec : {M : Type 1} → statement M
 intern-routes-spec =
@@ -121,6 +124,7 @@ intern-routes-spec =
     add-r
     (λ c. search needs)
     loop-again
+    (λ c κs. search needs)
     (λ c. search needs)
     same-length-2
     same-length-3
