@@ -1,4 +1,6 @@
--- A range that no check refuses has positions.
+-- Ranges as they are looked up.
+--     has-positions    one that no check refuses has positions
+-- Assumes nothing.
 use mathlib.Core.Path.{_≡_}
 use mathlib.Core.List.{List, [], _∷_}
 use mathlib.Core.Logic.{⊎-elim}

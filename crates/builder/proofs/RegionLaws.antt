@@ -5,7 +5,7 @@
 --     block-found                     the block of an address that was looked up
 --     region-here, region-on, region-end     the region of a handler: the first draft that has its range
 --     draft-below                     a draft is a handler
---     range-known, range-never        the blocks of a range that was checked, and no refusal of one that passed
+--     range-known, range-passes       the blocks of a range that was looked up; the range of a handler that passed its check
 --     regions-none, handlers-none     a graph with no region, or no handler, before the first store
 --     regions-more, handlers-more     a graph with so many of them, and one more
 --     regions-whole, regions-keep, both             a graph with its regions, and with its handlers behind them
