@@ -12,7 +12,9 @@ use crate::continuations::check_continuations;
 use crate::edge_count::check_edge_count;
 use crate::edges::add_normal_edges;
 use crate::exceptions::add_exception_edges;
-use crate::leaders::leaders;
+use crate::leaders::mark_code;
+use crate::leaders::mark_handlers;
+use crate::leaders::routes::mark_routes;
 use crate::ranges::check_handlers;
 use crate::ranges::code_end;
 use crate::regions::add_regions;
@@ -61,12 +63,13 @@ pub fn build(s: &[u8], g: &mut Words) -> Built
     }
 }
 
-// The same of an image that was read, in the smallest frame that has room for it.
+// The same of an image that was read, in the smaller frame if there is surely room in it: an instruction takes 31 bytes. Its
+// count would tell as well, but a layout of which something is read is copied before it is handed on.
 pub fn build_read(s: &[u8], y: Layout, g: &mut Words) -> Built
     requires { ⌜ Accepted (imageIn (now s) y) × ImageThere (now s) y ⌝ }
     ensures { λ r. ⌜ (buildAnswer (now (g .exit)) r ≡ buildOf (imageIn (now (s .entry)) y)) × BuildLeaves (now (g .entry)) (now (g .exit)) r ⌝ }
 {
-    if y.code.instructions.count <= 64 {
+    if s.len() < 65 * 31 {
         return build_small(s, y, g);
     }
     build_full(s, y, g)
@@ -92,7 +95,8 @@ fn build_full(s: &[u8], y: Layout, g: &mut Words) -> Built
     build_in(s, y, g, &mut hints, &mut blocks)
 }
 
-// By hints, and by the numbers of the positions' blocks, for which there is room.
+// By hints, and by the numbers of the positions' blocks, for which there is room. The marks of leaders are made here, where they
+// are used: returned by a function of their own, they would be copied once more.
 fn build_in(s: &[u8], y: Layout, g: &mut Words, hints: &mut [u16], blocks: &mut [u16]) -> Built
     requires { ⌜ Accepted (imageIn (now s) y) × Fits (imageIn (now s) y) (now blocks) × ImageThere (now s) y ⌝ }
     ensures { λ r. ⌜ (buildAnswer (now (g .exit)) r ≡ buildOf (imageIn (now (s .entry)) y)) × BuildLeaves (now (g .entry)) (now (g .exit)) r ⌝ }
@@ -101,7 +105,13 @@ fn build_in(s: &[u8], y: Layout, g: &mut Words, hints: &mut [u16], blocks: &mut 
     if let Checked::Refused(e) = check_input(s, y, hints, end) {
         return Built::Refused(e);
     }
-    let marks = leaders(s, y, hints, end);
+    let mut marks = mark_code([false; 512], s, y, hints);
+    if y.code.handlers.count > 0 {
+        marks = mark_handlers(marks, s, y, hints, end);
+    }
+    if y.routes.routes.count > 0 {
+        marks = mark_routes(marks, s, y, hints, end);
+    }
     if let Checked::Refused(e) = check_result(s, y, hints, end, &marks) {
         return Built::Refused(e);
     }

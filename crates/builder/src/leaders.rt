@@ -2,14 +2,13 @@
 //
 // 01 'Marks fall on'. Each collector takes the marks and returns them with its own set.
 mod flows;
-mod routes;
+pub mod routes;
 
 use crate::cursor::Cursor;
 use crate::cursor::cursor_after;
 use crate::cursor::cursor_start;
 use crate::cursor::given_at;
 use crate::leaders::flows::mark_lead;
-use crate::leaders::routes::mark_routes;
 use crate::lookup::address_at;
 use crate::lookup::find;
 use crate::marks::mark_at;
@@ -35,34 +34,13 @@ ghost use Rattle.graph.specs.Lookup.{Rising};
 ghost use Rattle.graph.specs.Transfer.{tableOf, instructionAt};
 ghost use Rattle.graph.specs.Leaders.{entryMark, goesOn, gapMark, protectMark, handlerMark, routes, endsFunclet};
 ghost use Rattle.builder.specs.Cursor.{cursorAt};
-ghost use Rattle.builder.specs.Marks.{Marked, Passed, Leading, funcletEnd, visitMark, instructionMark};
+ghost use Rattle.builder.specs.Marks.{Marked, Passed, funcletEnd, visitMark, instructionMark};
 
 const RETURN: u64 = 1;
 
 const JUMP: u64 = 6;
 
 const EXCEPTIONAL: u64 = 9;
-
-// Which instructions of an image that passed its checks start a block; `code_end` is the greatest end of all.
-pub fn leaders(s: &[u8], y: Layout, hints: &[u16], code_end: u64) -> [bool; 512]
-    requires { ⌜ Passed (imageIn (now s) y) × («code_end» ≡ codeEnd (tableOf (imageIn (now s) y))) × ImageThere (now s) y ⌝ }
-    ensures { λ r. ⌜ Leading (imageIn (now (s .entry)) y) r ⌝ }
-{
-    let handlers = y.code.handlers;
-    let routes = y.routes.routes;
-    let marks = mark_code([false; 512], s, y, hints);
-    if handlers.count == 0 {
-        if routes.count == 0 {
-            return marks;
-        }
-        return mark_routes(marks, s, y, hints, code_end);
-    }
-    let marks = mark_handlers(marks, s, y, hints, code_end);
-    if routes.count == 0 {
-        return marks;
-    }
-    mark_routes(marks, s, y, hints, code_end)
-}
 
 // The first instruction, and the entry.
 fn mark_entry(marks: &mut [bool; 512], s: &[u8], y: Layout, hints: &[u16])
@@ -76,7 +54,7 @@ fn mark_entry(marks: &mut [bool; 512], s: &[u8], y: Layout, hints: &[u16])
 }
 
 // The entry, and instruction by instruction.
-fn mark_code(mut marks: [bool; 512], s: &[u8], y: Layout, hints: &[u16]) -> [bool; 512]
+pub fn mark_code(mut marks: [bool; 512], s: &[u8], y: Layout, hints: &[u16]) -> [bool; 512]
     requires { ⌜ Passed (imageIn (now s) y) × ImageThere (now s) y ⌝ }
     ensures { λ r. ⌜ Marked (y .code .instructions .count) (λ p. entryMark (imageIn (now (s .entry)) y) p || instructionMark (imageIn (now (s .entry)) y) p) marks r ⌝ }
 {
@@ -178,7 +156,7 @@ fn ends_funclet(s: &[u8], y: Layout, hints: &[u16], q: usize, i: Instruction) ->
 }
 
 // What handlers protect, and where they are entered.
-fn mark_handlers(
+pub fn mark_handlers(
     mut marks: [bool; 512],
     s: &[u8],
     y: Layout,

@@ -1,8 +1,16 @@
--- The checks in their order, and then the stores. Assumes nothing.
-use mathlib.Core.Path.{refl, sym}
+-- The checks in their order, the collectors, and then the stores. Assumes nothing.
+use mathlib.Core.Logic.{⊎-elim}
+use mathlib.Core.Path.{_≡_, refl, sym}
+use Rattle.image.specs.Refusal.{clear}
 use Rattle.image.specs.Image.{imageIn}
+use Rattle.graph.specs.Leaders.{handlerMark, routeMark}
+use Rattle.graph.specs.Build.{inputCheck}
 use Rattle.graph.proofs.BuiltChecks.{parts}
+use Rattle.builder.specs.Marks.{Marked, Passed, Leading}
+use Rattle.builder.specs.Answers.{Building}
+use Rattle.builder.proofs.MarkLaws.{leading, no-handlers, no-routes}
 use Rattle.builder.proofs.BuildLaws.{passed, build-refused, build-late, build-built}
+use native.Mathlib.Omega.{arith}
 use borrow.Author.Needs.{needs}
 use Rattle.builder.proofs.build.build_in.Statement.{statement}
 use Rattle.builder.proofs.build.build_in.Tie as tie
@@ -18,56 +26,64 @@ returns c =
     let start = c .before .before .before .before .before .before .before .before .before .before .before in
     (build-refused (imageIn (start .args .s .now) (start .args .y)) _ (rw (c .before .e .given .1) at (c .before .before .before .before .before .check-input .ensures)), refl)
 
-leaders-requires : tie.Need-leaders-requires
-leaders-requires c κs =
-    let start = c .before .before .before .before .before .before .before .before .before .before .before in
-    let m = imageIn (start .args .s .now) (start .args .y) in
-    (passed m (start .pre .0) (parts m (sym (rw (c .before .enum-told .given .1) at (c .before .before .before .before .before .check-input .ensures)))), c .before .before .before .before .before .before .before .code-end .ensures, search needs)
+-- 3 to 15 let the image pass
+clears : (c : tie.After-enum-told) → let a = c .before .before .before .before .before .before .before .before .before .before .args in inputCheck (imageIn (a .s .now) (a .y)) ≡ clear
+clears c = sym (rw (c .enum-told .given .1) at (c .before .before .before .before .check-input .ensures))
+
+passes : (c : tie.After-enum-told) → let a = c .before .before .before .before .before .before .before .before .before .before .args in Passed (imageIn (a .s .now) (a .y))
+passes c = let start = c .before .before .before .before .before .before .before .before .before .before in let m = imageIn (start .args .s .now) (start .args .y) in passed m (start .pre .0) (parts m (clears c))
+
+mark-code-requires : tie.Need-mark-code-requires
+mark-code-requires c κs = (passes (c .before), search needs)
+
+mark-handlers-requires : tie.Need-mark-handlers-requires
+mark-handlers-requires c κs = (passes (c .before .before .before .before .before), c .before .before .before .before .before .before .before .before .before .before .before .code-end .ensures, c .before .before .before .before .before .before .before .before .before .before .before .before .before .before .before .pre .2)
+
+mark-routes-requires : tie.Need-mark-routes-requires
+mark-routes-requires c κs = (passes (c .before .before .before .before .before .before .before), c .before .before .before .before .before .before .before .before .before .before .before .before .before .code-end .ensures, c .before .before .before .before .before .before .before .before .before .before .before .before .before .before .before .before .before .pre .2)
+
+-- one collector after the other; without a handler or a route those have nothing to mark
+ready : (c : tie.Joined2) → let a = c .before .before .before .before .before .before .before .before .before .before .before .before .before .before .before .before .args in Building (imageIn (a .s .now) (a .y)) (c .before .before .before .before .before .before .before .before .before .before .before .before .code-end .result) (c .if2 .marks)
+ready c =
+    let start = c .before .before .before .before .before .before .before .before .before .before .before .before .before .before .before .before in
+    let a = start .args in
+    let handled : Marked (a .y .code .instructions .count) (handlerMark (imageIn (a .s .now) (a .y))) (c .before .before .before .before .mark-code .result) (c .before .before .if1 .marks) =
+    ⊎-elim (λ v. rw (v .3) (v .2 .ensures)) (λ v. rw (v .1) (no-handlers (a .s .now) (a .y) (omega (arith, v .0 .left)))) (c .before .before .if1 .came) in
+    let routed : Marked (a .y .code .instructions .count) (routeMark (imageIn (a .s .now) (a .y))) (c .before .before .if1 .marks) (c .if2 .marks) =
+    ⊎-elim (λ v. rw (v .3) (v .2 .ensures)) (λ v. rw (v .1) (no-routes (a .s .now) (a .y) (omega (arith, v .0 .left)))) (c .if2 .came) in
+    record {
+      accepted = start .pre .0;
+      passed = clears (c .before .before .before .before .before .before);
+      ended = c .before .before .before .before .before .before .before .before .before .before .before .before .code-end .ensures;
+      leading = leading (a .s .now) (a .y) (passes (c .before .before .before .before .before .before)) (c .before .before .before .before .mark-code .ensures) handled routed;
+    }
 
 check-result-requires : tie.Need-check-result-requires
-check-result-requires c κs =
-    let start = c .before .before .before .before .before .before .before .before .before .before .before .before .before .before in (
-      record {
-        accepted = start .pre .0;
-        passed = sym (rw (c .before .before .before .before .enum-told .given .1) at (c .before .before .before .before .before .before .before .before .check-input .ensures));
-        ended = c .before .before .before .before .before .before .before .before .before .before .code-end .ensures;
-        leading = c .before .before .leaders .ensures;
-      },
-      search needs,
-    )
+check-result-requires c κs = (ready (c .before .before), c .before .before .before .before .before .before .before .before .before .before .before .before .before .before .before .before .before .before .pre .2)
 
 same-length-2 : tie.Need-same-length-2
-same-length-2 c = c .before .before .before .before .before .before .before .before .before .before .before .before .check-input .kept .1 .1 .0
+same-length-2 c = c .before .before .before .before .before .before .before .before .before .before .before .before .before .before .before .before .check-input .kept .1 .1 .0
 
 returns-2 : tie.Need-returns-2
 returns-2 c =
-    let start = c .before .before .before .before .before .before .before .before .before .before .before .before .before .before .before .before .before .before in
-    (build-late (imageIn (start .args .s .now) (start .args .y)) _ (sym (rw (c .before .before .before .before .before .before .before .before .enum-told .given .1) at (c .before .before .before .before .before .before .before .before .before .before .before .before .check-input .ensures))) (rw (c .before .e2 .given .1) at (c .before .before .before .check-result .ensures)), refl)
+    let start = c .before .before .before .before .before .before .before .before .before .before .before .before .before .before .before .before .before .before .before .before .before .before in
+    (build-late (imageIn (start .args .s .now) (start .args .y)) _ (ready (c .before .before .before .before .before .before) .passed) (rw (c .before .e2 .given .1) at (c .before .before .before .check-result .ensures)), refl)
 
 store-graph-requires : tie.Need-store-graph-requires
 store-graph-requires c κs =
-    let start = c .before .before .before .before .before .before .before .before .before .before .before .before .before .before .before .before .before .before .before .before .before in (
-      record {
-        accepted = start .pre .0;
-        passed = sym (rw (c .before .before .before .before .before .before .before .before .before .before .before .enum-told .given .1) at (c .before .before .before .before .before .before .before .before .before .before .before .before .before .before .before .check-input .ensures));
-        ended = c .before .before .before .before .before .before .before .before .before .before .before .before .before .before .before .before .before .code-end .ensures;
-        leading = c .before .before .before .before .before .before .before .before .before .leaders .ensures;
-      },
-      sym (rw (c .before .before .before .before .enum-told2 .given .1) at (c .before .before .before .before .before .before .check-result .ensures)),
-      start .pre .1,
-      search needs,
-    )
+    let start = c .before .before .before .before .before .before .before .before .before .before .before .before .before .before .before .before .before .before .before .before .before .before .before .before .before in
+    (ready (c .before .before .before .before .before .before .before .before .before), sym (rw (c .before .before .before .before .enum-told2 .given .1) at (c .before .before .before .before .before .before .check-result .ensures)), start .pre .1, start .pre .2)
 
 same-length-3 : tie.Need-same-length-3
-same-length-3 c = c .before .before .before .before .before .before .before .before .before .before .before .before .before .before .before .before .before .before .check-input .kept .1 .1 .0
+same-length-3 c = c .before .before .before .before .before .before .before .before .before .before .before .before .before .before .before .before .before .before .before .before .before .before .check-input .kept .1 .1 .0
 
 same-length-4 : tie.Need-same-length-4
 same-length-4 c = c .before .before .store-graph .kept .1 .1 .1 .1 .1 .0
 
 returns-3 : tie.Need-returns-3
 returns-3 c =
-    let start = c .before .before .before .before .before .before .before .before .before .before .before .before .before .before .before .before .before .before .before .before .before .before .before .before in
-    build-built (imageIn (start .args .s .now) (start .args .y)) (sym (rw (c .before .before .before .before .before .before .before .before .before .before .before .before .before .before .enum-told .given .1) at (c .before .before .before .before .before .before .before .before .before .before .before .before .before .before .before .before .before .before .check-input .ensures))) (sym (rw (c .before .before .before .before .before .before .before .enum-told2 .given .1) at (c .before .before .before .before .before .before .before .before .before .check-result .ensures))) (c .before .before .store-graph .ensures)
+    let start = c .before .before .before .before .before .before .before .before .before .before .before .before .before .before .before .before .before .before .before .before .before .before .before .before .before .before .before .before in
+    build-built (imageIn (start .args .s .now) (start .args .y)) (ready (c .before .before .before .before .before .before .before .before .before .before .before .before) .passed) (sym (rw (c .before .before .before .before .before .before .before .enum-told2 .given .1) at (c .before .before .before .before .before .before .before .before .before .check-result .ensures))) (c .before .before .store-graph .ensures)
 
 pub build-in-spec : {M : Type 1} → statement M
 build-in-spec =
@@ -79,7 +95,9 @@ build-in-spec =
     same-length
     returns
     (λ c. search needs)
-    leaders-requires
+    mark-code-requires
+    mark-handlers-requires
+    mark-routes-requires
     check-result-requires
     (λ c. search needs)
     same-length-2
