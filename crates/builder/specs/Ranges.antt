@@ -14,6 +14,8 @@ use Rattle.graph.specs.Transfer.{tableOf}
 use Rattle.graph.specs.Leaders.{routes}
 use Rattle.graph.specs.Route.{funclets, handlerOf, routeCheck, stepsBefore}
 use Rattle.graph.specs.Build.{tableCheck, handlerCheck}
+use Rattle.builder.specs.declared.checks.Tabled.{Tabled}
+use Rattle.builder.specs.declared.checks.Tabled.the-variants.{Ends, Refused as NotTabled}
 use Rattle.builder.specs.declared.ranges.Ranged.{Ranged}
 use Rattle.builder.specs.declared.ranges.Ranged.the-variants.{Positions, Empty, NoStart, NoEnd}
 use Rattle.builder.specs.declared.route.Entered.{Entered}
@@ -22,6 +24,11 @@ use Rattle.builder.specs.declared.route.Entered.the-variants.{Next, Refu
 -- 3 to 5 found nothing in the table, which ends at `end`
 abbrev pub Ended : List TableEntry → ℕ → Type 0
 Ended t end = (tableCheck t ≡ clear) × (end ≡ codeEnd t)
+
+-- a table in which they found nothing, and where it ends, or the refusal
+abbrev pub Tables : List TableEntry → Tabled → Type 0
+Tables t (Ends end) = Ended t end
+Tables t (NotTabled e) = tableCheck t ≡ refused (refusalOf e)
 
 -- the positions of a range, from `first` up to `past`, or which refusal it is
 abbrev pub Ranges : List TableEntry → ℕ → ℕ → Ranged → Type 0

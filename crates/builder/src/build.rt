@@ -4,6 +4,7 @@ use crate::blocks::number_blocks;
 use crate::blocks::store_blocks;
 use crate::blocks::store_table;
 use crate::calls::add_calls;
+use crate::checks::Tabled;
 use crate::checks::check_entry;
 use crate::checks::check_given;
 use crate::checks::check_sources;
@@ -16,7 +17,6 @@ use crate::leaders::mark_code;
 use crate::leaders::mark_handlers;
 use crate::leaders::routes::mark_routes;
 use crate::ranges::check_handlers;
-use crate::ranges::code_end;
 use crate::regions::add_regions;
 use crate::regions::block_at;
 use crate::route::check_routes;
@@ -36,7 +36,6 @@ ghost use Rattle.image.specs.Image.{imageIn};
 ghost use Rattle.image.specs.Accepted.{Accepted};
 ghost use Rattle.image.specs.There.{ImageThere};
 ghost use Rattle.graph.specs.Error.{checkOf};
-ghost use Rattle.graph.specs.Table.{codeEnd};
 ghost use Rattle.graph.specs.Transfer.{tableOf, size};
 ghost use Rattle.graph.specs.Blocks.{entryOf};
 ghost use Rattle.graph.specs.Edges.{edgesOf, unresolvedOf, callsOf};
@@ -44,6 +43,7 @@ ghost use Rattle.graph.specs.Adding.{Added};
 ghost use Rattle.graph.specs.Build.{entryCheck, inputCheck, resultCheck, graphFrom, buildOf, buildFrom};
 ghost use Rattle.graph.specs.Answers.{Laid};
 ghost use Rattle.builder.specs.Marks.{Leading};
+ghost use Rattle.builder.specs.Ranges.{Ended};
 ghost use Rattle.builder.specs.Emit.{Fits, Numbered};
 ghost use Rattle.builder.specs.Answers.{buildAnswer, BuildLeaves, Graphed, Building, codeOnly};
 
@@ -101,7 +101,10 @@ fn build_in(s: &[u8], y: Layout, g: &mut Words, hints: &mut [u16], blocks: &mut 
     requires { ⌜ Accepted (imageIn (now s) y) × Fits (imageIn (now s) y) (now blocks) × ImageThere (now s) y ⌝ }
     ensures { λ r. ⌜ (buildAnswer (now (g .exit)) r ≡ buildOf (imageIn (now (s .entry)) y)) × BuildLeaves (now (g .entry)) (now (g .exit)) r ⌝ }
 {
-    let end = code_end(s, y.code.instructions);
+    let end = match check_table(s, y.code.instructions, hints) {
+        Tabled::Refused(e) => return Built::Refused(e),
+        Tabled::Ends(end) => end,
+    };
     if let Checked::Refused(e) = check_input(s, y, hints, end) {
         return Built::Refused(e);
     }
@@ -119,14 +122,11 @@ fn build_in(s: &[u8], y: Layout, g: &mut Words, hints: &mut [u16], blocks: &mut 
     Built::Stored
 }
 
-// 3 to 15, in their order.
-fn check_input(s: &[u8], y: Layout, hints: &mut [u16], end: u64) -> Checked
-    requires { ⌜ Accepted (imageIn (now s) y) × (end ≡ codeEnd (tableOf (imageIn (now s) y))) × ImageThere (now s) y ⌝ }
+// 6 to 15, in their order, behind 3 to 5.
+fn check_input(s: &[u8], y: Layout, hints: &[u16], end: u64) -> Checked
+    requires { ⌜ Accepted (imageIn (now s) y) × Ended (tableOf (imageIn (now s) y)) end × ImageThere (now s) y ⌝ }
     ensures { λ r. ⌜ checkOf r ≡ inputCheck (imageIn (now (s .entry)) y) ⌝ }
 {
-    if let Checked::Refused(e) = check_table(s, y.code.instructions, hints) {
-        return Checked::Refused(e);
-    }
     if let Checked::Refused(e) = check_entry(s, y, hints) {
         return Checked::Refused(e);
     }

@@ -6,6 +6,7 @@ use crate::cursor::cursor_after;
 use crate::cursor::cursor_start;
 use crate::cursor::given_at;
 use crate::lookup::address_at;
+use crate::lookup::end_at;
 use crate::lookup::find;
 use crate::lookup::put_hint;
 use crate::transfer::is_call;
@@ -33,24 +34,35 @@ ghost use Rattle.graph.specs.Error.{checkOf};
 ghost use Rattle.graph.specs.Fold.{checks};
 ghost use Rattle.graph.specs.Flow.{Flow, isCall};
 ghost use Rattle.graph.specs.Table.{entryAt};
-ghost use Rattle.graph.specs.Lookup.{Rising};
+ghost use Rattle.graph.specs.Lookup.{Rising, entriesIn};
 ghost use Rattle.graph.specs.Transfer.{entriesOf, tableOf, size};
-ghost use Rattle.graph.specs.Build.{orderCheck, instructionCheck, tableCheck, entryCheck, sourceCheck, targetCheck, givenCheck};
+ghost use Rattle.graph.specs.Build.{orderCheck, instructionCheck, entryCheck, sourceCheck, targetCheck, givenCheck};
 ghost use Rattle.builder.specs.Cursor.{Sourced, cursorAt, visitAt};
+ghost use Rattle.builder.specs.Ranges.{Tables};
+
+// A table that is not refused has a greatest end of all: a range may end there, where no instruction starts.
+pub enum Tabled {
+    Ends(u64),
+    Refused(AddressBuildError),
+}
 
 // The first refusal among those of the instructions: its end, its size, its order. On the way their addresses become hints.
-pub fn check_table(s: &[u8], y: Section, hints: &mut [u16]) -> Checked
+pub fn check_table(s: &[u8], y: Section, hints: &mut [u16]) -> Tabled
     requires { ⌜ Holds (now s) y 31 ⌝ }
-    ensures { λ r. ⌜ checkOf r ≡ tableCheck (entriesOf (recordsIn instructionFrom (now (s .entry)) y)) ⌝ }
+    ensures { λ r. ⌜ Tables (entriesIn (now (s .entry)) y) r ⌝ }
 {
     let n = y.count as usize;
+    let mut greatest: u64 = 0;
     for p in 0..n {
-        let found = check_instruction(s, y, hints, p);
-        let Checked::Clear = found else {
-            return found;
-        };
+        if let Checked::Refused(e) = check_instruction(s, y, hints, p) {
+            return Tabled::Refused(e);
+        }
+        let end = end_at(s, y, p);
+        if greatest < end {
+            greatest = end;
+        }
     }
-    Checked::Clear
+    Tabled::Ends(greatest)
 }
 
 fn check_instruction(s: &[u8], y: Section, hints: &mut [u16], p: usize) -> Checked

@@ -1,5 +1,4 @@
 // Protected ranges: their positions in the table, and the handlers that name them (10 to 13).
-use crate::lookup::end_at;
 use crate::lookup::find;
 use graph::error::AddressBuildError;
 use graph::error::Checked;
@@ -12,7 +11,7 @@ ghost use Prim.Native.Nat.{_<_};
 ghost use Rattle.image.specs.Image.{imageIn};
 ghost use Rattle.image.specs.There.{Holds, ImageThere};
 ghost use Rattle.graph.specs.Error.{checkOf};
-ghost use Rattle.graph.specs.Table.{codeEnd, rangeCheck};
+ghost use Rattle.graph.specs.Table.{rangeCheck};
 ghost use Rattle.graph.specs.Lookup.{entriesIn};
 ghost use Rattle.graph.specs.Transfer.{tableOf};
 ghost use Rattle.graph.specs.Build.{handlerCheck};
@@ -24,22 +23,6 @@ pub enum Ranged {
     Empty,
     NoStart,
     NoEnd,
-}
-
-// The greatest end of all: a range may end there, where no instruction starts.
-pub fn code_end(s: &[u8], y: Section) -> u64
-    requires { ⌜ Holds (now s) y 31 ⌝ }
-    ensures { λ r. ⌜ r ≡ codeEnd (entriesIn (now (s .entry)) y) ⌝ }
-{
-    let n = y.count as usize;
-    let mut greatest: u64 = 0;
-    for i in 0..n {
-        let end = end_at(s, y, i);
-        if greatest < end {
-            greatest = end;
-        }
-    }
-    greatest
 }
 
 // The range from `start` to `end`, in a table that ends at `code_end`. It is asked for at six places and kept so short that the

@@ -1,68 +1,78 @@
--- The invariant: the instructions before p are clear. Assumes nothing.
+-- The invariant: the instructions before p are clear, and this is the greatest of their ends. Assumes nothing.
 use mathlib.Core.Path.{_≡_, refl, sym, ap, _∙_}
+use mathlib.Core.Logic.{⊎-elim}
 use Prim.Native.Nat.{_-_, _<_, _≤_}
-use lib.ListN.{length}
+use lib.ListN.{length, take}
+use lib.Seq.{take-all}
 use Rattle.image.specs.Record.{instructionFrom}
 use Rattle.image.specs.Image.{recordsIn}
 use Rattle.image.specs.Refusal.{clear}
 use Rattle.image.proofs.Checks.{checks-more, checks-stop}
 use Rattle.graph.specs.Error.{checkOf}
 use Rattle.graph.specs.Fold.{checks}
-use Rattle.graph.specs.Transfer.{entriesOf}
+use Rattle.graph.specs.Table.{codeEnd}
+use Rattle.graph.specs.Lookup.{entriesIn}
 use Rattle.graph.specs.Build.{instructionCheck, tableCheck}
 use Rattle.graph.proofs.TableLaws.{size-is}
+use Rattle.graph.proofs.RangeLaws.{code-end-more}
 use native.Mathlib.Omega.{arith}
 use borrow.Author.Needs.{needs}
 use Rattle.builder.proofs.checks.check_table.Statement.{statement}
 use Rattle.builder.proofs.checks.check_table.Tie as tie
 
 abbrev Inv-loop : tie.InvT-loop
-Inv-loop s y hints₀ n p₀ hints p = (p ≤ y .count) × (checks (instructionCheck (entriesOf (recordsIn instructionFrom s y))) p ≡ clear) × (length hints ≡ length hints₀)
+Inv-loop s y hints₀ n greatest₀ p₀ hints greatest p = (p ≤ y .count) × (checks (instructionCheck (entriesIn s y)) p ≡ clear) × (length hints ≡ length hints₀) × (greatest ≡ codeEnd (take p (entriesIn s y)))
 
 abbrev μ-loop : tie.MeasureT-loop
-μ-loop s y hints₀ n p₀ hints p = y .count - p
+μ-loop s y hints₀ n greatest₀ p₀ hints greatest p = y .count - p
 
 cast-n : tie.Need-cast-n Inv-loop μ-loop
 cast-n c = search needs
 
 loop-holds : tie.Need-loop-holds Inv-loop μ-loop
-unfolding checks
-loop-holds c = (search needs, refl, refl)
+unfolding checks codeEnd
+loop-holds c = (search needs, refl, refl, refl)
 
 check-instruction-requires : tie.Need-check-instruction-requires Inv-loop μ-loop
 check-instruction-requires c κs = search needs
 
-enum-told : tie.Need-enum-told Inv-loop μ-loop
-enum-told c = search needs
-
-enum-told-2 : tie.Need-enum-told-2 Inv-loop μ-loop
-enum-told-2 c = search needs
+enum-known-e : tie.Need-enum-known-e Inv-loop μ-loop
+enum-known-e c = search needs
 
 same-length : tie.Need-same-length Inv-loop μ-loop
-same-length c = c .before .before .before .before .check-instruction .kept .1 .1 .0 ∙ c .before .before .before .before .before .before .before .loop .inv .2
+same-length c = c .before .before .before .before .before .check-instruction .kept .1 .1 .0 ∙ c .before .before .before .before .before .before .before .before .loop .inv .2
 
 returns : tie.Need-returns Inv-loop μ-loop
 unfolding tableCheck
 returns c =
-    let top = c .before .before .before .before .before .before .before .loop in
-    let a = c .before .before .before .before .before .before .before .before .before .before .before .args in
-    let t = entriesOf (recordsIn instructionFrom (a .s .now) (a .y)) in
+    let top = c .before .before .before .before .before .before .before .before .loop in
+    let a = c .before .before .before .before .before .before .before .before .before .before .before .before .args in
+    let t = entriesIn (a .s .now) (a .y) in
     let within : top .p < length t = rw (size-is (a .s .now) (a .y)) (omega arith) in
-    let told = ap checkOf (c .enum-told2 .given .1) in
-    told ∙ sym (checks-stop (instructionCheck t) (top .p) _ _ within (top .inv .1) (sym (c .before .before .before .before .check-instruction .ensures) ∙ told))
+    checks-stop (instructionCheck t) (top .p) _ _ within (top .inv .1) (sym (rw (c .before .e .given .1) at (c .before .before .before .before .before .check-instruction .ensures)))
+
+enum-told : tie.Need-enum-told Inv-loop μ-loop
+enum-told c = search needs
+
+end-at-requires : tie.Need-end-at-requires Inv-loop μ-loop
+end-at-requires c κs = search needs
 
 add-p : tie.Need-add-p Inv-loop μ-loop
-add-p c = omega (arith, c .before .before .before .before .before .before .before .before .struct-known .given)
+add-p c = search needs
 
 loop-less : tie.Need-loop-less Inv-loop μ-loop
 loop-less c = search needs
 
 loop-again : tie.Need-loop-again Inv-loop μ-loop
 loop-again c =
-    let top = c .before .before .before .before .before .before .before .loop in
-    let a = c .before .before .before .before .before .before .before .before .before .before .before .args in
-    let t = entriesOf (recordsIn instructionFrom (a .s .now) (a .y)) in
-    (search needs, checks-more (instructionCheck t) (top .p) (top .inv .1) ∙ sym (c .before .before .before .before .check-instruction .ensures) ∙ ap checkOf (c .enum-told .given .1), c .before .before .before .before .check-instruction .kept .1 .1 .0 ∙ top .inv .2)
+    let top = c .before .before .before .before .before .before .before .before .before .loop in
+    let a = c .before .before .before .before .before .before .before .before .before .before .before .before .before .args in
+    let t = entriesIn (a .s .now) (a .y) in
+    let call = c .before .before .before .before .before .before .check-instruction in
+    let inside : top .p < length t = rw (size-is (a .s .now) (a .y)) (omega arith) in
+    let here = sym (c .before .end-at .ensures) in
+    let more = code-end-more t (top .p) inside in
+    (search needs, checks-more (instructionCheck t) (top .p) (top .inv .1) ∙ sym (call .ensures) ∙ ap checkOf (c .before .before .enum-told .given .1), call .kept .1 .1 .0 ∙ top .inv .2, ⊎-elim (λ w. omega (arith, more, here)) (λ w. omega (arith, more, here)) (c .if1 .came))
 
 same-length-2 : tie.Need-same-length-2 Inv-loop μ-loop
 same-length-2 c = c .before .loop .inv .2
@@ -72,8 +82,8 @@ unfolding tableCheck
 returns-2 c =
     let end = c .before .loop in
     let a = c .before .before .before .before .before .args in
-    let all : end .p ≡ length (entriesOf (recordsIn instructionFrom (a .s .now) (a .y))) = rw (size-is (a .s .now) (a .y)) (omega arith) in
-    sym (rw all at (end .inv .1))
+    let all : end .p ≡ length (entriesIn (a .s .now) (a .y)) = rw (size-is (a .s .now) (a .y)) (omega arith) in
+    (rw all at (end .inv .1), end .inv .3 ∙ ap codeEnd (take-all (end .p) _ (omega (arith, all))))
 
 pub check-table-spec : {M : Type 1} → statement M
 check-table-spec =
@@ -84,10 +94,11 @@ check-table-spec =
     cast-n
     loop-holds
     check-instruction-requires
-    enum-told
-    enum-told-2
+    enum-known-e
     same-length
     returns
+    enum-told
+    end-at-requires
     add-p
     loop-less
     loop-again
