@@ -2,10 +2,11 @@
 --     length-table, table-in, table-past
 --     length-records, records-in, records-past
 --     record-there                a record of a section that is there ends within the bytes
+--     placed-there, placed-in     the same by its place in a local, and what is read there is that record
 --     records-none                a section that counts no record has none
 --     records-all                 what holds of the record of zeros and of each in the section holds at every i
 -- Assumes nothing.
-use mathlib.Core.Path.{_≡_, refl, _∙_}
+use mathlib.Core.Path.{_≡_, refl, sym, ap, _∙_}
 use mathlib.Core.Logic.{⊎-elim}
 use mathlib.Core.List.{List, [], _∷_}
 use Prim.Native.Nat.{ℕ, zero, suc, _+_, _<_, _≤_}
@@ -59,3 +60,10 @@ module _ {A : Type 0} (from : List ℕ → ℕ → A) (l : List ℕ) (y : Sectio
 
 pub record-there : (l : List ℕ) (y : Section) (i w : ℕ) → Holds l y w → i < y .count → placeIn y i + w ≤ length l
 record-there l y i w h less = omega (arith, h .0, h .1, rw mul-suc at (mul-le-mul-left (y .width) less))
+
+module _ (l : List ℕ) (y : Section) (i : ℕ) {at : ℕ} (placed : at ≡ placeIn y i) (less : i < y .count) where
+  pub placed-there : {w : ℕ} → Holds l y w → at + w ≤ length l
+  placed-there there = rw placed (record-there l y i _ there less)
+
+  pub placed-in : {A : Type 0} (from : List ℕ → ℕ → A) {r : A} → r ≡ from l at → r ≡ getD (recordsIn from l y) i (from [] 0)
+  placed-in from read = read ∙ ap (from l) placed ∙ sym (records-in from l y i less)

@@ -1,24 +1,19 @@
 -- By the law of records: what is behind record i ends no later than the section. Assumes nothing.
-use mathlib.Core.Path.{ap, sym, _∙_}
 use Rattle.image.specs.Record.{routeFrom}
-use Rattle.image.proofs.Tables.{records-in, record-there}
+use Rattle.image.proofs.Tables.{placed-there, placed-in}
 use borrow.Author.Needs.{needs}
 use Rattle.image.proofs.access.route_in.Statement.{statement}
 use Rattle.image.proofs.access.route_in.Tie as tie
 
-place-by-requires : tie.Need-place-by-requires
-place-by-requires c κs = search needs
-
 route-there-requires : tie.Need-route-there-requires
 route-there-requires c κs =
     let start = c .before .before in
-    rw (c .place-by .ensures) (record-there (start .args .s .now) (start .args .y) (start .args .i) 20 (start .pre .0) (start .pre .1))
+    placed-there (start .args .s .now) (start .args .y) (start .args .i) (c .place-by .ensures) (start .pre .1) (start .pre .0)
 
 returns : tie.Need-returns
 returns c =
     let start = c .before .before .before in
-    let a = start .args in
-    c .route-there .ensures ∙ ap (routeFrom (a .s .now)) (c .before .place-by .ensures) ∙ sym (records-in routeFrom (a .s .now) (a .y) (a .i) (start .pre .1))
+    placed-in (start .args .s .now) (start .args .y) (start .args .i) (c .before .place-by .ensures) (start .pre .1) routeFrom (c .route-there .ensures)
 
 pub route-in-spec : {M : Type 1} → statement M
-route-in-spec = tie.close (tie.spec place-by-requires route-there-requires returns)
+route-in-spec = tie.close (tie.spec (λ c κs. search needs) route-there-requires returns)

@@ -1,7 +1,7 @@
 -- By the law of records. Assumes nothing.
-use mathlib.Core.Path.{ap, sym, _∙_}
+use mathlib.Core.Path.{sym}
 use Rattle.image.specs.Record.{stepFrom}
-use Rattle.image.proofs.Tables.{records-in, records-past}
+use Rattle.image.proofs.Tables.{records-past, placed-in}
 use borrow.Author.Needs.{needs}
 use Rattle.image.proofs.access.step_at.Statement.{statement}
 use Rattle.image.proofs.access.step_at.Tie as tie
@@ -16,7 +16,7 @@ step-from-requires : tie.Need-step-from-requires
 step-from-requires c κs = search needs
 
 returns : tie.Need-returns
-returns c = let a = c .before .before .before .before .before .args in c .step-from .ensures ∙ ap (stepFrom (a .s .now)) (c .before .place .ensures .0) ∙ sym (records-in stepFrom (a .s .now) (a .y) (a .i) (c .before .before .if1 .taken))
+returns c = let a = c .before .before .before .before .before .args in placed-in (a .s .now) (a .y) (a .i) (c .before .place .ensures .0) (c .before .before .if1 .taken) stepFrom (c .step-from .ensures)
 
 returns-2 : tie.Need-returns-2
 returns-2 c = let a = c .before .before .before .args in sym (records-past stepFrom (a .s .now) (a .y) (a .i) (c .if1 .left))
