@@ -12,7 +12,7 @@
 --     mark-start, mark-lead         those that start at an address, and to which one leads
 --     eqb-comm                      a test that is turned
 --     no-handlers, no-routes        where there are none
---     leading                       all collectors, one after the other
+--     leads, leading                both collectors, one after the other, and from no mark on
 -- Assumes nothing.
 use mathlib.Core.Path.{_≡_, refl, sym, ap, _∙_}
 use mathlib.Core.Bool.{Bool, true, false, _&&_, _||_, or-true, or-false, and-true, and-false, or-assoc}
@@ -171,23 +171,23 @@ module _ {n : ℕ} {t : List Bool} (l : List ℕ) (y : Layout) where
   unfolding routeMark some
   no-routes e = mark-none (routeMark (imageIn l y)) (λ p h. rw (any-routes l y, e))
 
--- one collector after the other, from no mark on
-pub leading : {b c r : List Bool} (l : List ℕ) (y : Layout) → Passed (imageIn l y)
-    → Marked (y .code .instructions .count) (λ p. entryMark (imageIn l y) p || instructionMark (imageIn l y) p) (replicate 512 false) b
-    → Marked (y .code .instructions .count) (handlerMark (imageIn l y)) b c → Marked (y .code .instructions .count) (routeMark (imageIn l y)) c r
-    → Leading (imageIn l y) r
+-- one collector after the other
+pub leads : {n : ℕ} {t b r : List Bool} (m : Image) → Marked n (λ p. entryMark m p || instructionMark m p) t b → Marked n (λ p. handlerMark m p || routeMark m p) b r → Marked n (isLeader m) t r
 unfolding isLeader
-leading l y passed code handlers routed p h =
-    let within = rw (length-records instructionFrom l (y .code .instructions)) at h in
-    let m = imageIn l y in
-    let none = getD-replicate 512 p false false (omega (arith, within, few l y passed)) in
-    rw none at (mark-then (mark-then code handlers) routed .at p within)
-    ∙ in-order (entryMark m p) (sequenceMark m p) (flowMark m p) (exceptionalMark m p) (funcletEnd m p) (handlerMark m p) (routeMark m p)
+leads m code ranges =
+    mark-as (isLeader m) (λ p h. in-order (entryMark m p) (sequenceMark m p) (flowMark m p) (exceptionalMark m p) (funcletEnd m p) (handlerMark m p) (routeMark m p))
+    (mark-then code ranges)
   where
-    in-order : (e s f x u h r : Bool) → (e || (s || f || x || u) || h || r) ≡ (e || s || f || x || h || r || u)
+    in-order : (e s f x u h r : Bool) → (e || (s || f || x || u) || (h || r)) ≡ (e || s || f || x || h || r || u)
     in-order true s f x u h r = refl
     in-order false true f x u h r = refl
     in-order false false true x u h r = refl
     in-order false false false true u h r = refl
     in-order false false false false true h r = sym (or-true (h || r))
     in-order false false false false false h r = sym (or-false (h || r))
+
+-- from no mark on
+pub leading : {r : List Bool} (l : List ℕ) (y : Layout) → Passed (imageIn l y) → Marked (y .code .instructions .count) (isLeader (imageIn l y)) (replicate 512 false) r → Leading (imageIn l y) r
+leading l y passed marked p h =
+    let within = rw (length-records instructionFrom l (y .code .instructions)) at h in
+    rw (getD-replicate 512 p false false (omega (arith, within, few l y passed))) at (marked .at p within)

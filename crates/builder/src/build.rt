@@ -13,9 +13,7 @@ use crate::continuations::check_continuations;
 use crate::edge_count::check_edge_count;
 use crate::edges::add_normal_edges;
 use crate::exceptions::add_exception_edges;
-use crate::leaders::mark_code;
-use crate::leaders::mark_handlers;
-use crate::leaders::routes::mark_routes;
+use crate::leaders::mark_leaders;
 use crate::ranges::check_handlers;
 use crate::regions::add_regions;
 use crate::regions::block_at;
@@ -95,8 +93,7 @@ fn build_full(s: &[u8], y: Layout, g: &mut Words) -> Built
     build_in(s, y, g, &mut hints, &mut blocks)
 }
 
-// By hints, and by the numbers of the positions' blocks, for which there is room. The marks of leaders are made here, where they
-// are used: returned by a function of their own, they would be copied once more.
+// By hints, and by the numbers of the positions' blocks, for which there is room.
 fn build_in(s: &[u8], y: Layout, g: &mut Words, hints: &mut [u16], blocks: &mut [u16]) -> Built
     requires { ⌜ Accepted (imageIn (now s) y) × Fits (imageIn (now s) y) (now blocks) × ImageThere (now s) y ⌝ }
     ensures { λ r. ⌜ (buildAnswer (now (g .exit)) r ≡ buildOf (imageIn (now (s .entry)) y)) × BuildLeaves (now (g .entry)) (now (g .exit)) r ⌝ }
@@ -108,13 +105,7 @@ fn build_in(s: &[u8], y: Layout, g: &mut Words, hints: &mut [u16], blocks: &mut 
     if let Checked::Refused(e) = check_input(s, y, hints, end) {
         return Built::Refused(e);
     }
-    let mut marks = mark_code([false; 512], s, y, hints);
-    if y.code.handlers.count > 0 {
-        marks = mark_handlers(marks, s, y, hints, end);
-    }
-    if y.routes.routes.count > 0 {
-        marks = mark_routes(marks, s, y, hints, end);
-    }
+    let marks = mark_leaders([false; 512], s, y, hints, end);
     if let Checked::Refused(e) = check_result(s, y, hints, end, &marks) {
         return Built::Refused(e);
     }

@@ -1,14 +1,16 @@
 // Leader marks: the instructions that start a block.
 //
-// 01 'Marks fall on'. Each collector takes the marks and returns them with its own set.
+// 01 'Marks fall on'. Two collectors take the marks by value: the first marks what the code makes lead, and hands them on to the
+// second if there is a handler or a route.
 mod flows;
-pub mod routes;
+mod routes;
 
 use crate::cursor::Cursor;
 use crate::cursor::cursor_after;
 use crate::cursor::cursor_start;
 use crate::cursor::given_at;
 use crate::leaders::flows::mark_lead;
+use crate::leaders::routes::mark_routes;
 use crate::lookup::address_at;
 use crate::lookup::find;
 use crate::marks::mark_at;
@@ -32,9 +34,9 @@ ghost use Rattle.image.specs.There.{ImageThere};
 ghost use Rattle.graph.specs.Table.{codeEnd};
 ghost use Rattle.graph.specs.Lookup.{Rising};
 ghost use Rattle.graph.specs.Transfer.{tableOf, instructionAt};
-ghost use Rattle.graph.specs.Leaders.{entryMark, goesOn, gapMark, protectMark, handlerMark, routes, endsFunclet};
+ghost use Rattle.graph.specs.Leaders.{entryMark, goesOn, gapMark, protectMark, handlerMark, routeMark, routes, endsFunclet, isLeader};
 ghost use Rattle.builder.specs.Cursor.{cursorAt};
-ghost use Rattle.builder.specs.Marks.{Marked, Passed, funcletEnd, visitMark, instructionMark};
+ghost use Rattle.builder.specs.Marks.{Marked, Passed, funcletEnd, visitMark};
 
 const RETURN: u64 = 1;
 
@@ -53,10 +55,16 @@ fn mark_entry(marks: &mut [bool; 512], s: &[u8], y: Layout, hints: &[u16])
     mark_target_if(marks, s, table, hints, header.has_entry, header.entry);
 }
 
-// The entry, and instruction by instruction.
-pub fn mark_code(mut marks: [bool; 512], s: &[u8], y: Layout, hints: &[u16]) -> [bool; 512]
-    requires { ⌜ Passed (imageIn (now s) y) × ImageThere (now s) y ⌝ }
-    ensures { λ r. ⌜ Marked (y .code .instructions .count) (λ p. entryMark (imageIn (now (s .entry)) y) p || instructionMark (imageIn (now (s .entry)) y) p) marks r ⌝ }
+// The marks of all leaders. The entry, and instruction by instruction; then those of handlers and routes, if there are any.
+pub fn mark_leaders(
+    mut marks: [bool; 512],
+    s: &[u8],
+    y: Layout,
+    hints: &[u16],
+    code_end: u64,
+) -> [bool; 512]
+    requires { ⌜ Passed (imageIn (now s) y) × («code_end» ≡ codeEnd (tableOf (imageIn (now s) y))) × ImageThere (now s) y ⌝ }
+    ensures { λ r. ⌜ Marked (y .code .instructions .count) (isLeader (imageIn (now (s .entry)) y)) marks r ⌝ }
 {
     mark_entry(&mut marks, s, y, hints);
     let n = y.code.instructions.count as usize;
@@ -65,7 +73,12 @@ pub fn mark_code(mut marks: [bool; 512], s: &[u8], y: Layout, hints: &[u16]) -> 
     for q in 0..n {
         c = mark_visit(&mut marks, s, y, hints, c, routed);
     }
-    marks
+    if y.code.handlers.count == 0 {
+        if y.routes.routes.count == 0 {
+            return marks;
+        }
+    }
+    mark_ranges(marks, s, y, hints, code_end)
 }
 
 // The marks of the instruction at the cursor, and the cursor behind it. `routed` says whether there is any route.
@@ -155,8 +168,8 @@ fn ends_funclet(s: &[u8], y: Layout, hints: &[u16], q: usize, i: Instruction) ->
     false
 }
 
-// What handlers protect, and where they are entered.
-pub fn mark_handlers(
+// What handlers and routes protect, and where they are entered.
+fn mark_ranges(
     mut marks: [bool; 512],
     s: &[u8],
     y: Layout,
@@ -164,13 +177,21 @@ pub fn mark_handlers(
     code_end: u64,
 ) -> [bool; 512]
     requires { ⌜ Passed (imageIn (now s) y) × («code_end» ≡ codeEnd (tableOf (imageIn (now s) y))) × ImageThere (now s) y ⌝ }
-    ensures { λ r. ⌜ Marked (y .code .instructions .count) (handlerMark (imageIn (now (s .entry)) y)) marks r ⌝ }
+    ensures { λ r. ⌜ Marked (y .code .instructions .count) (λ p. handlerMark (imageIn (now (s .entry)) y) p || routeMark (imageIn (now (s .entry)) y) p) marks r ⌝ }
+{
+    mark_handlers(&mut marks, s, y, hints, code_end);
+    mark_routes(&mut marks, s, y, hints, code_end);
+    marks
+}
+
+fn mark_handlers(marks: &mut [bool; 512], s: &[u8], y: Layout, hints: &[u16], code_end: u64)
+    requires { ⌜ Passed (imageIn (now s) y) × («code_end» ≡ codeEnd (tableOf (imageIn (now s) y))) × ImageThere (now s) y ⌝ }
+    ensures { λ _. ⌜ Marked (y .code .instructions .count) (handlerMark (imageIn (now (s .entry)) y)) (now (marks .entry)) (now (marks .exit)) ⌝ }
 {
     let n = y.code.handlers.count as usize;
     for h in 0..n {
-        mark_handler(&mut marks, s, y, hints, code_end, h);
+        mark_handler(marks, s, y, hints, code_end, h);
     }
-    marks
 }
 
 fn mark_handler(

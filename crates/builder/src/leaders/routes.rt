@@ -19,20 +19,13 @@ const FUNCLET: u64 = 0;
 
 const HANDLER: u64 = 0;
 
-pub fn mark_routes(
-    mut marks: [bool; 512],
-    s: &[u8],
-    y: Layout,
-    hints: &[u16],
-    code_end: u64,
-) -> [bool; 512]
+pub fn mark_routes(marks: &mut [bool; 512], s: &[u8], y: Layout, hints: &[u16], code_end: u64)
     requires { ⌜ Passed (imageIn (now s) y) × («code_end» ≡ codeEnd (tableOf (imageIn (now s) y))) × ImageThere (now s) y ⌝ }
-    ensures { λ r. ⌜ Marked (y .code .instructions .count) (routeMark (imageIn (now (s .entry)) y)) marks r ⌝ }
+    ensures { λ _. ⌜ Marked (y .code .instructions .count) (routeMark (imageIn (now (s .entry)) y)) (now (marks .entry)) (now (marks .exit)) ⌝ }
 {
-    mark_route_ranges(&mut marks, s, y, hints, code_end);
-    mark_funclets(&mut marks, s, y, hints);
-    mark_path_ends(&mut marks, s, y, hints);
-    marks
+    mark_route_ranges(marks, s, y, hints, code_end);
+    mark_funclets(marks, s, y, hints);
+    mark_path_ends(marks, s, y, hints);
 }
 
 fn mark_route_ranges(marks: &mut [bool; 512], s: &[u8], y: Layout, hints: &[u16], code_end: u64)

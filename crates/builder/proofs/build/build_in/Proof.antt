@@ -1,18 +1,15 @@
--- The checks in their order, the collectors, and then the stores. Assumes nothing.
-use mathlib.Core.Logic.{⊎-elim}
+-- The checks in their order, the leaders, and then the stores. Assumes nothing.
 use mathlib.Core.Path.{_≡_, refl, sym}
 use Rattle.image.specs.Refusal.{clear}
 use Rattle.image.specs.Image.{imageIn}
 use Rattle.graph.specs.Transfer.{tableOf}
-use Rattle.graph.specs.Leaders.{handlerMark, routeMark}
 use Rattle.graph.specs.Build.{inputCheck}
 use Rattle.graph.proofs.BuiltChecks.{parts}
-use Rattle.builder.specs.Marks.{Marked, Passed}
+use Rattle.builder.specs.Marks.{Passed}
 use Rattle.builder.specs.Ranges.{Ended}
 use Rattle.builder.specs.Answers.{Building}
-use Rattle.builder.proofs.MarkLaws.{leading, no-handlers, no-routes}
+use Rattle.builder.proofs.MarkLaws.{leading}
 use Rattle.builder.proofs.BuildLaws.{passed, build-refused, build-late, build-built}
-use native.Mathlib.Omega.{arith}
 use borrow.Author.Needs.{needs}
 use Rattle.builder.proofs.build.build_in.Statement.{statement}
 use Rattle.builder.proofs.build.build_in.Tie as tie
@@ -48,56 +45,45 @@ clears c = sym (rw (c .enum-told .given .1) at (c .before .before .check-input .
 passes : (c : tie.After-enum-told) → let a = c .before .before .before .before .before .before .before .before .before .before .before .before .before .before .args in Passed (imageIn (a .s .now) (a .y))
 passes c = let start = c .before .before .before .before .before .before .before .before .before .before .before .before .before .before in let m = imageIn (start .args .s .now) (start .args .y) in passed m (start .pre .0) (parts m (clears c))
 
-mark-code-requires : tie.Need-mark-code-requires
-mark-code-requires c κs = (passes (c .before), c .before .before .before .before .before .before .before .before .before .before .before .before .before .before .before .pre .2)
+mark-leaders-requires : tie.Need-mark-leaders-requires
+mark-leaders-requires c κs = (passes (c .before), ended (c .before .before .before .before .before .before) .1, c .before .before .before .before .before .before .before .before .before .before .before .before .before .before .before .pre .2)
 
-mark-handlers-requires : tie.Need-mark-handlers-requires
-mark-handlers-requires c κs = (passes (c .before .before .before .before .before), ended (c .before .before .before .before .before .before .before .before .before .before) .1, c .before .before .before .before .before .before .before .before .before .before .before .before .before .before .before .before .before .before .before .pre .2)
-
-mark-routes-requires : tie.Need-mark-routes-requires
-mark-routes-requires c κs = (passes (c .before .before .before .before .before .before .before), ended (c .before .before .before .before .before .before .before .before .before .before .before .before) .1, c .before .before .before .before .before .before .before .before .before .before .before .before .before .before .before .before .before .before .before .before .before .pre .2)
-
--- one collector after the other; without a handler or a route those have nothing to mark
-ready : (c : tie.Joined2) → let a = c .before .before .before .before .before .before .before .before .before .before .before .before .before .before .before .before .before .before .before .before .args in Building (imageIn (a .s .now) (a .y)) (c .before .before .before .before .before .before .before .before .before .before .before .end .given .0 .0) (c .if2 .marks)
+-- and its leaders are marked
+ready : (c : tie.After-mark-leaders) → let a = c .before .before .before .before .before .before .before .before .before .before .before .before .before .before .before .before .args in Building (imageIn (a .s .now) (a .y)) (c .before .before .before .before .before .before .before .end .given .0 .0) (c .mark-leaders .result)
 ready c =
-    let start = c .before .before .before .before .before .before .before .before .before .before .before .before .before .before .before .before .before .before .before .before in
-    let a = start .args in
-    let handled : Marked (a .y .code .instructions .count) (handlerMark (imageIn (a .s .now) (a .y))) (c .before .before .before .before .mark-code .result) (c .before .before .if1 .marks) =
-      ⊎-elim (λ v. rw (v .3) (v .2 .ensures)) (λ v. rw (v .1) (no-handlers (a .s .now) (a .y) (omega (arith, v .0 .left)))) (c .before .before .if1 .came) in
-    let routed : Marked (a .y .code .instructions .count) (routeMark (imageIn (a .s .now) (a .y))) (c .before .before .if1 .marks) (c .if2 .marks) =
-      ⊎-elim (λ v. rw (v .3) (v .2 .ensures)) (λ v. rw (v .1) (no-routes (a .s .now) (a .y) (omega (arith, v .0 .left)))) (c .if2 .came) in
+    let start = c .before .before .before .before .before .before .before .before .before .before .before .before .before .before .before .before in
     record {
       accepted = start .pre .0;
-      passed = clears (c .before .before .before .before .before .before);
-      ended = ended (c .before .before .before .before .before .before .before .before .before .before .before) .1;
-      leading = leading (a .s .now) (a .y) (passes (c .before .before .before .before .before .before)) (c .before .before .before .before .mark-code .ensures) handled routed;
+      passed = clears (c .before .before);
+      ended = ended (c .before .before .before .before .before .before .before) .1;
+      leading = leading (start .args .s .now) (start .args .y) (passes (c .before .before)) (c .mark-leaders .ensures);
     }
 
 check-result-requires : tie.Need-check-result-requires
-check-result-requires c κs = (ready (c .before .before), c .before .before .before .before .before .before .before .before .before .before .before .before .before .before .before .before .before .before .before .before .before .before .pre .2)
+check-result-requires c κs = (ready (c .before .before), c .before .before .before .before .before .before .before .before .before .before .before .before .before .before .before .before .before .before .pre .2)
 
 same-length-3 : tie.Need-same-length-3
-same-length-3 c = c .before .before .before .before .before .before .before .before .before .before .before .before .before .before .before .before .before .before .before .before .before .check-table .kept .1 .1 .0
+same-length-3 c = c .before .before .before .before .before .before .before .before .before .before .before .before .before .before .before .before .before .check-table .kept .1 .1 .0
 
 returns-3 : tie.Need-returns-3
 returns-3 c =
-    let a = c .before .before .before .before .before .before .before .before .before .before .before .before .before .before .before .before .before .before .before .before .before .before .before .before .before .before .args in
+    let a = c .before .before .before .before .before .before .before .before .before .before .before .before .before .before .before .before .before .before .before .before .before .before .args in
     (build-late (imageIn (a .s .now) (a .y)) _ (ready (c .before .before .before .before .before .before) .passed) (rw (c .before .e3 .given .1) at (c .before .before .before .check-result .ensures)), refl)
 
 store-graph-requires : tie.Need-store-graph-requires
 store-graph-requires c κs =
-    let start = c .before .before .before .before .before .before .before .before .before .before .before .before .before .before .before .before .before .before .before .before .before .before .before .before .before .before .before .before .before in
+    let start = c .before .before .before .before .before .before .before .before .before .before .before .before .before .before .before .before .before .before .before .before .before .before .before .before .before in
     (ready (c .before .before .before .before .before .before .before .before .before), sym (rw (c .before .before .before .before .enum-told2 .given .1) at (c .before .before .before .before .before .before .check-result .ensures)), start .pre .1, start .pre .2)
 
 same-length-4 : tie.Need-same-length-4
-same-length-4 c = c .before .before .before .before .before .before .before .before .before .before .before .before .before .before .before .before .before .before .before .before .before .before .before .before .before .before .before .check-table .kept .1 .1 .0
+same-length-4 c = c .before .before .before .before .before .before .before .before .before .before .before .before .before .before .before .before .before .before .before .before .before .before .before .check-table .kept .1 .1 .0
 
 same-length-5 : tie.Need-same-length-5
 same-length-5 c = c .before .before .store-graph .kept .1 .1 .1 .1 .1 .0
 
 returns-4 : tie.Need-returns-4
 returns-4 c =
-    let a = c .before .before .before .before .before .before .before .before .before .before .before .before .before .before .before .before .before .before .before .before .before .before .before .before .before .before .before .before .before .before .before .before .args in
+    let a = c .before .before .before .before .before .before .before .before .before .before .before .before .before .before .before .before .before .before .before .before .before .before .before .before .before .before .before .before .args in
     build-built (imageIn (a .s .now) (a .y)) (ready (c .before .before .before .before .before .before .before .before .before .before .before .before) .passed) (sym (rw (c .before .before .before .before .before .before .before .enum-told2 .given .1) at (c .before .before .before .before .before .before .before .before .before .check-result .ensures))) (c .before .before .store-graph .ensures)
 
 pub build-in-spec : {M : Type 1} → statement M
@@ -114,9 +100,7 @@ build-in-spec =
     same-length-2
     returns-2
     (λ c. search needs)
-    mark-code-requires
-    mark-handlers-requires
-    mark-routes-requires
+    mark-leaders-requires
     check-result-requires
     (λ c. search needs)
     same-length-3

@@ -15,11 +15,11 @@ use Rattle.builder.proofs.leaders.mark_handlers.Statement.{statement}
 use Rattle.builder.proofs.leaders.mark_handlers.Tie as tie
 
 abbrev Inv-loop : tie.InvT-loop
-Inv-loop s y hints code-end marks₀ n h₀ marks h =
+Inv-loop marks₀ s y hints code-end n h₀ marks h =
     (h ≤ n) × Marked (y .code .instructions .count) (λ p. some (λ i. protectMark (imageIn s y) i p) h) marks₀ marks
 
 abbrev μ-loop : tie.MeasureT-loop
-μ-loop s y hints code-end marks₀ n h₀ marks h = n - h
+μ-loop marks₀ s y hints code-end n h₀ marks h = n - h
 
 cast-n : tie.Need-cast-n Inv-loop μ-loop
 cast-n c = omega (arith, c .struct-known .given)
