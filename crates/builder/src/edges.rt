@@ -8,7 +8,6 @@ use crate::cursor::given_at;
 use crate::lookup::find;
 use crate::transfer::Origin;
 use crate::transfer::Slot;
-use crate::transfer::Slots;
 use crate::transfer::Transfer;
 use crate::transfer::case_transfer;
 use crate::transfer::falls_through;
@@ -42,11 +41,11 @@ ghost use Rattle.image.specs.Record.{edgeFrom};
 ghost use Rattle.image.specs.There.{Holds, ImageThere};
 ghost use Rattle.graph.specs.Table.{isStart};
 ghost use Rattle.graph.specs.Lookup.{entriesIn, Rising};
-ghost use Rattle.graph.specs.Flow.{Flow, From, slotsOf, fallsThrough, flowUnder};
+ghost use Rattle.graph.specs.Flow.{Flow, From, fallsThrough, flowUnder};
 ghost use Rattle.graph.specs.Transfer.{tableOf, size, instructionAt, addressAt, transferAt, slotCount, isGiven, givenAt};
 ghost use Rattle.graph.specs.Edges.{transferEdges, transferUnresolved, givenEdge, edgesAt, unresolvedAt, normalEdges, unresolvedOf};
 ghost use Rattle.graph.specs.Adding.{Added};
-ghost use Rattle.builder.specs.Slots.{slotIn, slotsIn, transferIn};
+ghost use Rattle.builder.specs.Slots.{slotIn, slotAt, transferIn};
 ghost use Rattle.builder.specs.Cursor.{Sourced, cursorAt};
 ghost use Rattle.builder.specs.Marks.{Leading};
 ghost use Rattle.builder.specs.Emit.{Emitting, Visiting, Resolves, edgeBetween, unresolvedFrom, slotEdges, slotUnresolved};
@@ -196,9 +195,11 @@ fn add_transfers(
     let n = slot_end(flow, i.cases, slots.1);
     let p = c.at;
     let source = i.address;
+    let mut slot = slots.0;
     for k in 0..n {
-        let x = transfer_of(s, y, c, i, flow, slots, k);
+        let x = transfer_of(s, y, c, i, flow, slot, k);
         add_transfer(g, s, y, hints, blocks, p, source, x);
+        slot = slots.1;
     }
 }
 
@@ -220,30 +221,29 @@ fn slot_end(flow: u64, cases: usize, second: Slot) -> usize
     }
 }
 
-// Transfer k of the instruction at a cursor: that of a slot, or a case of a Switch.
+// Transfer k of the instruction at a cursor: that of its slot, or, behind the first, a case of a Switch.
 fn transfer_of(
     s: &[u8],
     y: Layout,
     c: Cursor,
     i: Instruction,
     flow: u64,
-    slots: Slots,
+    slot: Slot,
     k: usize,
 ) -> Transfer
     requires { ⌜ Sourced (imageIn (now s) y) × (c ≡ cursorAt (imageIn (now s) y) (c .at)) × (c .at < size (imageIn (now s) y)) × (i ≡ instructionAt (imageIn (now s) y) (c .at)) × ImageThere (now s) y ⌝ }
-    requires { ⌜ (flow ≡ flowUnder (y .header .calls) (i .flow)) × (slotsIn slots ≡ slotsOf flow) × (k < slotCount (imageIn (now s) y) (c .at)) ⌝ }
+    requires { ⌜ (flow ≡ flowUnder (y .header .calls) (i .flow)) × (slotIn slot ≡ slotAt flow k) × (k < slotCount (imageIn (now s) y) (c .at)) ⌝ }
     ensures { λ r. ⌜ transferIn r ≡ transferAt (imageIn (now (s .entry)) y) (c .at) k ⌝ }
 {
-    if k == 0 {
-        return slot_transfer(i, slots.0);
+    if k > 0 {
+        if flow == SWITCH {
+            let cases = y.code.cases;
+            let behind = k - 1;
+            let case = case_in(s, cases, c.case + behind);
+            return case_transfer(case, behind);
+        }
     }
-    if flow == SWITCH {
-        let cases = y.code.cases;
-        let behind = k - 1;
-        let case = case_in(s, cases, c.case + behind);
-        return case_transfer(case, behind);
-    }
-    slot_transfer(i, slots.1)
+    slot_transfer(i, slot)
 }
 
 // The edge of a transfer of the instruction at p, whose address is `source`, or its unresolved record.
