@@ -4,8 +4,6 @@ use mathlib.Core.Logic.{⊎-elim}
 use Prim.Native.Nat.{_-_, _<_, _≤_}
 use lib.ListN.{length, take}
 use lib.Seq.{take-all}
-use Rattle.image.specs.Record.{instructionFrom}
-use Rattle.image.specs.Image.{recordsIn}
 use Rattle.image.specs.Refusal.{clear}
 use Rattle.image.proofs.Checks.{checks-more, checks-stop}
 use Rattle.graph.specs.Error.{checkOf}
@@ -26,18 +24,9 @@ Inv-loop s y hints₀ n greatest₀ p₀ hints greatest p = (p ≤ y .count) × 
 abbrev μ-loop : tie.MeasureT-loop
 μ-loop s y hints₀ n greatest₀ p₀ hints greatest p = y .count - p
 
-cast-n : tie.Need-cast-n Inv-loop μ-loop
-cast-n c = search needs
-
 loop-holds : tie.Need-loop-holds Inv-loop μ-loop
 unfolding checks codeEnd
 loop-holds c = (search needs, refl, refl, refl)
-
-check-instruction-requires : tie.Need-check-instruction-requires Inv-loop μ-loop
-check-instruction-requires c κs = search needs
-
-enum-known-e : tie.Need-enum-known-e Inv-loop μ-loop
-enum-known-e c = search needs
 
 same-length : tie.Need-same-length Inv-loop μ-loop
 same-length c = c .before .before .before .before .before .check-instruction .kept .1 .1 .0 ∙ c .before .before .before .before .before .before .before .before .loop .inv .2
@@ -50,18 +39,6 @@ returns c =
     let t = entriesIn (a .s .now) (a .y) in
     let within : top .p < length t = rw (size-is (a .s .now) (a .y)) (omega arith) in
     checks-stop (instructionCheck t) (top .p) _ _ within (top .inv .1) (sym (rw (c .before .e .given .1) at (c .before .before .before .before .before .check-instruction .ensures)))
-
-enum-told : tie.Need-enum-told Inv-loop μ-loop
-enum-told c = search needs
-
-end-at-requires : tie.Need-end-at-requires Inv-loop μ-loop
-end-at-requires c κs = search needs
-
-add-p : tie.Need-add-p Inv-loop μ-loop
-add-p c = search needs
-
-loop-less : tie.Need-loop-less Inv-loop μ-loop
-loop-less c = search needs
 
 loop-again : tie.Need-loop-again Inv-loop μ-loop
 loop-again c =
@@ -91,16 +68,16 @@ check-table-spec =
     (tie.spec
     Inv-loop
     μ-loop
-    cast-n
+    (λ c. search needs)
     loop-holds
-    check-instruction-requires
-    enum-known-e
+    (λ c κs. search needs)
+    (λ c. search needs)
     same-length
     returns
-    enum-told
-    end-at-requires
-    add-p
-    loop-less
+    (λ c. search needs)
+    (λ c κs. search needs)
+    (λ c. search needs)
+    (λ c. search needs)
     loop-again
     same-length-2
     returns-2)

@@ -1,4 +1,5 @@
--- The entry first, and what handlers and routes mark last. The invariant: the cursor stands at q, and the marks are those of the instructions before. Assumes nothing.
+-- The entry first, handlers and routes last. The invariant: the cursor stands at q, and the marks are those of the instructions
+-- before. Assumes nothing.
 use mathlib.Core.Bool.{_||_}
 use mathlib.Core.Path.{_≡_, sym, ap, _∙_}
 use Prim.Native.Nat.{ℕ, _≤_, _-_}
@@ -28,12 +29,6 @@ abbrev μ-loop : tie.MeasureT-loop
 mark-entry-requires : tie.Need-mark-entry-requires Inv-loop μ-loop
 mark-entry-requires c κs = (c .before .before .before .pre .0, search needs)
 
-cast-n : tie.Need-cast-n Inv-loop μ-loop
-cast-n c = search needs
-
-cursor-start-requires : tie.Need-cursor-start-requires Inv-loop μ-loop
-cursor-start-requires c κs = search needs
-
 loop-holds : tie.Need-loop-holds Inv-loop μ-loop
 loop-holds c = (search needs, c .cursor-start .ensures (imageIn _ _), marks-none (visitMark (imageIn _ _)))
 
@@ -47,9 +42,6 @@ mark-visit-requires c κs =
 
 add-q : tie.Need-add-q Inv-loop μ-loop
 add-q c = omega (arith, c .before .before, c .before .before .before .before .before .before .struct-known)
-
-loop-less : tie.Need-loop-less Inv-loop μ-loop
-loop-less c = search needs
 
 loop-again : tie.Need-loop-again Inv-loop μ-loop
 loop-again c =
@@ -86,12 +78,12 @@ mark-leaders-spec =
     Inv-loop
     μ-loop
     mark-entry-requires
-    cast-n
-    cursor-start-requires
+    (λ c. search needs)
+    (λ c κs. search needs)
     loop-holds
     mark-visit-requires
     add-q
-    loop-less
+    (λ c. search needs)
     loop-again
     returns
     mark-ranges-requires
