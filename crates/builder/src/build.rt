@@ -33,7 +33,7 @@ use graph::store::{Words, empty, set_entry};
 use image::read::{ReadImage, read_image};
 use image::section::Layout;
 
-#[derive(Drop)]
+#[derive(Clone, Copy)]
 pub enum Built {
     Stored,
     Refused(AddressBuildError),

@@ -24,7 +24,7 @@ use image::record::Instruction;
 use image::section::{CodeLayout, Layout, Section};
 
 // A table that is not refused has a greatest end of all: a range may end there, where no instruction starts.
-#[derive(Drop)]
+#[derive(Clone, Copy)]
 pub enum Tabled {
     Ends(u64),
     Refused(AddressBuildError),

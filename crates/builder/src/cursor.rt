@@ -13,7 +13,7 @@ use image::section::{Layout, Section};
 
 // Position `at` of the table. The cases of its instruction stand from `case` on. `source` is the first given source that
 // does not stand before it, and that one's edges stand from `edge` on.
-#[derive(Drop)]
+#[derive(Clone, Copy)]
 pub struct Cursor {
     pub at: usize,
     pub case: usize,
@@ -22,14 +22,14 @@ pub struct Cursor {
 }
 
 // Where an instruction leads: along so many given edges, or as its flow says.
-#[derive(Drop)]
+#[derive(Clone, Copy)]
 pub enum Given {
     Edges(usize),
     Flow,
 }
 
 // The instruction at a cursor, and the cursor behind it.
-#[derive(Drop)]
+#[derive(Clone, Copy)]
 pub struct Visit {
     pub instruction: Instruction,
     pub given: Given,

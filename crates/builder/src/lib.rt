@@ -1,4 +1,6 @@
 // The three builds: from an image to its graph in lent words, or the refusal.
+#![tactic(auto)]
+
 mod blocks;
 pub mod build;
 mod calls;

@@ -16,7 +16,7 @@ use image::access::handler_in;
 use image::section::{Layout, Section};
 
 // The positions of a range's instructions, from `first` up to `past`; or what is wrong with it (10, 11, 12).
-#[derive(Drop)]
+#[derive(Clone, Copy)]
 pub enum Ranged {
     Positions { first: usize, past: usize },
     Empty,

@@ -28,7 +28,7 @@ use graph::store::handlers::add_handler;
 use graph::store::regions::add_region;
 use image::section::Layout;
 
-#[derive(Drop)]
+#[derive(Clone, Copy)]
 pub enum Parent {
     At(usize),
     Nothing,

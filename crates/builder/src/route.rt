@@ -20,7 +20,7 @@ use image::access::{path_in, route_in, step_in};
 use image::section::{Layout, RouteLayout, Section};
 
 // Where the steps of the path behind start, or the refusal.
-#[derive(Drop)]
+#[derive(Clone, Copy)]
 pub enum Entered {
     Next(usize),
     Refused(AddressBuildError),

@@ -7,7 +7,7 @@ ghost use Rattle.builder.specs.Slots.{from_of, slot_in, slots_in, transfer_in};
 use image::record::{Case, Instruction};
 
 // Where a target comes from: an empty slot makes no transfer, and a computed transfer has no target.
-#[derive(Drop)]
+#[derive(Clone, Copy)]
 pub enum Origin {
     Nowhere,
     Computed,
@@ -16,15 +16,15 @@ pub enum Origin {
 }
 
 // A role, and where its target comes from.
-#[derive(Drop)]
+#[derive(Clone, Copy)]
 pub struct Slot(pub u8, pub Origin);
 
 // The first and the second slot of a flow.
-#[derive(Drop)]
+#[derive(Clone, Copy)]
 pub struct Slots(pub Slot, pub Slot);
 
 // A transfer of an instruction, with what its role carries: a case's index and key, or a call site.
-#[derive(Drop)]
+#[derive(Clone, Copy)]
 pub struct Transfer {
     pub role: u64,
     pub from: Origin,

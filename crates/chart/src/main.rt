@@ -1,4 +1,6 @@
 // The program chart: reads an image on standard input and prints its chart.
+#![tactic(auto)]
+
 use print::print_chart;
 
 // The greatest image has 42,700 bytes: one more tells whether there are too many.

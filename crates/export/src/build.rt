@@ -16,7 +16,7 @@ use text::refusal::numbers_of;
 const NOTHING: u64 = 0;
 
 #[repr(C)]
-#[derive(Drop)]
+#[derive(Clone, Copy)]
 pub struct Answer {
     pub number: u64,
     pub first: u64,
@@ -24,7 +24,7 @@ pub struct Answer {
 }
 
 #[repr(C)]
-#[derive(Drop)]
+#[derive(Clone, Copy)]
 pub struct ReachedCount {
     pub number: u64,
     pub count: u64,

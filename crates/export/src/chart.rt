@@ -19,7 +19,7 @@ use text::routes::route_layout;
 use unwind::hops::Hops;
 
 #[repr(C)]
-#[derive(Drop)]
+#[derive(Clone, Copy)]
 pub struct LineCount {
     pub number: u64,
     pub count: u64,

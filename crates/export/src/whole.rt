@@ -13,7 +13,7 @@ use text::routes::routes_at;
 use unwind::hops::Hops;
 
 #[repr(C)]
-#[derive(Drop)]
+#[derive(Clone, Copy)]
 pub struct SequenceAnswer {
     pub built: u64,
     pub number: u64,

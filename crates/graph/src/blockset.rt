@@ -5,12 +5,12 @@ ghost use Rattle.graph.specs.Fold.{count};
 ghost use Rattle.graph.specs.BlockSet.{member, none, including, excluding, size_of, LowestOf, LowestFrom};
 ghost use Rattle.graph.specs.WellFormed.{within};
 
-#[derive(Drop)]
+#[derive(Clone, Copy)]
 pub struct BlockSet {
     pub words: [u64; 16],
 }
 
-#[derive(Drop)]
+#[derive(Clone, Copy)]
 pub enum Lowest {
     At(usize),
     Nothing,

@@ -5,7 +5,7 @@ ghost use Rattle.graph.specs.Error.{refusal_of};
 
 use image::form::ImageError;
 
-#[derive(Drop)]
+#[derive(Clone, Copy)]
 pub enum AddressBuildError {
     BadForm { offset: usize },
     OverLimit { offset: usize },
@@ -31,7 +31,7 @@ pub enum AddressBuildError {
 }
 
 // What checks find first.
-#[derive(Drop)]
+#[derive(Clone, Copy)]
 pub enum Checked {
     Clear,
     Refused(AddressBuildError),

@@ -12,7 +12,7 @@ use crate::store::edges::{edge_at, edge_count};
 use crate::store::{Words, entry};
 
 // Which blocks are reached, and how many; where the words hold no graph (21), none.
-#[derive(Drop)]
+#[derive(Clone, Copy)]
 pub struct ReachedSet {
     pub found: Checked,
     pub blocks: BlockSet,

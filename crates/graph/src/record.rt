@@ -1,7 +1,7 @@
 // The records of a graph, as words. A graph that is handed in may hold any word in each of them.
 
 // One instruction of the table. A target and cases stay in the image.
-#[derive(Drop)]
+#[derive(Clone, Copy)]
 pub struct TableEntry {
     pub address: u64,
     pub end: u64,
@@ -11,14 +11,14 @@ pub struct TableEntry {
 }
 
 // A run of the table: `count` instructions from position `first` on.
-#[derive(Drop)]
+#[derive(Clone, Copy)]
 pub struct Block {
     pub first: u64,
     pub count: u64,
 }
 
 // An edge with its AddressEdgeInfo: `number` is what the role carries (or a given edge's payload), `key` a case's key.
-#[derive(Drop)]
+#[derive(Clone, Copy)]
 pub struct Edge {
     pub source: u64,
     pub target: u64,
@@ -31,7 +31,7 @@ pub struct Edge {
 }
 
 // A protected range with its set of blocks and how many handlers it has.
-#[derive(Drop)]
+#[derive(Clone, Copy)]
 pub struct Region {
     pub has_parent: u64,
     pub parent: u64,
@@ -42,7 +42,7 @@ pub struct Region {
 }
 
 // Handler `place` of `region`. Its input index is its place in the graph's list: the handler's reference.
-#[derive(Drop)]
+#[derive(Clone, Copy)]
 pub struct HandlerRecord {
     pub region: u64,
     pub place: u64,
@@ -52,7 +52,7 @@ pub struct HandlerRecord {
 }
 
 // A transfer whose target starts no instruction. Its role tells whether it has a target and a case index.
-#[derive(Drop)]
+#[derive(Clone, Copy)]
 pub struct UnresolvedTransfer {
     pub source: u64,
     pub target: u64,
@@ -61,7 +61,7 @@ pub struct UnresolvedTransfer {
 }
 
 // A flattened call.
-#[derive(Drop)]
+#[derive(Clone, Copy)]
 pub struct CallSite {
     pub source: u64,
     pub has_target: u64,

@@ -11,7 +11,7 @@ ghost use Rattle.image.specs.Form.{field, bad, byte, used4, used8, names_target,
 use crate::little::{byte_at, octet, quad, u64_at};
 
 // The eight kinds of records, in file order.
-#[derive(Drop)]
+#[derive(Clone, Copy)]
 pub enum Kind {
     Instructions,
     Cases,
@@ -24,13 +24,13 @@ pub enum Kind {
 }
 
 // Why a file is refused: document 01's numbers 1 and 2, each with its byte offset.
-#[derive(Drop)]
+#[derive(Clone, Copy)]
 pub enum ImageError {
     BadForm { offset: usize },
     OverLimit { offset: usize },
 }
 
-#[derive(Drop)]
+#[derive(Clone, Copy)]
 pub enum Verdict {
     Clear,
     Refused(ImageError),

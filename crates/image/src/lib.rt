@@ -1,4 +1,6 @@
 // Sequence images and route images: what an operator's file says, or why it is refused.
+#![tactic(auto)]
+
 pub mod access;
 pub mod form;
 pub mod little;

@@ -12,7 +12,7 @@ use crate::scan::{ReadSection, Sum, read_section, section_of};
 use crate::section::{CodeLayout, Layout, RouteLayout, Section, end_of};
 
 // A section and that of its children, where this one ends, and how many children it has in turn.
-#[derive(Drop)]
+#[derive(Clone, Copy)]
 pub enum ReadPair {
     Read {
         parents: Section,
@@ -23,19 +23,19 @@ pub enum ReadPair {
     Refused(ImageError),
 }
 
-#[derive(Drop)]
+#[derive(Clone, Copy)]
 pub enum ReadCode {
     Read(CodeLayout),
     Refused(ImageError),
 }
 
-#[derive(Drop)]
+#[derive(Clone, Copy)]
 pub enum ReadRoutes {
     Read(RouteLayout),
     Refused(ImageError),
 }
 
-#[derive(Drop)]
+#[derive(Clone, Copy)]
 pub enum ReadImage {
     Read(Layout),
     Refused(ImageError),

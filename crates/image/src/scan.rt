@@ -8,28 +8,28 @@ use crate::little::{quad, u32_at};
 use crate::section::Section;
 
 // What a section's count has to be: as many as its parents' children are, or free.
-#[derive(Drop)]
+#[derive(Clone, Copy)]
 pub enum Sum {
     Free,
     Exactly(u64),
 }
 
 // Where the records that were scanned end, and how many children they have in all, or the first refusal.
-#[derive(Drop)]
+#[derive(Clone, Copy)]
 pub enum Scan {
     Done { end: usize, children: u64 },
     Refused(ImageError),
 }
 
 // The count of a section, or why it is refused.
-#[derive(Drop)]
+#[derive(Clone, Copy)]
 pub enum Counted {
     Count(u64),
     Refused(ImageError),
 }
 
 // How many records a section has, where they end, and how many children they have in all.
-#[derive(Drop)]
+#[derive(Clone, Copy)]
 pub enum ReadSection {
     Read {
         count: u32,

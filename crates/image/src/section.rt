@@ -5,7 +5,7 @@ ghost use Rattle.image.specs.Read.{end_of};
 
 use crate::record::Header;
 
-#[derive(Drop)]
+#[derive(Clone, Copy)]
 pub struct Section {
     pub at: u32,
     pub width: u32,
@@ -13,7 +13,7 @@ pub struct Section {
 }
 
 // The last three sections of an image, or the whole of a route image.
-#[derive(Drop)]
+#[derive(Clone, Copy)]
 pub struct RouteLayout {
     pub routes: Section,
     pub paths: Section,
@@ -21,7 +21,7 @@ pub struct RouteLayout {
 }
 
 // The sections before them.
-#[derive(Drop)]
+#[derive(Clone, Copy)]
 pub struct CodeLayout {
     pub instructions: Section,
     pub cases: Section,
@@ -30,7 +30,7 @@ pub struct CodeLayout {
     pub handlers: Section,
 }
 
-#[derive(Drop)]
+#[derive(Clone, Copy)]
 pub struct Layout {
     pub header: Header,
     pub code: CodeLayout,

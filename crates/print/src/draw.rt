@@ -8,7 +8,7 @@ use graph::store::Words;
 use sequence::{Sequence, build_sequence};
 use unwind::hops::Hops;
 
-#[derive(Drop)]
+#[derive(Clone, Copy)]
 pub enum Drawn {
     Whole,
     Refused(AddressBuildError),

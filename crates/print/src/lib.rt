@@ -1,5 +1,7 @@
 // A chart on standard output. No contract can say what is written: `draw` says what the words hold whose lines are printed,
 // and each line is what `text` says it is.
+#![tactic(auto)]
+
 mod draw;
 
 use crate::draw::{Drawn, draw};

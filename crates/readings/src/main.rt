@@ -1,6 +1,8 @@
 // Says of each stored image what the reader finds: how many records its sections have, or the refusal.
 //
 // Standard input holds images and route images, each after a byte (0 an image, 1 routes) and its length in 4 bytes.
+#![tactic(auto)]
+
 use image::form::ImageError;
 use image::little::{byte_at, u32_at};
 use image::read::{ReadImage, ReadRoutes, read_image, read_routes};

@@ -1,6 +1,8 @@
 // Replays stored images: prints the chart of each.
 //
 // Standard input holds the images one behind the other, each after its length in 4 bytes.
+#![tactic(auto)]
+
 use image::little::u32_at;
 use print::print_chart;
 

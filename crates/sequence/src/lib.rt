@@ -1,6 +1,8 @@
 // A sequence with its own routes: the graph of an image and, in modes 1 and 2, what the addition of the routes in it gives. It
 // is a build and an addition, one after the other; but the image is read once, and neither 21 is asked of a graph just built
 // nor 10 to 12, 15 and 17 of its own routes.
+#![tactic(auto)]
+
 ghost use Rattle.std.specs.Prelude.{◌≡◌};
 ghost use Rattle.image.specs.Image.{image_in};
 ghost use Rattle.image.specs.Read.{read, read_image};
@@ -19,7 +21,7 @@ use unwind::add::frames::add_checked;
 use unwind::hops::{Hops, empty_hops};
 
 // The graph with its routes and their hops; the graph alone, where its routes are refused; or nothing.
-#[derive(Drop)]
+#[derive(Clone, Copy)]
 pub enum Sequence {
     Whole,
     Unrouted(AddressBuildError),

@@ -1,4 +1,6 @@
 // The text of the chart: each line as bytes in a buffer that the caller lends.
+#![tactic(auto)]
+
 pub mod chart;
 pub mod field;
 pub mod hops;

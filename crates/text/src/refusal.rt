@@ -5,7 +5,7 @@ ghost use Rattle.graph.specs.Error.{refusal_of};
 
 use graph::error::AddressBuildError;
 
-#[derive(Drop)]
+#[derive(Clone, Copy)]
 pub struct Numbers {
     pub number: u64,
     pub first: u64,

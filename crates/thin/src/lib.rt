@@ -1,5 +1,7 @@
 // A graph and its hops as structs behind a reference, where the Rust's Emitter stood: each function lends the words to the store's,
 // and promises what that one does.
+#![tactic(auto)]
+
 ghost use Rattle.std.specs.Prelude.{◌≡◌};
 ghost use Rattle.graph.specs.Graph.{edge};
 ghost use Rattle.graph.specs.Words.{held_in};

@@ -22,7 +22,7 @@ use graph::store::Words;
 use image::read::{ReadRoutes, read_routes};
 use image::section::RouteLayout;
 
-#[derive(Drop)]
+#[derive(Clone, Copy)]
 pub enum AddedRoutes {
     Stored,
     Refused(AddressBuildError),

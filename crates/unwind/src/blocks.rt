@@ -19,7 +19,7 @@ use graph::store::blocks::block_in;
 use graph::store::table::{table_at, table_count, table_in};
 
 // Whether an address starts a built block, lies inside one, or starts no instruction.
-#[derive(Drop)]
+#[derive(Clone, Copy)]
 pub enum Lead {
     Leads(usize),
     Inside,

@@ -6,7 +6,7 @@ ghost use Rattle.unwind.specs.HopWords.{list_row, hop_at, rows_in, with_hop, wit
 pub type Hops = [u64; 18440];
 
 // A source, an end block or none, and where the lists of the hop stand.
-#[derive(Drop)]
+#[derive(Clone, Copy)]
 pub struct HopRow {
     pub source: u64,
     pub has_end: u64,
@@ -16,7 +16,7 @@ pub struct HopRow {
 }
 
 // A call list: consecutive steps of the route image.
-#[derive(Drop)]
+#[derive(Clone, Copy)]
 pub struct ListRow {
     pub step: u64,
     pub calls: u64,

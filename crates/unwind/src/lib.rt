@@ -1,4 +1,6 @@
 // The unwinding: routes added to a graph, each function against the definition in the crate below.
+#![tactic(auto)]
+
 pub mod add;
 mod blocks;
 mod checks;

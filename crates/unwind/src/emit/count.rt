@@ -19,7 +19,7 @@ use crate::tries::store::{Counts, branch_in};
 use image::section::RouteLayout;
 
 // Hops, the lists that they have, and the hops that end at a block: one route edge each.
-#[derive(Drop)]
+#[derive(Clone, Copy)]
 pub struct Sizes {
     pub hops: usize,
     pub lists: usize,

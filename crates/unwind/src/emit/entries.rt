@@ -14,7 +14,7 @@ use image::section::RouteLayout;
 pub const LEAVE: usize = 65535;
 
 // Where an entry stands, or the place before which it belongs.
-#[derive(Drop)]
+#[derive(Clone, Copy)]
 pub enum Place {
     At(usize),
     Before(usize),

@@ -13,7 +13,7 @@ use crate::routes::{path_of, step_of};
 use crate::tries::store::Branch;
 use image::section::RouteLayout;
 
-#[derive(Drop)]
+#[derive(Clone, Copy)]
 pub enum Order {
     Less,
     Equal,
@@ -21,7 +21,7 @@ pub enum Order {
 }
 
 // What branches are: edges to nodes, or ends of paths.
-#[derive(Drop)]
+#[derive(Clone, Copy)]
 pub enum Kind {
     Edges,
     Ends,

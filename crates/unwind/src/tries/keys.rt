@@ -15,7 +15,7 @@ use image::section::RouteLayout;
 
 // The calls, which are consecutive steps, and the funclet behind them; of the paths looked at, the first and the last that
 // has them, and whether another has a key that comes after.
-#[derive(Drop)]
+#[derive(Clone, Copy)]
 pub struct Key {
     pub step: usize,
     pub calls: usize,
@@ -24,7 +24,7 @@ pub struct Key {
     pub more: bool,
 }
 
-#[derive(Drop)]
+#[derive(Clone, Copy)]
 pub enum NextKey {
     At(Key),
     Nothing,

@@ -13,7 +13,7 @@ use crate::tries::store::{Branch, branch_in};
 use image::section::RouteLayout;
 
 // The end of a path that enters no funclet any more.
-#[derive(Drop)]
+#[derive(Clone, Copy)]
 pub enum Ending {
     At(Branch),
     Nothing,

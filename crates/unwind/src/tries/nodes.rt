@@ -20,14 +20,14 @@ use graph::blockset::{has_in, put_in};
 use image::section::RouteLayout;
 
 // Where a node stands.
-#[derive(Drop)]
+#[derive(Clone, Copy)]
 pub enum Place {
     At(usize),
     Nothing,
 }
 
 // A node's place, and how many nodes, edges and ends are stored then.
-#[derive(Drop)]
+#[derive(Clone, Copy)]
 pub struct Interned {
     pub place: usize,
     pub counts: Counts,

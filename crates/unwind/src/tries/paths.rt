@@ -13,7 +13,7 @@ use image::section::RouteLayout;
 pub const FUNCLET: u64 = 0;
 
 // Of a route's paths, those of the `count` from `first` on that begin with the `depth` steps from `from` on.
-#[derive(Drop)]
+#[derive(Clone, Copy)]
 pub struct Group {
     pub route: usize,
     pub first: usize,
@@ -23,14 +23,14 @@ pub struct Group {
 }
 
 // The steps that are left of a path, unless it is none of the group's.
-#[derive(Drop)]
+#[derive(Clone, Copy)]
 pub enum Left {
     Steps { first: usize, count: usize },
     Nothing,
 }
 
 // Steps up to the first funclet: calls alone, or so many calls before it.
-#[derive(Drop)]
+#[derive(Clone, Copy)]
 pub enum CutAt {
     Over,
     Enters(usize),

@@ -12,7 +12,7 @@ use crate::tries::store::{Branch, branch_in, put_branch};
 use image::section::RouteLayout;
 
 // The branch before which another goes, or it stands there.
-#[derive(Drop)]
+#[derive(Clone, Copy)]
 pub enum Spot {
     At(usize),
     Present,

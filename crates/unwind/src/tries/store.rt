@@ -6,7 +6,7 @@ ghost use Rattle.unwind.specs.Nodes.{NodeRead, BranchRead, NodeSmall, BranchSmal
 
 // The step that names the funclet, plus 1, or 0 at the root of a route; the route whose interning created the node; where
 // its edges and ends stand.
-#[derive(Drop)]
+#[derive(Clone, Copy)]
 pub struct NodeRecord {
     pub funclet: usize,
     pub route: usize,
@@ -17,7 +17,7 @@ pub struct NodeRecord {
 }
 
 // An edge or an end: the calls before it, which are consecutive steps, and the node after them, or the path whose end it is.
-#[derive(Drop)]
+#[derive(Clone, Copy)]
 pub struct Branch {
     pub step: usize,
     pub calls: usize,
@@ -25,7 +25,7 @@ pub struct Branch {
 }
 
 // How many nodes, edges and ends are stored.
-#[derive(Drop)]
+#[derive(Clone, Copy)]
 pub struct Counts {
     pub nodes: usize,
     pub edges: usize,

@@ -12,7 +12,7 @@ use crate::tries::store::{node_in, number_in};
 use graph::blockset::{Lowest, digits_from, zeros_of};
 
 // Its node, the route that it wants edges for, and the first copy of the node's blocks, 0 where it has the original ones.
-#[derive(Drop)]
+#[derive(Clone, Copy)]
 pub struct Wanter {
     pub node: usize,
     pub route: usize,
