@@ -211,6 +211,7 @@ of_every : (c : Case) (cs : List Case) → every cs ≡ true → Memᴰ c cs →
 unfolding every
 of_every c (d ∷ cs) e (Memᴰ.head p) = rw p (both (passes d) (every cs) e).0
 of_every c (d ∷ cs) e (Memᴰ.tail p) = of_every c cs (both (passes d) (every cs) e).1 p
+of_every c [] e x'' = elim x'' [ ]
 
 pub each_case : (c : Case) → Memᴰ c cases → tells (build_of c.image) ≡ c.told
 unfolding passes

@@ -49,6 +49,7 @@ module _ {A : Type 0} where
 
 pub both : (a b : Bool) → T (a && b) → T a × T b
 both true b h = (tt, h)
+both false b h = elim h [ ]
 
 -- a test, or not
 pub decided : (b : Bool) → (b ≡ true) ⊎ (b ≡ false)

@@ -8,7 +8,7 @@
 --     all_held                     within the limits nothing is cut
 -- Assumes nothing.
 use mathlib.Core.Path.{◌≡◌, refl, sym, ap, ◌∙◌}
-use mathlib.Core.Bool.{Bool, true, ◌&&◌}
+use mathlib.Core.Bool.{Bool, true, ◌&&◌, false}
 use mathlib.Core.List.{List, [], ◌∷◌, ◌++◌}
 use Prim.Native.Nat.{ℕ, ◌+◌, ◌<◌, ◌≤◌}
 use native.Mathlib.Omega.{arith}
@@ -79,6 +79,14 @@ exact s of l h = λ t. record { count = is t; list = records s of l }
 
 each : (a b c d e f g h : Bool) → T (a && b && c && d && e && f && g && h) → T a × T c × T d × T e × T f × T g × T h
 each true true true true true true true true t = (tt, tt, tt, tt, tt, tt, tt)
+each false b c d e f g h t = elim t [ ]
+each true false c d e f g h t = elim t [ ]
+each true true false d e f g h t = elim t [ ]
+each true true true false e f g h t = elim t [ ]
+each true true true true false f g h t = elim t [ ]
+each true true true true true false g h t = elim t [ ]
+each true true true true true true false h t = elim t [ ]
+each true true true true true true true false t = elim t [ ]
 
 pub all_held : (l : List ℕ) → within_limits (held_in l).counts ≡ true → held_in l ≡ held (held_in l).graph
 unfolding held_in held within_limits

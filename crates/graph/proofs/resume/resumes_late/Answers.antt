@@ -100,7 +100,7 @@ paths-preserved c =
     let on : c.args.path + (c.paths.k + 1) ≡ c.args.path + c.paths.k + 1 = omega arith in (
       search rules,
       omega (arith, ap (steps_before m) on, steps_next m (c.args.path + c.paths.k), c.paths.invariant.1, ap (λ (x : Path). x.steps) read),
-      ⊎_elim (λ w. w.EQ20w0x3 ∙ w.loop-j.invariant.1) (λ w. w.EQ20w1x1 ∙ c.paths.invariant.2) c.if-p-eq-RESUME.branch-raw,
+      ⊎_elim (λ w. w.found-is ∙ w.loop-j.invariant.1) (λ w. w.found-is ∙ c.paths.invariant.2) c.if-p-eq-RESUME.branch-raw,
       some_more _ c.paths.k c.paths.invariant.3
           (⊎_elim (λ w. let all : w.loop-j.j ≡ (get_or m.paths (c.args.path + c.paths.k) (path_from [] 0)).steps = omega (arith, ap (λ (x : Path). x.steps) read) in
           path_resumes m p.0 (c.args.path + c.paths.k) within (ap (λ (x : Path). x.end) (sym read) ∙ w.if-p-eq-RESUME.true) ∙ (rw (c.paths.invariant.1, all) at w.loop-j.invariant.2)) (λ w. path_goes_on m p.0 (c.args.path + c.paths.k) within (λ e. w.if-p-eq-RESUME.false (ap (λ (x : Path). x.end) read ∙ e))) c.if-p-eq-RESUME.branch-raw),
