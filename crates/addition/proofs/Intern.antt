@@ -279,6 +279,7 @@ module _ (rs : List UnwindRoute) where
   unfolding longest
   longest_short (q ∷ ps) p (Memᴰ.head e) = rw e (omega arith)
   longest_short (q ∷ ps) p (Memᴰ.tail m) = omega (arith, longest_short ps p m)
+  longest_short [] p x' = elim x' [ ]
 
   routes_law : (r : ℕ) (us : List UnwindRoute) (t : List Node) → ((u : UnwindRoute) → u ∈ us → u ∈ rs) → Fits t → Routes t us (intern_routes r us t)
   unfolding intern_routes
