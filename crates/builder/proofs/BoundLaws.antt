@@ -71,6 +71,7 @@ second_falls f most = holds _ (all_at (λ k. eqb (slots_of k).1.from From.nowher
   where
     holds : (b : Bool) → T b → b ≡ true
     holds true h = refl
+    holds false h = elim h [ ]
 
 module _ (m : Image) (h : Sourced m) (p : ℕ) (here : p < size m) where
   at_most_one : (x : Transfer) → length (transfer_unresolved m p x) ≤ 1

@@ -116,7 +116,7 @@ unfolding some
 some_own f zero p h = absurd (omega arith)
 some_own f (suc n) p h =
     ⊎_elim
-    (λ e. rw (eq-eqb p n e, e, and-true (f n), none f n n (omega arith)))
+    (λ e. rw (eq-eqb p n e, and-true (f n), none f n p (omega arith)) (ap f (sym e)))
     (λ lt. rw (ne_eqb p n (λ e. omega arith), and-false (f n), or-false (some (λ q. f q && eqb p q) n)) (some_own f n p lt))
     (eq-or-lt_of_le (le_of_suc-le-suc h))
   where

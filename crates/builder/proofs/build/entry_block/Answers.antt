@@ -1,0 +1,16 @@
+-- The entry is a start, by 6; without one it is block 0. Assumes nothing.
+use mathlib.Core.Path.{◌∙◌}
+use Rattle.image.specs.Image.{image_in}
+use Rattle.graph.proofs.BuiltChecks.{entry_starts}
+use Rattle.graph.proofs.BuiltBlocks.{entry_is, entry_none}
+use borrow.Author.Rules.{rules}
+use Rattle.builder.proofs.build.entry_block.Goals as goal
+
+pub block_at-requires : goal.block_at-requires
+block_at-requires c = (c.requires.0, entry_starts (image_in c.args.s.now c.args.y) c.if-header.true c.requires.1, search rules)
+
+pub returns-then-header : goal.returns-then-header
+returns-then-header c = c.block_at.ensures ∙ entry_is (image_in c.args.s.now c.args.y) c.if-header.true
+
+pub returns : goal.returns
+returns c = entry_none (image_in c.args.s.now c.args.y) c.if-header.false

@@ -1,0 +1,28 @@
+use mathlib.Core.Path.{◌≡◌, ap}
+use Prim.Native.Nat.{◌-◌}
+use lib.ListN.{length}
+use Rattle.image.specs.Record.{handler_from}
+use Rattle.image.specs.Image.{image_in}
+use Rattle.image.specs.declared.record.Handler.{Handler}
+use Rattle.image.proofs.Tables.{length-records}
+use Rattle.builder.proofs.DraftLaws.{filled_none, filled_more, extents_read}
+use native.Mathlib.Omega.{arith}
+use borrow.Author.Rules.{rules}
+use Rattle.builder.proofs.drafts.read_ranges.Goals as goal
+
+pub loop-h-init : goal.loop-h-init
+loop-h-init c = let size = length-records handler_from c.args.s.now c.args.y.code.handlers in
+    (search rules, omega arith, rw c.requires.0 (filled_none _), rw c.requires.1 (filled_none _))
+
+pub loop-h-preserved : goal.loop-h-preserved
+loop-h-preserved c = let own = c.handler-own.ensures in (
+  search rules,
+  search rules,
+  filled_more c.loop-h.invariant.2 _ (omega arith) (ap (λ (x : Handler). x.start) own),
+  filled_more c.loop-h.invariant.3 _ (omega arith) (ap (λ (x : Handler). x.end) own),
+)
+
+pub returns : goal.returns
+returns c = let m = image_in c.args.s.now c.args.y in
+    let all : c.loop-h.h ≡ length m.handlers = omega (arith, length-records handler_from c.args.s.now c.args.y.code.handlers) in
+    extents_read m _ _ c.loop-h.h all c.loop-h.invariant.2 c.loop-h.invariant.3

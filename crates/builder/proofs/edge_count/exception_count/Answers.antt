@@ -1,0 +1,44 @@
+use mathlib.Core.Path.{◌≡◌, refl}
+use Prim.Native.Nat.{◌-◌}
+use lib.ListN.{length}
+use Rattle.image.specs.Record.{handler_from}
+use Rattle.image.specs.Image.{image_in}
+use Rattle.image.proofs.Tables.{length-records}
+use Rattle.graph.specs.Fold.{flat}
+use Rattle.graph.specs.Build.{handler_check}
+use Rattle.graph.proofs.CheckLaws.{checks_at}
+use Rattle.builder.specs.Emit.{handler_edges}
+use Rattle.builder.proofs.ExceptionLaws.{handlers_edges}
+use Rattle.builder.proofs.CountLaws.{flat-length, flat_most, handler_most}
+use native.Mathlib.Omega.{arith}
+use borrow.Author.Rules.{rules}
+use Rattle.builder.proofs.edge_count.exception_count.Goals as goal
+
+pub kept_before-kept-requires : goal.kept_before-kept-requires
+kept_before-kept-requires c = (c.requires.0.sourced.accepted.instructions_most, search rules)
+
+pub overflow_cast-n : goal.overflow_cast-n
+overflow_cast-n c = omega (arith, c.requires.0.sourced.accepted.handlers_most, length-records handler_from c.args.s.now c.args.y.code.handlers)
+
+pub loop-h-init : goal.loop-h-init
+unfolding flat
+loop-h-init c = (search rules, omega (arith, c.requires.0.sourced.accepted.handlers_most, length-records handler_from c.args.s.now c.args.y.code.handlers), refl)
+
+pub kept_by-edges-requires : goal.kept_by-edges-requires
+kept_by-edges-requires c = let m = image_in c.args.s.now c.args.y in
+    let size = length-records handler_from c.args.s.now c.args.y.code.handlers in record { ended = ((c.requires.0.table, c.requires.2), checks_at (handler_check m) (length m.handlers) c.loop-h.h c.requires.0.handlers (omega arith), search rules, search rules); y_bound = (c.requires.0.sourced.accepted.instructions_most, c.kept_before-kept.ensures) }
+
+pub overflow_add-edges : goal.overflow_add-edges
+overflow_add-edges c = let m = image_in c.args.s.now c.args.y in
+    let most = c.requires.0.sourced.accepted.instructions_most in
+    omega
+    (arith, c.loop-h.invariant.2, c.kept_by-edges.ensures, handler_most m c.loop-h.h, flat_most (λ k. handler_edges m k) 512 c.loop-h.h (λ k _. omega (arith, handler_most m k)))
+
+pub loop-h-preserved : goal.loop-h-preserved
+loop-h-preserved c = let m = image_in c.args.s.now c.args.y in
+    (search rules, search rules, omega (arith, c.loop-h.invariant.2, c.kept_by-edges.ensures, flat-length (λ k. handler_edges m k) c.loop-h.h))
+
+pub returns : goal.returns
+returns c = let m = image_in c.args.s.now c.args.y in
+    let all : c.loop-h.h ≡ length m.handlers = omega (arith, length-records handler_from c.args.s.now c.args.y.code.handlers) in
+    rw (handlers_edges m c.requires.1, ← all) c.loop-h.invariant.2

@@ -1,0 +1,58 @@
+use mathlib.Core.Path.{◌≡◌, refl, sym, ap, ◌∙◌}
+use Prim.Native.Nat.{ℕ, ◌+◌, ◌-◌}
+use Rattle.image.specs.Image.{image_in}
+use Rattle.image.specs.Record.{instruction_from}
+use Rattle.image.proofs.Tables.{length-records}
+use Rattle.graph.specs.Fold.{flat}
+use Rattle.graph.specs.Transfer.{size}
+use Rattle.graph.specs.Blocks.{is_terminator}
+use Rattle.graph.specs.Edges.{normal_edges}
+use Rattle.builder.specs.Cursor.{cursor_at}
+use Rattle.builder.specs.declared.cursor.Cursor.{Cursor}
+use Rattle.builder.specs.declared.cursor.Visit.{Visit}
+use Rattle.builder.proofs.CountLaws.{normal_next, normal_fits}
+use native.Mathlib.Omega.{arith}
+use borrow.Author.Rules.{rules}
+use Rattle.builder.proofs.edge_count.normal_count.Goals as goal
+
+pub loop-p-init : goal.loop-p-init
+unfolding flat
+loop-p-init c = (search rules, c.cursor_start-c.ensures _, refl)
+
+pub visit_at-visit-requires : goal.visit_at-visit-requires
+visit_at-visit-requires c = let m = image_in c.args.s.now c.args.y in
+    let at = ap (λ (x : Cursor). x.at) c.loop-p.invariant.1 in
+    (c.requires.0, c.loop-p.invariant.1 ∙ ap (cursor_at m) (sym at), omega arith, search rules)
+
+pub is_terminator-requires : goal.is_terminator-requires
+is_terminator-requires c = omega (arith, length-records instruction_from c.args.s.now c.args.y.code.instructions, c.requires.0.accepted.instructions_most)
+
+pub end_count-edges-requires : goal.end_count-edges-requires
+end_count-edges-requires c = let m = image_in c.args.s.now c.args.y in
+    let at = ap (λ (x : Cursor). x.at) c.loop-p.invariant.1 in
+    let size_is = length-records instruction_from c.args.s.now c.args.y.code.instructions in
+    record { sourced = (c.requires.0, c.requires.2, search rules); c_value = (c.loop-p.invariant.1 ∙ ap (cursor_at m) (sym at), omega arith, ap (λ (x : Visit). x.instruction) c.visit_at-visit.ensures) }
+
+pub overflow_add-edges : goal.overflow_add-edges
+overflow_add-edges c = let m = image_in c.args.s.now c.args.y in
+    let here = c.loop-p-test.true in
+    let size_is = length-records instruction_from c.args.s.now c.args.y.code.instructions in
+    omega
+    (arith, normal_next m c.args.marks.now c.loop-p.p _ _ _ _ _ c.requires.1 here (sym size_is) (ap (λ (x : Cursor). x.at) c.loop-p.invariant.1) c.loop-p.invariant.2 c.is_terminator.ensures c.end_count-edges.ensures, normal_fits m c.requires.0 c.loop-p.p (omega arith))
+
+pub overflow_step-p : goal.overflow_step-p
+overflow_step-p c = omega (arith, length-records instruction_from c.args.s.now c.args.y.code.instructions, c.requires.0.accepted.instructions_most)
+
+pub loop-p-preserved : goal.loop-p-preserved
+loop-p-preserved c = let m = image_in c.args.s.now c.args.y in
+    let at = ap (λ (x : Cursor). x.at) c.loop-p.invariant.1 in
+    let size_is = length-records instruction_from c.args.s.now c.args.y.code.instructions in (
+      search rules,
+      ap (λ (x : Visit). x.next) c.visit_at-visit.ensures ∙ ap (λ (i : ℕ). cursor_at m (i + 1)) at,
+      normal_next m c.args.marks.now c.loop-p.p _ _ _ _ _ c.requires.1 c.loop-p-test.true (sym size_is) at c.loop-p.invariant.2 c.is_terminator.ensures c.end_count-edges.ensures,
+    )
+
+pub returns : goal.returns
+unfolding normal_edges
+returns c = let all : c.loop-p.p ≡ size (image_in c.args.s.now c.args.y) = omega (arith, length-records instruction_from c.args.s.now c.args.y.code.instructions) in
+    rw (← all) c.loop-p.invariant.2

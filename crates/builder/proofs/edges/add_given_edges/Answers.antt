@@ -1,0 +1,51 @@
+use mathlib.Core.Path.{◌≡◌}
+use mathlib.Core.List.{[], ◌∷◌}
+use Prim.Native.Nat.{◌-◌, ◌<◌}
+use lib.ListN.{length}
+use Rattle.image.specs.Record.{edge_from}
+use Rattle.image.specs.Image.{image_in}
+use Rattle.image.proofs.Tables.{length-records}
+use Rattle.graph.specs.Fold.{flat}
+use Rattle.graph.specs.Transfer.{given_at, given}
+use Rattle.graph.specs.Edges.{given_edge}
+use Rattle.graph.proofs.AddingLaws.{added_none, edges_more}
+use Rattle.graph.proofs.BuiltChecks.{given_starts}
+use Rattle.builder.proofs.EdgeLaws.{given_next, given_inside, given_fits, given_edges}
+use native.Mathlib.Omega.{arith}
+use borrow.Author.Rules.{rules}
+use Rattle.builder.proofs.edges.add_given_edges.Goals as goal
+
+pub loop-k-init : goal.loop-k-init
+unfolding flat
+loop-k-init c = (search rules, added_none _)
+
+pub overflow_add-first : goal.overflow_add-first
+overflow_add-first c = omega (arith, given_fits (image_in c.args.s.now c.args.y) c.requires.emitting.sourced c.args.c c.requires.c_value.0 c.requires.c_value.1 c.requires.at_value.0)
+
+pub add_given-requires : goal.add_given-requires
+add_given-requires c = let m = image_in c.args.s.now c.args.y in
+    let k = c.loop-k.k in
+    let h : k < length (given_at m c.args.c.at) = omega arith in record {
+      emitting = c.requires.emitting;
+      p_bound = (
+        c.requires.c_value.1,
+        rw (given_next m c.requires.emitting.sourced c.args.c c.requires.c_value.0 c.requires.c_value.1 c.requires.at_value.0 k h)
+            (given_starts m c.requires.emitting.given c.args.c.at c.requires.c_value.1 c.requires.at_value.0 k h),
+        search rules,
+        omega (arith, h, given_inside m c.requires.emitting.sourced c.args.c c.requires.c_value.0 c.requires.c_value.1 c.requires.at_value.0, length-records edge_from c.args.s.now c.args.y.code.edges),
+      );
+    }
+
+pub loop-k-preserved : goal.loop-k-preserved
+loop-k-preserved c = let m = image_in c.args.s.now c.args.y in
+    let k = c.loop-k.k in
+    let h : k < length (given_at m c.args.c.at) = omega arith in (
+      search rules,
+      edges_more (λ i. given_edge m c.args.c.at (given m c.args.c.at i) ∷ []) k c.loop-k.invariant.1
+          (rw (given_next m c.requires.emitting.sourced c.args.c c.requires.c_value.0 c.requires.c_value.1 c.requires.at_value.0 k h) at c.add_given.ensures),
+    )
+
+pub returns : goal.returns
+returns c = let m = image_in c.args.s.now c.args.y in
+    let all : c.loop-k.k ≡ length (given_at m c.args.c.at) = omega arith in
+    rw (given_edges m c.args.c.at c.requires.at_value.0, ← all) c.loop-k.invariant.1

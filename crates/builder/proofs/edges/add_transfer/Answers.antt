@@ -1,0 +1,30 @@
+-- The edge to the block that was found, or the record. Assumes nothing.
+use mathlib.Core.Path.{refl}
+use Rattle.image.specs.Image.{image_in}
+use Rattle.graph.proofs.AddingLaws.{edge_added}
+use Rattle.builder.specs.Slots.{transfer_in}
+use Rattle.builder.proofs.EdgeLaws.{edge_found, edge_none, unresolved_of_law, unresolved_none}
+use native.Mathlib.Omega.{arith}
+use borrow.Author.Rules.{rules}
+use Rattle.builder.proofs.edges.add_transfer.Goals as goal
+
+pub resolve-requires : goal.resolve-requires
+resolve-requires c = (c.requires.emitting.sourced.rising, search rules)
+
+pub block_of-requires-in-At : goal.block_of-requires-in-At
+block_of-requires-in-At c = let m = image_in c.args.s.now c.args.y in
+    let r = rw c.in-At.is at (c.resolve.ensures m refl) in
+    omega (arith, r.2, c.requires.emitting.room)
+
+pub returns-in-At : goal.returns-in-At
+returns-in-At c = let m = image_in c.args.s.now c.args.y in
+    let x = transfer_in c.args.x in
+    let r = rw c.in-At.is at (c.resolve.ensures m refl) in
+    rw (unresolved_none m x c.args.p r.0, edge_found m x c.args.p c.args.blocks.now _ c.args.source _ _ _ c.requires.emitting c.requires.p_bound.0 r c.requires.p_bound.1 c.block_of.ensures c.block_of-in-At.ensures c.edge_between.ensures)
+    (edge_added _ c.add_edge.ensures)
+
+pub returns-in-Nothing : goal.returns-in-Nothing
+returns-in-Nothing c = let m = image_in c.args.s.now c.args.y in
+    let x = transfer_in c.args.x in
+    let r = rw c.in-Nothing.is at (c.resolve.ensures m refl) in
+    rw (edge_none m x c.args.p r, unresolved_of_law m x c.args.p r, ← c.requires.p_bound.1) c.report.ensures

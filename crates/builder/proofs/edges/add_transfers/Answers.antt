@@ -1,0 +1,49 @@
+use mathlib.Core.Path.{◌≡◌, ap}
+use Prim.Native.Nat.{◌-◌}
+use Rattle.image.specs.Image.{image_in}
+use Rattle.image.specs.declared.record.Instruction.{Instruction}
+use Rattle.graph.specs.Fold.{flat}
+use Rattle.graph.specs.Flow.{Slot}
+use Rattle.graph.specs.Transfer.{transfer_at}
+use Rattle.graph.specs.Edges.{transfer_edges, transfer_unresolved}
+use Rattle.graph.proofs.AddingLaws.{added_none, flow_more}
+use Rattle.builder.proofs.EdgeLaws.{case_fits, flow_most, end_most, end_all}
+use native.Mathlib.Numerals.{add-one}
+use native.Mathlib.Omega.{arith}
+use borrow.Author.Rules.{rules}
+use Rattle.builder.proofs.edges.add_transfers.Goals as goal
+
+pub slots_of-slots-requires : goal.slots_of-slots-requires
+slots_of-slots-requires c = flow_most (image_in c.args.s.now c.args.y) c.args.c.at c.args.i c.requires.c_value.2 _ c.flow_under-flow.ensures c.requires.emitting.sourced.accepted
+
+pub slot_end-n-requires : goal.slot_end-n-requires
+slot_end-n-requires c = omega (arith, case_fits (image_in c.args.s.now c.args.y) c.requires.emitting.sourced c.args.c c.requires.c_value.0 c.requires.c_value.1, ap (λ (x : Instruction). x.cases) c.requires.c_value.2)
+
+pub loop-k-init : goal.loop-k-init
+unfolding flat
+loop-k-init c = (search rules, ap (λ (x : Slot × Slot). x.0) c.slots_of-slots.ensures, added_none _)
+
+pub transfer_of-x-requires : goal.transfer_of-x-requires
+transfer_of-x-requires c = let q = c.requires.c_value in
+    let flow = c.flow_under-flow.ensures in
+    let most = end_most (image_in c.args.s.now c.args.y) c.args.c.at c.args.i q.2 _ flow _ c.slots_of-slots.ensures _ c.slot_end-n.ensures c.requires.emitting.sourced q.1 in
+    record { sourced = (c.requires.emitting.sourced, q.0, q.1, q.2, search rules); flow_value = (flow, c.loop-k.invariant.1, omega (arith, most, c.loop-k-test.true)) }
+
+pub add_transfer-requires : goal.add_transfer-requires
+add_transfer-requires c = record { emitting = c.requires.emitting; p_bound = (c.requires.c_value.1, ap (λ (x : Instruction). x.address) c.requires.c_value.2, search rules) }
+
+pub loop-k-preserved : goal.loop-k-preserved
+loop-k-preserved c = let m = image_in c.args.s.now c.args.y in
+    let p = c.args.c.at in (
+      search rules,
+      rw (add-one c.loop-k.k) (ap (λ (x : Slot × Slot). x.1) c.slots_of-slots.ensures),
+      flow_more (λ i. transfer_edges m p (transfer_at m p i)) (λ i. transfer_unresolved m p (transfer_at m p i)) c.loop-k.k c.loop-k.invariant.2
+          (rw c.transfer_of-x.ensures at c.add_transfer.ensures),
+    )
+
+pub returns : goal.returns
+returns c = let m = image_in c.args.s.now c.args.y in
+    let p = c.args.c.at in
+    let all = end_all m p c.args.i c.requires.c_value.2 _ c.flow_under-flow.ensures _ c.slots_of-slots.ensures _ c.slot_end-n.ensures c.requires.emitting.sourced c.requires.c_value.1 in
+    let last : c.loop-k.k ≡ c.slot_end-n.result = omega arith in
+    rw (← all.0, ← all.1, ← last) c.loop-k.invariant.2

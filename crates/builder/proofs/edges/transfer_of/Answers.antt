@@ -1,0 +1,44 @@
+-- A case of a Switch, the first slot, or the second one. Assumes nothing.
+use mathlib.Core.Path.{◌≡◌, refl, sym, ap, ◌∙◌}
+use mathlib.Core.Logic.{⊎_elim}
+use Prim.Native.Nat.{suc, ◌-◌, ◌<◌}
+use Rattle.image.specs.Record.{case_from}
+use Rattle.image.specs.Image.{image_in}
+use Rattle.image.specs.declared.record.Case.{Case}
+use Rattle.image.proofs.Tables.{length-records}
+use Rattle.graph.specs.Flow.{slots_of}
+use Rattle.graph.specs.Transfer.{instruction_at, slot_transfer, case_transfer, transfer_at}
+use Rattle.builder.proofs.CursorLaws.{cases_length}
+use Rattle.builder.proofs.EdgeLaws.{case_next, case_inside, case_fits, case_is_slot, switch_count, two_count, flow_is, first_is, second_is}
+use native.Mathlib.Omega.{arith}
+use borrow.Author.Rules.{rules}
+use Rattle.builder.proofs.edges.transfer_of.Goals as goal
+
+pub overflow_add-c : goal.overflow_add-c
+overflow_add-c c = let m = image_in c.args.s.now c.args.y in
+    let switch = sym (flow_is m c.args.c.at c.args.i c.requires.sourced.3 _ c.requires.flow_value.0) ∙ c.if-flow-eq-SWITCH.true in
+    omega (arith, c.requires.flow_value.2, switch_count m c.args.c.at switch, cases_length m c.requires.sourced.0 c.args.c.at c.requires.sourced.2, case_fits m c.requires.sourced.0 c.args.c c.requires.sourced.1 c.requires.sourced.2)
+
+pub case_in-case-requires : goal.case_in-case-requires
+case_in-case-requires c = let m = image_in c.args.s.now c.args.y in
+    let switch = sym (flow_is m c.args.c.at c.args.i c.requires.sourced.3 _ c.requires.flow_value.0) ∙ c.if-flow-eq-SWITCH.true in
+    (search rules, omega (arith, c.if-k-gt0.true, c.requires.flow_value.2, switch_count m c.args.c.at switch, cases_length m c.requires.sourced.0 c.args.c.at c.requires.sourced.2, case_inside m c.requires.sourced.0 c.args.c c.requires.sourced.1 c.requires.sourced.2, length-records case_from c.args.s.now c.args.y.code.cases))
+
+pub returns-then-flow-eq-SWITCH : goal.returns-then-flow-eq-SWITCH
+returns-then-flow-eq-SWITCH c = let m = image_in c.args.s.now c.args.y in
+    let q = c.args.c.at in
+    let switch = sym (flow_is m q c.args.i c.requires.sourced.3 _ c.requires.flow_value.0) ∙ c.if-flow-eq-SWITCH.true in
+    let h : c.args.k - 1 < (instruction_at m q).cases = omega (arith, c.if-k-gt0.true, c.requires.flow_value.2, switch_count m q switch, cases_length m c.requires.sourced.0 q c.requires.sourced.2) in
+    let k_is : suc (c.args.k - 1) ≡ c.args.k = omega (arith, c.if-k-gt0.true) in
+    c.case_transfer.ensures
+    ∙ ap (λ (x : Case). case_transfer x (c.args.k - 1)) (c.case_in-case.ensures ∙ case_next m c.requires.sourced.0 c.args.c c.requires.sourced.1 c.requires.sourced.2 (c.args.k - 1) h)
+    ∙ case_is_slot m q switch (c.args.k - 1)
+    ∙ ap (transfer_at m q) k_is
+
+pub returns : goal.returns
+returns c = let m = image_in c.args.s.now c.args.y in
+    let q = c.args.c.at in
+    ⊎_elim (λ v. let other = rw (flow_is m q c.args.i c.requires.sourced.3 _ c.requires.flow_value.0) at v.if-flow-eq-SWITCH.false in
+    let k_is : c.args.k ≡ 1 = omega (arith, v.if-k-gt0.true, c.requires.flow_value.2, two_count m q other) in
+    rw k_is (second_is m q c.args.i c.requires.sourced.3 _ c.requires.flow_value.0 _ (slots_of c.args.flow) refl v.if-flow-eq-SWITCH.false (c.slot_transfer.ensures ∙ ap (slot_transfer c.args.i) (rw k_is at c.requires.flow_value.1)))) (λ v. let k_is : c.args.k ≡ 0 = omega (arith, v.if-k-gt0.false) in
+    rw k_is (first_is m q c.args.i c.requires.sourced.3 _ c.requires.flow_value.0 _ (slots_of c.args.flow) refl (c.slot_transfer.ensures ∙ ap (slot_transfer c.args.i) (rw k_is at c.requires.flow_value.1)))) c.if-k-gt0.branch-raw

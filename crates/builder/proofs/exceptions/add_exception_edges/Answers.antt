@@ -1,0 +1,39 @@
+use mathlib.Core.Path.{◌≡◌}
+use Prim.Native.Nat.{◌-◌}
+use lib.ListN.{length}
+use Rattle.image.specs.Record.{handler_from}
+use Rattle.image.specs.Image.{image_in}
+use Rattle.image.proofs.Tables.{length-records}
+use Rattle.graph.specs.Fold.{flat}
+use Rattle.graph.specs.Build.{handler_check}
+use Rattle.graph.proofs.CheckLaws.{checks_at}
+use Rattle.graph.proofs.AddingLaws.{added_none, edges_more}
+use Rattle.builder.specs.Emit.{handler_edges}
+use Rattle.builder.proofs.ExceptionLaws.{other_modes, handlers_edges}
+use native.Mathlib.Omega.{arith}
+use borrow.Author.Rules.{rules}
+use Rattle.builder.proofs.exceptions.add_exception_edges.Goals as goal
+
+pub returns-then-y-ne0 : goal.returns-then-y-ne0
+returns-then-y-ne0 c = rw (other_modes (image_in c.args.s.now c.args.y) c.if-y-ne0.true) (added_none _)
+
+pub overflow_cast-n : goal.overflow_cast-n
+overflow_cast-n c = omega (arith, c.requires.0.few, length-records handler_from c.args.s.now c.args.y.code.handlers)
+
+pub loop-h-init : goal.loop-h-init
+unfolding flat
+loop-h-init c = (search rules, omega (arith, c.requires.0.few, length-records handler_from c.args.s.now c.args.y.code.handlers), added_none _)
+
+pub add_handler_edges-requires : goal.add_handler_edges-requires
+add_handler_edges-requires c = let m = image_in c.args.s.now c.args.y in
+    let size = length-records handler_from c.args.s.now c.args.y.code.handlers in
+    record { handled = (c.requires.0, c.requires.1, search rules, search rules); h_value = checks_at (handler_check m) (length m.handlers) c.loop-h.h c.requires.0.passed (omega arith) }
+
+pub loop-h-preserved : goal.loop-h-preserved
+loop-h-preserved c = let m = image_in c.args.s.now c.args.y in
+    (search rules, search rules, edges_more (λ k. handler_edges m k) c.loop-h.h c.loop-h.invariant.2 c.add_handler_edges.ensures)
+
+pub returns : goal.returns
+returns c = let m = image_in c.args.s.now c.args.y in
+    let all : c.loop-h.h ≡ length m.handlers = omega (arith, length-records handler_from c.args.s.now c.args.y.code.handlers) in
+    rw (handlers_edges m c.if-y-ne0.false, ← all) c.loop-h.invariant.2

@@ -1,0 +1,52 @@
+use mathlib.Core.Path.{◌≡◌, sym, ap, ◌∙◌}
+use Prim.Native.Nat.{◌-◌}
+use Rattle.image.specs.Image.{image_in}
+use Rattle.graph.specs.Fold.{flat}
+use Rattle.graph.specs.Transfer.{table_of, Transfer}
+use Rattle.graph.specs.Blocks.{block_at}
+use Rattle.graph.specs.Edges.{unwind_edges}
+use Rattle.graph.proofs.TableLaws.{length-entries}
+use Rattle.graph.proofs.AddingLaws.{added_none}
+use Rattle.graph.proofs.BuiltRegions.{entry_clear}
+use Rattle.builder.proofs.RegionLaws.{range_passes}
+use Rattle.builder.proofs.RangedLaws.{has_positions}
+use Rattle.builder.proofs.ExceptionLaws.{entry_resolved, unwind_is, range_first_law, range_size_law, edges_from}
+use native.Mathlib.Omega.{arith}
+use borrow.Author.Rules.{rules}
+use Rattle.builder.proofs.exceptions.add_handler_edges.Goals as goal
+
+pub returns-in_default : goal.returns-in_default
+returns-in_default c = let m = image_in c.args.s.now c.args.y in
+    absurd (has_positions (table_of m) _ _ (range_passes m c.args.h c.requires.h_value _ c.handler-own.ensures) c.range_check-range.result c.range_check-range.ensures c.in_default.not-Positions)
+
+pub block_at-to-requires : goal.block_at-to-requires
+block_at-to-requires c = (c.requires.handled.0.numbered, rw c.handler-own.ensures (entry_clear (image_in c.args.s.now c.args.y) c.args.h c.requires.h_value), search rules)
+
+pub loop-p-init : goal.loop-p-init
+unfolding flat
+loop-p-init c = let range = rw c.in-Positions.is at c.range_check-range.ensures in
+    let first = c.in-Positions.first in
+    let none : first - first ≡ 0 = omega arith in
+    (omega arith, omega arith, rw none (added_none _))
+
+pub add_if_kept-requires : goal.add_if_kept-requires
+add_if_kept-requires c = let m = image_in c.args.s.now c.args.y in
+    let range = rw c.in-Positions.is at c.range_check-range.ensures in
+    let size = length-entries m.instructions in record { numbered = (c.requires.handled.0.numbered, omega arith, search rules); x_value = (entry_resolved m c.args.h c.handler-own.result c.handler-own.ensures _ c.unwind_transfer-x.ensures c.requires.h_value, c.block_at-to.ensures ∙ ap (λ (x : Transfer). block_at m x.target) (sym c.unwind_transfer-x.ensures)) }
+
+pub loop-p-preserved : goal.loop-p-preserved
+loop-p-preserved c = let m = image_in c.args.s.now c.args.y in (
+  search rules,
+  search rules,
+  edges_from (unwind_edges m c.args.h) _ c.loop-p.p c.loop-p.invariant.0 c.loop-p.invariant.2
+      (rw (unwind_is m c.args.h c.handler-own.result c.handler-own.ensures _ c.unwind_transfer-x.ensures c.loop-p.p) at c.add_if_kept.ensures),
+)
+
+pub returns : goal.returns
+returns c = let m = image_in c.args.s.now c.args.y in
+    let range = rw c.in-Positions.is at c.range_check-range.ensures in
+    let all : c.loop-p.p ≡ c.in-Positions.past = omega arith in
+    rw (← range_size_law m c.args.h c.handler-own.result c.handler-own.ensures _ _ range, ← range_first_law m c.args.h c.handler-own.result c.handler-own.ensures _ _ range) (rw all at c.loop-p.invariant.2)
+
+pub enum_known-range : goal.enum_known-range
+enum_known-range c = c.in-Positions.in-Positions-own.keys1

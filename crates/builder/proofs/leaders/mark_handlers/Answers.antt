@@ -1,0 +1,31 @@
+use mathlib.Core.Path.{◌≡◌}
+use Prim.Native.Nat.{◌-◌}
+use lib.ListN.{length}
+use Rattle.image.specs.Image.{image_in}
+use Rattle.image.specs.Record.{handler_from}
+use Rattle.image.proofs.Tables.{length-records}
+use Rattle.graph.specs.Leaders.{protect_mark, handler_mark}
+use Rattle.builder.proofs.MarkLaws.{marks_none, marks_more}
+use native.Mathlib.Omega.{arith}
+use borrow.Author.Rules.{rules}
+use Rattle.builder.proofs.leaders.mark_handlers.Goals as goal
+
+pub overflow_cast-n : goal.overflow_cast-n
+overflow_cast-n c = omega (arith, c.struct_known-1.given)
+
+pub loop-h-init : goal.loop-h-init
+loop-h-init c = (search rules, marks_none (protect_mark (image_in _ _)))
+
+pub mark_handler-requires : goal.mark_handler-requires
+mark_handler-requires c = (c.requires.0, c.requires.1, search rules, search rules)
+
+pub overflow_step-h : goal.overflow_step-h
+overflow_step-h c = omega (arith, c.struct_known-1)
+
+pub loop-h-preserved : goal.loop-h-preserved
+loop-h-preserved c = (search rules, marks_more (protect_mark (image_in _ _)) c.loop-h.h c.loop-h.invariant.1 c.mark_handler.ensures)
+
+pub returns : goal.returns
+unfolding handler_mark
+returns c = let all : c.loop-h.h ≡ length (image_in c.args.s.now c.args.y).handlers = omega (arith, length-records handler_from c.args.s.now c.args.y.code.handlers) in
+    rw all at c.loop-h.invariant.1

@@ -1,0 +1,42 @@
+use mathlib.Core.Path.{◌≡◌}
+use Prim.Native.Nat.{◌-◌}
+use lib.ListN.{length}
+use Rattle.image.specs.Record.{handler_from}
+use Rattle.image.specs.Image.{table, image_in}
+use Rattle.image.proofs.Tables.{length-records}
+use Rattle.graph.specs.Words.{held_in}
+use Rattle.graph.specs.Stored.{with_handler}
+use Rattle.graph.specs.Build.{handler_check}
+use Rattle.graph.specs.Regions.{handler_record, handlers_of}
+use Rattle.graph.proofs.CheckLaws.{checks_at}
+use Rattle.graph.proofs.StoredLaws.{stored_onto}
+use Rattle.builder.proofs.RegionLaws.{handlers_none, handlers_more}
+use native.Mathlib.Omega.{arith}
+use borrow.Author.Rules.{rules}
+use Rattle.builder.proofs.regions.store_handlers.Goals as goal
+
+pub overflow_cast-n : goal.overflow_cast-n
+overflow_cast-n c = omega (arith, length-records handler_from c.args.s.now c.args.y.code.handlers)
+
+pub loop-h-init : goal.loop-h-init
+unfolding table
+loop-h-init c = (search rules, omega (arith, length-records handler_from c.args.s.now c.args.y.code.handlers), handlers_none _ c.requires.whole.0 c.requires.whole.1)
+
+pub handler_record-requires : goal.handler_record-requires
+handler_record-requires c = let m = image_in c.args.s.now c.args.y in
+    let size = length-records handler_from c.args.s.now c.args.y.code.handlers in
+    let few = c.requires.handled.few in
+    record { numbered = (c.requires.handled.numbered, checks_at (handler_check m) (length m.handlers) c.loop-h.h c.requires.handled.passed (omega arith), omega arith, search rules, search rules); extents = (c.requires.extents.0, c.requires.extents.1) }
+
+pub loop-h-preserved : goal.loop-h-preserved
+loop-h-preserved c = (
+  search rules,
+  search rules,
+  stored_onto (λ h. with_handler h c.handler_record.result) c.loop-h.invariant.2 c.add_handler.ensures
+      (handlers_more (held_in c.args.g.now).graph (handler_record (image_in c.args.s.now c.args.y)) c.loop-h.h _ (omega arith) c.handler_record.ensures),
+)
+
+pub returns : goal.returns
+unfolding handlers_of
+returns c = let all : c.loop-h.h ≡ length (image_in c.args.s.now c.args.y).handlers = omega (arith, length-records handler_from c.args.s.now c.args.y.code.handlers) in
+    rw all at c.loop-h.invariant.2
