@@ -21,6 +21,7 @@ pub longest_short : (ps : List UnwindPath) (p : UnwindPath) → p ∈ ps → len
 unfolding longest
 longest_short (q ∷ ps) p (Memᴰ.head e) = rw e (omega arith)
 longest_short (q ∷ ps) p (Memᴰ.tail m) = omega (arith, longest_short ps p m)
+longest_short [] p x' = elim x' [ ]
 
 pub longest_least : (n : ℕ) (ps : List UnwindPath) → ((p : UnwindPath) → p ∈ ps → length p.steps ≤ n) → longest ps ≤ n
 unfolding longest
