@@ -1,0 +1,11 @@
+-- `built_line` meets its contract: one field behind the other. Assumes nothing.
+use native.Mathlib.Omega.{arith}
+use Rattle.text.specs.Line.{bytes, line}
+use Rattle.text.specs.Chart.{built_line}
+use Rattle.text.proofs.PutLaws.{◌then◌, told}
+use Rattle.text.proofs.lines.built_line.Goals as goal
+
+pub returns : goal.returns
+unfolding bytes line built_line
+returns c = rw (← c.block_count-blocks.ensures, ← c.edge_count-edges.ensures, ← c.region_count-regions.ensures, ← c.unresolved_count-unresolved.ensures, ← c.call_count-calls.ensures)
+    (told (c.put_word-at.ensures then c.put_field-at.ensures.0 then c.put_field-at-2.ensures.0 then c.put_field-at-3.ensures.0 then c.put_field-at-4.ensures.0 then c.put_field-at-5.ensures.0 then c.put_end.ensures) (omega (arith, c, c)))

@@ -1,0 +1,11 @@
+-- `region_line` meets its contract: one field behind the other. Assumes nothing.
+use native.Mathlib.Omega.{arith}
+use Rattle.text.specs.Line.{bytes, line}
+use Rattle.text.specs.Chart.{region_line}
+use Rattle.text.proofs.PutLaws.{◌then◌, told}
+use Rattle.text.proofs.lines.region_line.Goals as goal
+
+pub returns : goal.returns
+unfolding bytes line region_line
+returns c = rw (← c.region_at-r.ensures, ← c.present_if-parent.ensures)
+    (told (c.put_word-at.ensures then c.put_field-at.ensures.0 then c.put_field-at-2.ensures.0 then c.put_field-at-3.ensures.0 then c.put_field-at-4.ensures.0 then c.put_end.ensures) (omega (arith, c)))

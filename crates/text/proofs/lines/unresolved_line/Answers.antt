@@ -1,0 +1,11 @@
+-- `unresolved_line` meets its contract: one field behind the other. Assumes nothing.
+use native.Mathlib.Omega.{arith}
+use Rattle.text.specs.Line.{bytes, line}
+use Rattle.text.specs.Chart.{unresolved_line}
+use Rattle.text.proofs.PutLaws.{◌then◌, told}
+use Rattle.text.proofs.lines.unresolved_line.Goals as goal
+
+pub returns : goal.returns
+unfolding bytes line unresolved_line
+returns c = rw (← c.unresolved_at-u.ensures, ← c.is_computed.ensures, ← c.present_if-target.ensures, ← c.present_if-case_index.ensures)
+    (told (c.put_word-at.ensures then c.put_field-at.ensures.0 then c.put_field-at-2.ensures.0 then c.put_field-at-3.ensures.0 then c.put_field-at-4.ensures.0 then c.put_end.ensures) (omega (arith, c)))
