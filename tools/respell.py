@@ -19,6 +19,7 @@ import sys
 # some declarations and not others
 TOGETHER = {
     "first-edge": "first_edge", "first-end": "first_end",
+    "not-given": "not_given", "not-routed": "not_routed", "entries-set": "entries_set", "part-put": "part_put",  # fields
     "edges-in": "edges_within", "ends-in": "ends_within", "ways-in": "ways_within",  # `edges_in` is a definition
 }
 # lemmas and names of proofs that a definition's new name meets, by file: these give way
@@ -34,6 +35,7 @@ FILES = {
     "graph/proofs/rule/covers_table/Proof.antt": {"in_place": "in_place_law"},
     "text/proofs/HopTextLaws.antt": {"told_at": "told_at_law"},
     "text/proofs/hops/hop_line/Proof.antt": {"told_at": "told_at_law"},
+    "unwind/proofs/FirstLaws.antt": {"some_Is_first": "some_first"},
     "unwind/proofs/LowerLaws.antt": {"branch_in": "branch_in_law"},
     "unwind/proofs/PoolLaws.antt": {"node_in": "node_in_law"},
     "unwind/proofs/emit/block/gather_returned/Proof.antt": {"node_in": "node_in_law"},
@@ -108,6 +110,10 @@ def main():
     defined, goals = {}, set()
     for path, text in texts.items():
         if not path.endswith(".antt"):
+            if path.endswith(".rt"):
+                for name in re.findall(r"^ghost use .* as ([a-z][^\s,}]*)", text, re.M):
+                    if wanted(name):
+                        defined.setdefault(name, path)
             continue
         for line in text.split("\n"):
             line = strip(line)
@@ -122,6 +128,9 @@ def main():
                 elif wanted(name):
                     defined.setdefault(name, path)
         for name in re.findall(r"[{;]\s*([^\s(){}\[\].,;:\"|]+)\s+:\s", text):  # fields of a record in one line
+            if wanted(name):
+                defined.setdefault(name, path)
+        for name in re.findall(r" as ([a-z][^\s,}]*)", text):  # a name that an import is given
             if wanted(name):
                 defined.setdefault(name, path)
         # parameters of modules

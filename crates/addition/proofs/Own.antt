@@ -28,9 +28,9 @@ use Rattle.graph.specs.Graph.{Graph, block}
 use Rattle.graph.specs.Fold.{flat, among, checks, check_each, sum}
 use Rattle.graph.specs.Table.{entry_at, is_start, below, range_check}
 use Rattle.graph.specs.Transfer.{table_of, size, address_at}
-use Rattle.graph.specs.Route.{route_at, resumes_late, entries, route_check as imageCheck}
+use Rattle.graph.specs.Route.{route_at, resumes_late, entries, route_check as image_check}
 use Rattle.graph.specs.Leaders.{entry_mark, sequence_mark, flow_mark, exceptional_mark, range_mark, handler_mark, routes, route_mark, is_leader}
-use Rattle.graph.specs.Blocks.{is_terminator, first_of as beginOf, block_end, blocks_of}
+use Rattle.graph.specs.Blocks.{is_terminator, first_of as begin_of, block_end, blocks_of}
 use Rattle.graph.specs.Build.{build_check, graph_from}
 use Rattle.graph.specs.WellFormed.{filled, is_built, Built}
 use Rattle.graph.proofs.FoldLaws.{decided, some_at}
@@ -72,14 +72,14 @@ module _ (m : Image) where
 
   -- they hold what stands before the block of p
   abbrev Before : ℕ → Type 0
-  Before p = (in_runs (ended p) ≡ beginOf m p) × (beginOf m p ≤ p)
+  Before p = (in_runs (ended p) ≡ begin_of m p) × (begin_of m p ≤ p)
 
   before_end : (p : ℕ) → is_terminator m p ≡ true → Before p → in_runs (ended (suc p)) ≡ suc p
   before_end p e so =
-      ap in_runs (ended_one m p e) ∙ omega (arith, so.0, so.1, runs_more (ended p) (record { first = beginOf m p; count = suc p - beginOf m p }))
+      ap in_runs (ended_one m p e) ∙ omega (arith, so.0, so.1, runs_more (ended p) (record { first = begin_of m p; count = suc p - begin_of m p }))
 
   before : (p : ℕ) → p < size m → Before p
-  unfolding flat beginOf sum
+  unfolding flat begin_of sum
   before zero h = (refl, omega arith)
   before (suc p) h =
       let so = before p (omega arith) in
@@ -120,14 +120,14 @@ module _ (m : Image) where
   unfolding is_leader
   route_leader p e = or_left _ (or_right (entry_mark m p || sequence_mark m p || flow_mark m p || exceptional_mark m p || handler_mark m p) e)
 
-  begin_led : (p : ℕ) → is_leader m p ≡ true → beginOf m p ≡ p
-  unfolding beginOf
+  begin_led : (p : ℕ) → is_leader m p ≡ true → begin_of m p ≡ p
+  unfolding begin_of
   begin_led zero e = refl
   begin_led (suc p) e = rw e
 
   -- the block of p ends, k instructions on at most
-  ends_later : (k p : ℕ) → suc (p + k) ≡ size m → (q : ℕ) × (q < size m) × (is_terminator m q ≡ true) × (beginOf m q ≡ beginOf m p)
-  unfolding beginOf
+  ends_later : (k p : ℕ) → suc (p + k) ≡ size m → (q : ℕ) × (q < size m) × (is_terminator m q ≡ true) × (begin_of m q ≡ begin_of m p)
+  unfolding begin_of
   ends_later zero p h = (p, omega arith, last_ends m p (omega arith), refl)
   ends_later (suc k) p h =
       ⊎_elim
@@ -139,7 +139,7 @@ module _ (m : Image) where
   unfolding graph_from
   block_led p h e =
       let r = ends_later (size m - 1 - p) p (omega arith) in
-      let x : Block = record { first = beginOf m r.0; count = suc r.0 - beginOf m r.0 } in
+      let x : Block = record { first = begin_of m r.0; count = suc r.0 - begin_of m r.0 } in
       let ends : x ∈ block_end m r.0 = rw r.2 (Memᴰ.head refl) in
       let stands : x ∈ blocks_of m = rw (all_blocks m (λ none. omega arith)) (mem_flat (λ q. block_end m q) (size m) r.0 r.1 ends) in
       let i = mem_at stands in
@@ -181,19 +181,19 @@ module _ (m : Image) (clears : build_check m ≡ clear) where
     abbrev own : UnwindRoute
     own = route_at (routes m) k
 
-    route_clear : imageCheck t (routes m) k ≡ clear
-    route_clear = checks_at (imageCheck t (routes m)) (length (routes m)) k passed.routed h
+    route_clear : image_check t (routes m) k ≡ clear
+    route_clear = checks_at (image_check t (routes m)) (length (routes m)) k passed.routed h
 
     -- 10 to 12 and 15
     abbrev ranged : Check
     ranged = range_check t own.start own.end then unless (not (resumes_late own)) (refusal 15 k 0)
 
     range_clear : ranged ≡ clear
-    unfolding imageCheck
+    unfolding image_check
     range_clear = then_left ranged _ route_clear
 
     pub entries_clear : check_each (λ a. unless (is_start t a) (refusal 14 a 0)) (entries own) ≡ clear
-    unfolding imageCheck
+    unfolding image_check
     entries_clear = then_right ranged _ route_clear
 
     start_starts : is_start t own.start ≡ true

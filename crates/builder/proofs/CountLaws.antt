@@ -154,7 +154,7 @@ module _ (m : Image) where
 pub none-given : (m : Image) → Accepted m → m.header.mode ≡ 0 → (length m.edges ≡ 0) × ((p : ℕ) → is_given m p ≡ false)
 unfolding is_given some total
 none-given m h mode =
-    let none : m.sources ≡ [] = h.not-given (omega arith) in
+    let none : m.sources ≡ [] = h.not_given (omega arith) in
     (sym (rw none at h.edges_add), λ p. rw none)
 
 module _ (m : Image) (h : Sourced m) (c : Cursor) (at : c ≡ cursor_at m c.at) (here : c.at < size m) (i : Instruction) (is : i ≡ instruction_at m c.at) where

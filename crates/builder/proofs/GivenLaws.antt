@@ -1,7 +1,7 @@
 -- The checks 5 and 7 to 9, as the code makes them.
 --     order_at                                    an instruction behind the first
 --     visit_within, visit_edges, visit_flow       one for which edges are given, and one that leads as its flow says
---     not-given                                   in the other modes nothing is refused
+--     not_given                                   in the other modes nothing is refused
 --     sourced                                     what 1 to 5 and 7 leave
 -- Assumes nothing.
 use mathlib.Core.Bool.{true, ◌||◌}
@@ -59,10 +59,10 @@ module _ (m : Image) (h : Sourced m) (p : ℕ) (hp : p < size m) (c : Cursor) (v
   unfolding given_check given_mode
   visit_flow mode e = rw (at, leads_flow m p (sym leads ∙ e), eq-eqb m.header.mode 2 mode)
 
-pub not-given : (m : Image) → Accepted m → (m.header.mode ≡ 2 → ⊥) → (n : ℕ) → checks (given_check m) n ≡ clear
+pub not_given : (m : Image) → Accepted m → (m.header.mode ≡ 2 → ⊥) → (n : ℕ) → checks (given_check m) n ≡ clear
 unfolding given_check given_mode is_given some
-not-given m h mode n =
-    let none : m.sources ≡ [] = h.not-given (omega (arith, h.modes)) in
+not_given m h mode n =
+    let none : m.sources ≡ [] = h.not_given (omega (arith, h.modes)) in
     checks_clear (given_check m) n (λ p hp. rw (none, ne_eqb m.header.mode 2 mode))
 
 pub sourced : (m : Image) → Accepted m → table_check (table_of m) ≡ clear → checks (source_check m) (length m.sources) ≡ clear → Sourced m

@@ -1,6 +1,6 @@
 // Why a build or an addition is refused: the Rust's `AddressBuildError` and what document 01 adds, by its numbers.
 ghost use Rattle.std.specs.Prelude.{◌≡◌};
-ghost use Rattle.image.specs.Verdict.{refusal_of as formRefusal};
+ghost use Rattle.image.specs.Verdict.{refusal_of as form_refusal};
 ghost use Rattle.graph.specs.Error.{refusal_of};
 
 use image::form::ImageError;
@@ -39,7 +39,7 @@ pub enum Checked {
 
 // 1 or 2 of a reader.
 pub fn form_error(e: ImageError) -> AddressBuildError
-    ensures { refusal_of result ≡ formRefusal e }
+    ensures { refusal_of result ≡ form_refusal e }
 {
     match e {
         ImageError::BadForm { offset } => AddressBuildError::BadForm { offset },

@@ -203,8 +203,8 @@ image_clear l h =
       flows = each instruction_from Instructions l 12 true Free instructions (λ i. i.flow) 12 (omega arith) (λ x first. instruction_clear l x);
       edge_kinds = each edge_from Edges l e given sum edges (λ i. i.kind) 7 (omega arith) (λ x first. edge_clear l x);
       handler_kinds = each handler_from Handlers l b true Free handlers (λ i. i.kind) 4 (omega arith) (λ x first. handler_clear l x);
-      not-given = λ lt. none source_from Sources l s given Free sources (ne_eqb mode 2 (λ same. omega arith));
-      not-routed = λ same. none route_from Routes l r used Free parents (ap not (eq-eqb mode 0 same));
+      not_given = λ lt. none source_from Sources l s given Free sources (ne_eqb mode 2 (λ same. omega arith));
+      not_routed = λ same. none route_from Routes l r used Free parents (ap not (eq-eqb mode 0 same));
       routed = routes_clear l r used routes;
     }
 

@@ -28,6 +28,6 @@ pub record Accepted (m : Image) : Type 0 where
   pub flows : (p : ℕ) → (get_or m.instructions p (instruction_from [] 0)).flow ≤ 12
   pub edge_kinds : (e : ℕ) → (get_or m.edges e (edge_from [] 0)).kind ≤ 7
   pub handler_kinds : (h : ℕ) → (get_or m.handlers h (handler_from [] 0)).kind ≤ 4
-  pub not-given : m.header.mode < 2 → m.sources ≡ []
-  pub not-routed : m.header.mode ≡ 0 → m.routes.routes ≡ []
+  pub not_given : m.header.mode < 2 → m.sources ≡ []
+  pub not_routed : m.header.mode ≡ 0 → m.routes.routes ≡ []
   pub routed : AcceptedRoutes m.routes

@@ -9,9 +9,9 @@ use Prim.Native.Nat.{ℕ}
 use lib.Dec.{eqb}
 use Rattle.image.specs.Little.{le1}
 use Rattle.graph.specs.Graph.{Graph, held}
-use Rattle.graph.specs.Build.{Outcome as Building, built, refused as notBuilt, build_from}
-use Rattle.addition.specs.Add.{Outcome as Adding, added, refused as notAdded, add_routes}
-use Rattle.text.specs.Chart.{refused_line, chart_lines, chart_of, added_chart, route_bytes, with_routes as chartWith, chart_from}
+use Rattle.graph.specs.Build.{Outcome as Building, built, refused as not_built, build_from}
+use Rattle.addition.specs.Add.{Outcome as Adding, added, refused as not_added, add_routes}
+use Rattle.text.specs.Chart.{refused_line, chart_lines, chart_of, added_chart, route_bytes, with_routes as chart_with, chart_from}
 use Rattle.sequence.specs.Sequences.{Outcome, whole, unrouted, refused, routed, with_routes, sequence_from}
 
 abbrev pub lines_of : Outcome → List (List ℕ)
@@ -24,12 +24,12 @@ module _ (l : List ℕ) where
   unfolding chart_of added_chart
   with_mode true g o = refl
   with_mode false g (added a) = refl
-  with_mode false g (notAdded r) = refl
+  with_mode false g (not_added r) = refl
 
-  with_routes_law : (x : Building) → lines_of (with_routes l x) ≡ chartWith l x
-  unfolding with_routes chartWith chart_of
+  with_routes_law : (x : Building) → lines_of (with_routes l x) ≡ chart_with l x
+  unfolding with_routes chart_with chart_of
   with_routes_law (built g) = with_mode (eqb (le1 l 1) 0) g (add_routes (held g) (route_bytes l))
-  with_routes_law (notBuilt r) = refl
+  with_routes_law (not_built r) = refl
 
   pub drawn : lines_of (sequence_from l) ≡ chart_from l
   unfolding sequence_from chart_from

@@ -26,14 +26,14 @@ use Rattle.graph.specs.Graph.{Graph, Held, held}
 use Rattle.graph.specs.Words.{section, held_in}
 use Rattle.graph.specs.Error.{refusal_of}
 use Rattle.graph.specs.Fold.{checks}
-use Rattle.graph.specs.Build.{Outcome as Building, built, refused as notBuilt, outcome, build_check, graph_from, build_of, build_read, build_from}
+use Rattle.graph.specs.Build.{Outcome as Building, built, refused as not_built, outcome, build_check, graph_from, build_of, build_read, build_from}
 use Rattle.graph.specs.WellFormed.{well_formed, Built}
 use Rattle.graph.specs.Answers.{Laid}
 use Rattle.graph.specs.declared.record.Block.{Block}
 use Rattle.graph.specs.declared.record.Edge.{Edge}
 use Rattle.graph.specs.declared.error.AddressBuildError.{AddressBuildError}
 use Rattle.graph.proofs.RecordLaws.{entry_count, block-count, edge_count, region-count, handler-count, unresolved_count, call_count}
-use Rattle.addition.specs.Add.{route_check, extended, Addition, addition, Outcome as Adding, added, refused as notAdded, add_routes_to, add_read, add_routes}
+use Rattle.addition.specs.Add.{route_check, extended, Addition, addition, Outcome as Adding, added, refused as not_added, add_routes_to, add_read, add_routes}
 use Rattle.addition.specs.Demand.{Conditions, Demand3}
 use Rattle.addition.proofs.Accepted.{accepted}
 use Rattle.addition.proofs.Own.{own_built, own_passed}
@@ -106,35 +106,35 @@ built_from l g e = go (read_image l) refl e
     go (refusing r) is e = absurd (let z : ◌≡◌ {A = ℕ} 0 1 = cc in omega arith)
 
 module _ (l : List ℕ) where
-  added_limits : (g : Graph) (r : Refusal) → built g ≡ build_from l → add_routes (held g) (route_bytes l) ≡ notAdded r → Limit r
+  added_limits : (g : Graph) (r : Refusal) → built g ≡ build_from l → add_routes (held g) (route_bytes l) ≡ not_added r → Limit r
   unfolding add_routes add_read held
   added_limits g r is e =
       let image = built_from l g is in
       let of_image = built_is image.0 g image.2 in
       own_limits image.0 of_image.0 r
-      (subst (λ (x : Graph). add_routes_to x (routes_of image.0.routes) ≡ notAdded r) of_image.1 (rw (build_passes l g is, routes_alone l image.0 image.1) at e))
+      (subst (λ (x : Graph). add_routes_to x (routes_of image.0.routes) ≡ not_added r) of_image.1 (rw (build_passes l g is, routes_alone l image.0 image.1) at e))
 
   pub unrouted_limits : (g : Graph) (r : Refusal) → unrouted g r ≡ sequence_from l → Limit r
   unfolding with_routes sequence_from
   unrouted_limits g r e = of_build (build_from l) refl e
     where
-      not_added : (b : Graph) (o : Adding) → unrouted g r ≡ routed b o → o ≡ notAdded r
-      not_added b (added a) e = absurd (let z : ◌≡◌ {A = ℕ} 0 1 = cc in omega arith)
-      not_added b (notAdded s) e = cc
+      not_added_law : (b : Graph) (o : Adding) → unrouted g r ≡ routed b o → o ≡ not_added r
+      not_added_law b (added a) e = absurd (let z : ◌≡◌ {A = ℕ} 0 1 = cc in omega arith)
+      not_added_law b (not_added s) e = cc
 
       of_mode : (b : Graph) → build_from l ≡ built b → (plain : Bool) → unrouted g r ≡ cond plain (whole (record { graph = b; hops = [] })) (routed b (add_routes (held b) (route_bytes l))) → Limit r
       of_mode b is true e = absurd (let z : ◌≡◌ {A = ℕ} 0 1 = cc in omega arith)
-      of_mode b is false e = added_limits b r (sym is) (not_added b (add_routes (held b) (route_bytes l)) e)
+      of_mode b is false e = added_limits b r (sym is) (not_added_law b (add_routes (held b) (route_bytes l)) e)
 
       of_build : (x : Building) → build_from l ≡ x → unrouted g r ≡ with_routes l x → Limit r
-      of_build (notBuilt s) is e = absurd (let z : ◌≡◌ {A = ℕ} 0 1 = cc in omega arith)
+      of_build (not_built s) is e = absurd (let z : ◌≡◌ {A = ℕ} 0 1 = cc in omega arith)
       of_build (built b) is e = of_mode b is (eqb (le1 l 1) 0) e
 
 -- ---- demand 3
 
 whole_added : (g : Graph) (a : Addition) (o : Adding) → whole a ≡ routed g o → o ≡ added a
 whole_added g a (added b) e = cc
-whole_added g a (notAdded r) e = absurd (let z : ◌≡◌ {A = ℕ} 0 1 = cc in omega arith)
+whole_added g a (not_added r) e = absurd (let z : ◌≡◌ {A = ℕ} 0 1 = cc in omega arith)
 
 module _ (l w h : List ℕ) (r : Sequence) where
   spelled : answer_of l w h r ≡ sequence_from l → (g : Graph) (m : RouteImage) → build_from l ≡ built g → (le1 l 1 ≡ 0 → ⊥) → read_routes (route_bytes l) ≡ read m → r ≡ Whole → Conditions g (routes_of m) → Demand3 (routes_of m) (addition_in m w h)
@@ -165,7 +165,7 @@ sequence_of Stored = Whole
 sequence_of (NotAdded e) = Unrouted e
 
 module _ (l : List ℕ) where
-  pub refused_gives : (u w h : List ℕ) (e : AddressBuildError) → notBuilt (refusal_of e) ≡ build_from l → w ≡ u → Gives l u w h h (Refused e)
+  pub refused_gives : (u w h : List ℕ) (e : AddressBuildError) → not_built (refusal_of e) ≡ build_from l → w ≡ u → Gives l u w h h (Refused e)
   unfolding with_routes sequence_from
   refused_gives u w h e is same = gives l w h (Refused e) (ap (with_routes l) is) (same, refl)
 

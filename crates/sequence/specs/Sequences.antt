@@ -8,11 +8,11 @@ use Rattle.image.specs.Deal.{routes_of}
 use Rattle.graph.specs.Graph.{Graph, held}
 use Rattle.graph.specs.Words.{held_in}
 use Rattle.graph.specs.Error.{refusal_of}
-use Rattle.graph.specs.Build.{Outcome as Building, built, refused as notBuilt, build_from}
+use Rattle.graph.specs.Build.{Outcome as Building, built, refused as not_built, build_from}
 use Rattle.graph.specs.WellFormed.{well_formed}
 use Rattle.graph.specs.Answers.{Laid}
 use Rattle.graph.specs.declared.error.AddressBuildError.{AddressBuildError}
-use Rattle.addition.specs.Add.{Addition, Outcome as Adding, added, refused as notAdded, add_routes}
+use Rattle.addition.specs.Add.{Addition, Outcome as Adding, added, refused as not_added, add_routes}
 use Rattle.addition.specs.Demand.{Conditions, Demand3}
 use Rattle.unwind.specs.HopWords.{HopsUnused}
 use Rattle.unwind.specs.Answers.{image_of, addition_in}
@@ -28,11 +28,11 @@ pub data Outcome : Type 0 where
 
 abbrev pub routed : Graph → Adding → Outcome
 routed g (added a) = whole a
-routed g (notAdded r) = unrouted g r
+routed g (not_added r) = unrouted g r
 
 -- 'in modes 1 and 2, adds the routes too'
 unfoldable pub with_routes : List ℕ → Building → Outcome
-with_routes l (notBuilt r) = refused r
+with_routes l (not_built r) = refused r
 with_routes l (built g) = cond (eqb (le1 l 1) 0) (whole (record { graph = g; hops = [] })) (routed g (add_routes (held g) (route_bytes l)))
 
 -- WHAT AN IMAGE GIVES

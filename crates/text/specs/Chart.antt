@@ -11,7 +11,7 @@ use Rattle.graph.specs.Build.{Outcome, built, refused, build_from}
 use Rattle.graph.specs.Reached.{reached_blocks}
 use Rattle.addition.specs.Lists.{joined}
 use Rattle.addition.specs.Ways.{HopEnd, Hop}
-use Rattle.addition.specs.Add.{Outcome as Adding, added, refused as notAdded, add_routes}
+use Rattle.addition.specs.Add.{Outcome as Adding, added, refused as not_added, add_routes}
 use Rattle.text.specs.declared.field.Field.{Field}
 use Rattle.text.specs.declared.field.Field.TheVariants.{Number, Leave, Absent}
 use Rattle.text.specs.Line.{bytes, present_if, line}
@@ -111,7 +111,7 @@ chart_of (refused r) = refused_line r ∷ []
 chart_of (built g) = chart_lines g []
 
 unfoldable pub added_chart : Adding → List (List ℕ)
-added_chart (notAdded r) = refused_line r ∷ []
+added_chart (not_added r) = refused_line r ∷ []
 added_chart (added a) = chart_lines a.graph a.hops
 
 -- 'Routes for a later call are the last three sections alone.'

@@ -80,7 +80,7 @@ module _ (g : Graph) (m : RouteImage) (nodes firsts : List ℕ) where
 
     -- ---- a node whose slot has a first
 
-    module _ (some_Is_first : v ≡ 0 → ⊥) where
+    module _ (some_first : v ≡ 0 → ⊥) where
       first_at : (v - 1 < i) × (slot_of g (funclet_at m nodes (v - 1)) ≡ s)
       first_at = f.first_is s (v - 1) slot_lt (omega (arith, v_is))
 

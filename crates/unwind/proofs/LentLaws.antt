@@ -34,7 +34,7 @@ use Rattle.addition.specs.Trie.{Node, node_at, tries}
 use Rattle.unwind.specs.Nodes.{branch_in, record_in, branches, path_record, edge_of, end_at, node_in, nodes_in}
 use Rattle.unwind.specs.Routed.{TriesIn}
 use Rattle.addition.specs.Instance.{blocks_of, later, base, place, entry_of}
-use Rattle.addition.specs.Ways.{block, end_at as hopEnd, ways}
+use Rattle.addition.specs.Ways.{block, end_at as hop_end, ways}
 use Rattle.unwind.specs.Sources.{Exit, exit, compare_exits, exits_at, exits_from, route_exits, node_exits, copy_exits, hops_on}
 use Rattle.unwind.specs.Entries.{end_in, exits_in}
 use Rattle.unwind.specs.Gather.{exit_to, edge_exits, end_number, end_exits, record_exits, Gathers, in_set, NodeThere, route_records, node_records, Pooled, Adds}
@@ -154,15 +154,15 @@ module _ (g : Graph) (m : RouteImage) (nodes edges ends roots heads landings gua
         λ x. record { leap = record { source = b; end = p x }; calls = (edge_of m e).calls }
 
     end_same : (k : ℕ) → k < c.ends → let e = branch_in ends k in
-        exit_to m b e (end_number b landings k) ≡ record { leap = record { source = b; end = hopEnd g (routes_of m) b (end_at m e).what }; calls = (end_at m e).calls }
-    unfolding end_at end_number landing hopEnd end_in
+        exit_to m b e (end_number b landings k) ≡ record { leap = record { source = b; end = hop_end g (routes_of m) b (end_at m e).what }; calls = (end_at m e).calls }
+    unfolding end_at end_number landing hop_end end_in
     end_same k h =
         let e = branch_in ends k in
-        let p : end_in (end_number b landings k) ≡ hopEnd g (routes_of m) b (end_of (path_record m e.what)) =
+        let p : end_in (end_number b landings k) ≡ hop_end g (routes_of m) b (end_of (path_record m e.what)) =
         ap (λ (l : ℕ). end_in (cond (eqb l 65534) b l)) (s.lands.land k h) ∙ go (end_of (path_record m e.what)) in
         λ x. record { leap = record { source = b; end = p x }; calls = (end_at m e).calls }
       where
-        go : (u : UnwindEnd) → end_in (cond (eqb (landing g u) 65534) b (landing g u)) ≡ hopEnd g (routes_of m) b u
+        go : (u : UnwindEnd) → end_in (cond (eqb (landing g u) 65534) b (landing g u)) ≡ hop_end g (routes_of m) b u
         go (handler a) = let low = s.blocks_few a in rw (ne_eqb (block_of g a) 65534 (λ e. omega arith)) (is_block (block_of g a) (omega arith))
         go propagate = refl
         go resume = is_block b few
@@ -172,7 +172,7 @@ module _ (g : Graph) (m : RouteImage) (nodes edges ends roots heads landings gua
     record_exits_law i h =
         let x = record_in nodes i in
         let on : Tagged ℕ → Exit = λ d. record { leap = record { source = b; end = block (entry_of g fs z d.what) }; calls = d.calls } in
-        let off : Tagged UnwindEnd → Exit = λ d. record { leap = record { source = b; end = hopEnd g (routes_of m) b d.what }; calls = d.calls } in
+        let off : Tagged UnwindEnd → Exit = λ d. record { leap = record { source = b; end = hop_end g (routes_of m) b d.what }; calls = d.calls } in
         let e : table (λ k. exit_to m b (branch_in edges (x.first_edge + k)) (get_or heads (branch_in edges (x.first_edge + k)).what 0)) x.edges ≡ map on (map (edge_of m) (branches edges x.first_edge x.edges)) =
         table_same _ (λ k. on (edge_of m (branch_in edges (x.first_edge + k)))) x.edges (λ k j. edge_same i k h j)
         ∙ sym (map-table on (λ k. edge_of m (branch_in edges (x.first_edge + k))) x.edges)

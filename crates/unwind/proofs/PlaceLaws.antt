@@ -173,13 +173,13 @@ pub sizes_kept : {i b e : ℕ} {w bases entries parts bases' entries' parts' : L
 sizes_kept {i} {b} {e} {bases = bases} {entries = entries} p =
     record {
       bases_long = ap length p.bases_set ∙ length-set bases i b;
-      entries_long = ap length p.entries-set ∙ length-set entries i e;
-      parts_long = p.part-put.long;
+      entries_long = ap length p.entries_set ∙ length-set entries i e;
+      parts_long = p.part_put.long;
     }
 
 entries-rest : {i b e : ℕ} {w bases entries parts bases' entries' parts' : List ℕ} → NodePlaced i b e w bases entries parts bases' entries' parts'
     → (j : ℕ) → i < j → get_or entries' j 0 ≡ get_or entries j 0
-entries-rest {i} {b} {e} {entries = entries} p j h = rw p.entries-set (get_or-set_other entries i j e 0 (λ same. omega arith))
+entries-rest {i} {b} {e} {entries = entries} p j h = rw p.entries_set (get_or-set_other entries i j e 0 (λ same. omega arith))
 
 module _ (g : Graph) (m : RouteImage) (nodes edges ends : List ℕ) (n : ℕ) where
   abbrev z : List Node
@@ -217,15 +217,15 @@ module _ (g : Graph) (m : RouteImage) (nodes edges ends : List ℕ) (n : ℕ) wh
               | no ne ↦ get_or-set_other bases i j b 0 ne ∙ old.base_is j (omega arith)
             ]);
         entry_is = λ j h.
-            rw p.entries-set
+            rw p.entries_set
             (elim (ℕ_discrete j i) [
               | yes same ↦ rw same (get_or-set_same entries i e 0 he ∙ is_e)
               | no ne ↦ get_or-set_other entries i j e 0 ne ∙ old.entry_is j (omega arith)
             ]);
         part_has = λ j h.
             elim (ℕ_discrete j i) [
-              | yes same ↦ rw (same, p.part-put.here) has-w
-              | no ne ↦ rw (p.part-put.others j ne) (old.part_has j (omega arith))
+              | yes same ↦ rw (same, p.part_put.here) has-w
+              | no ne ↦ rw (p.part_put.others j ne) (old.part_has j (omega arith))
             ];
       }
 

@@ -93,8 +93,8 @@ pub record Firsts (g : Graph) (m : RouteImage) (nodes firsts : List ℕ) (n : �
 -- node i is stored so
 pub record NodePlaced (i b e : ℕ) (w bases entries parts bases' entries' parts' : List ℕ) : Type 0 where
   pub bases_set : bases' ≡ set bases i b
-  pub entries-set : entries' ≡ set entries i e
-  pub part-put : SetPut parts i w parts'
+  pub entries_set : entries' ≡ set entries i e
+  pub part_put : SetPut parts i w parts'
 
 -- one more instance, which copies r blocks, the first as block b; the entries behind it are as they were
 pub record Placing (g : Graph) (m : RouteImage) (nodes : List ℕ) (i b r : ℕ) (bases entries parts bases' entries' parts' : List ℕ) : Type 0 where

@@ -9,7 +9,7 @@ ghost use Rattle.graph.specs.Words.{held_in};
 ghost use Rattle.graph.specs.Search.{Ends, Linked, Roomy, Follows};
 ghost use Rattle.graph.specs.WellFormed.{is_built};
 ghost use Rattle.addition.specs.Lists.{keep, is_empty};
-ghost use Rattle.addition.specs.Part.{ordinary, outgoing, returning as isReturning};
+ghost use Rattle.addition.specs.Part.{ordinary, outgoing, returning as is_returning};
 ghost use Rattle.addition.specs.Add.{funclet_check};
 ghost use Rattle.unwind.specs.Stands.{Stands};
 ghost use Rattle.unwind.specs.PartSearch.{Barriers, Returners, PartFrom, bounded, Takes};
@@ -80,7 +80,7 @@ fn leads_on(g: &Words, head: &[u16], next: &[u16], b: usize) -> bool
 // Whether block b returns. Its edges are looked at only if it ends in a jump.
 fn returning(g: &Words, head: &[u16], next: &[u16], b: usize) -> bool
     requires { Stands (held_in g.now).graph × Roomy (held_in g.now).graph head.now next.now × Linked (held_in g.now).graph head.now next.now 0 × (b < length (held_in g.now).graph.blocks) }
-    ensures { result ≡ isReturning (held_in g.now).graph b }
+    ensures { result ≡ is_returning (held_in g.now).graph b }
 {
     let flow = last_of(g, b).flow;
     if flow == RETURN {

@@ -10,14 +10,14 @@ use Rattle.graph.specs.Transfer.{size}
 use Rattle.graph.specs.Build.{given_check}
 use Rattle.builder.specs.declared.cursor.Cursor.{Cursor}
 use Rattle.builder.proofs.ScanLaws.{scan_fits, scan_next, scan_visit}
-use Rattle.builder.proofs.GivenLaws.{not-given}
+use Rattle.builder.proofs.GivenLaws.{not_given}
 use native.Mathlib.Omega.{arith}
 use borrow.Author.Rules.{rules}
 use Rattle.builder.proofs.checks.check_given.Goals as goal
 
 pub returns-then-y-ne2 : goal.returns-then-y-ne2
 returns-then-y-ne2 c = let m = image_in c.args.s.now c.args.y in
-    sym (not-given m c.requires.0.accepted c.if-y-ne2.true (size m))
+    sym (not_given m c.requires.0.accepted c.if-y-ne2.true (size m))
 
 pub loop-c-init : goal.loop-c-init
 unfolding checks

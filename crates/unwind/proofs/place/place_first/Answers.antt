@@ -11,8 +11,8 @@ part_of-requires c = let emptied = c.empty_set.ensures in
 
 pub returns-then-f-ne0 : goal.returns-then-f-ne0
 returns-then-f-ne0 c = let found = c.part_of.ensures in
-    (record { bases_set = refl; entries-set = refl; part-put = put_again c.empty_set.ensures found.1 }, λ e. absurd (c.if-f-ne0.true e), λ ne. found.0)
+    (record { bases_set = refl; entries_set = refl; part_put = put_again c.empty_set.ensures found.1 }, λ e. absurd (c.if-f-ne0.true e), λ ne. found.0)
 
 pub returns-else-f-ne0 : goal.returns-else-f-ne0
 returns-else-f-ne0 c = let emptied = c.empty_set.ensures in
-    (record { bases_set = refl; entries-set = refl; part-put = put_again (put_same _ _) emptied }, λ e. emptied.here, λ ne. absurd (ne c.if-f-ne0.false))
+    (record { bases_set = refl; entries_set = refl; part_put = put_again (put_same _ _) emptied }, λ e. emptied.here, λ ne. absurd (ne c.if-f-ne0.false))
