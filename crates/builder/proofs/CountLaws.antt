@@ -241,6 +241,9 @@ module _ (m : Image) where
     pub count-within : length (normal_edges m) + length (exception_edges m) ≤ 4096 → unless (leb (length (edges_of m)) 4096) r ≡ clear
     count-within h = rw (le-leb (length (edges_of m)) 4096 (omega (arith, both_lengths)))
 
+    pub counted_within : length (normal_edges m) + length (exception_edges m) ≤ 4096 → clear ≡ unless (leb (length (edges_of m)) 4096) r
+    counted_within h = sym (count-within h)
+
     pub count_beyond : 4096 < length (normal_edges m) + length (exception_edges m) → unless (leb (length (edges_of m)) 4096) r ≡ refused r
     count_beyond h = rw (lt-leb (length (edges_of m)) 4096 (omega (arith, both_lengths)))
 

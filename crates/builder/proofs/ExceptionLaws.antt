@@ -4,7 +4,7 @@
 --     unwind_is                       what it gives where the instruction keeps its exception edge
 --     range_first_law, range_size_law         the positions of a range that was checked
 --     edges_from                      one position more of a range
---     other_modes, handlers_edges     the edges of an image that is built in another mode, and in mode 0
+--     other_modes, other_modes_add, handlers_edges     the edges of an image that is built in another mode, and in mode 0
 -- Assumes nothing.
 use mathlib.Core.Bool.{true, cond}
 use mathlib.Core.Path.{◌≡◌, ◌∙◌}
@@ -26,7 +26,7 @@ use Rattle.graph.specs.Blocks.{block_at}
 use Rattle.graph.specs.Edges.{resolved, transfer_edges, range_first, range_size, unwind_edges, exception_edges}
 use Rattle.graph.specs.Build.{handler_check}
 use Rattle.graph.specs.Adding.{Added}
-use Rattle.graph.proofs.AddingLaws.{edges_more}
+use Rattle.graph.proofs.AddingLaws.{added_none, edges_more}
 use Rattle.graph.proofs.BuiltRegions.{entry_clear}
 use Rattle.builder.specs.declared.ranges.Ranged.TheVariants.{Positions}
 use Rattle.builder.specs.Emit.{Numbered, edge_between, handler_edges}
@@ -60,6 +60,9 @@ module _ (m : Image) where
   pub other_modes : (m.header.mode ≡ 0 → ⊥) → exception_edges m ≡ []
   unfolding exception_edges
   other_modes e = rw (ne_eqb m.header.mode 0 e)
+
+  pub other_modes_add : (l : List ℕ) → (m.header.mode ≡ 0 → ⊥) → Added l l (exception_edges m) [] []
+  other_modes_add l e = rw (other_modes e) (added_none l)
 
   pub handlers_edges : m.header.mode ≡ 0
       → exception_edges m ≡ flat (λ h. handler_edges m h) (length m.handlers)

@@ -33,6 +33,7 @@ use image::record::Instruction;
 use image::section::Layout;
 
 // Whether a build gives no more edges than a graph holds. Only mode 0 can give more.
+#[tactic(auto, using(crate::proofs::CountLaws::counted_within))]
 pub fn check_edge_count(
     s: &[u8],
     y: Layout,

@@ -27,6 +27,7 @@ use image::section::Layout;
 const UNWIND: u64 = 9;
 
 // The exception edges of all handlers; the other modes add none.
+#[tactic(auto, using(crate::proofs::ExceptionLaws::other_modes_add))]
 pub fn add_exception_edges(
     g: &mut Words,
     s: &[u8],

@@ -49,8 +49,5 @@ overflow_add-normal_count c = let b = bounds c.args.s.now c.args.y c.requires.0.
     omega
     (arith, b.instructions, b.cases, b.pairs, b.normal, b.exceptional, c.normal_count.ensures, c.exception_count-exceptional.ensures)
 
-pub returns-then-normal_count-exceptional-le-EDGE_MOST : goal.returns-then-normal_count-exceptional-le-EDGE_MOST
-returns-then-normal_count-exceptional-le-EDGE_MOST c = sym (count-within (image_in c.args.s.now c.args.y) _ (omega (arith, c.normal_count.ensures, c.exception_count-exceptional.ensures, c.if-normal_count-exceptional-le-EDGE_MOST.true)))
-
 pub returns : goal.returns
-returns c = sym (count_beyond (image_in c.args.s.now c.args.y) _ (omega (arith, c.normal_count.ensures, c.exception_count-exceptional.ensures, c.if-normal_count-exceptional-le-EDGE_MOST.false)))
+returns c = sym (count_beyond (image_in c.args.s.now c.args.y) _ (omega (arith, c.normal_count.ensures, c.exception_count-exceptional.ensures)))

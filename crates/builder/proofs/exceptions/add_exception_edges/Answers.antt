@@ -9,13 +9,10 @@ use Rattle.graph.specs.Build.{handler_check}
 use Rattle.graph.proofs.CheckLaws.{checks_at}
 use Rattle.graph.proofs.AddingLaws.{added_none, edges_more}
 use Rattle.builder.specs.Emit.{handler_edges}
-use Rattle.builder.proofs.ExceptionLaws.{other_modes, handlers_edges}
+use Rattle.builder.proofs.ExceptionLaws.{handlers_edges}
 use native.Mathlib.Omega.{arith}
 use borrow.Author.Rules.{rules}
 use Rattle.builder.proofs.exceptions.add_exception_edges.Goals as goal
-
-pub returns-then-y-ne0 : goal.returns-then-y-ne0
-returns-then-y-ne0 c = rw (other_modes (image_in c.args.s.now c.args.y) c.if-y-ne0.true) (added_none _)
 
 pub overflow_cast-n : goal.overflow_cast-n
 overflow_cast-n c = omega (arith, c.requires.0.few, length-records handler_from c.args.s.now c.args.y.code.handlers)
@@ -36,4 +33,4 @@ loop-h-preserved c = let m = image_in c.args.s.now c.args.y in
 pub returns : goal.returns
 returns c = let m = image_in c.args.s.now c.args.y in
     let all : c.loop-h.h ≡ length m.handlers = omega (arith, length-records handler_from c.args.s.now c.args.y.code.handlers) in
-    rw (handlers_edges m c.if-y-ne0.false, ← all) c.loop-h.invariant.2
+    rw (handlers_edges m (omega arith), ← all) c.loop-h.invariant.2
