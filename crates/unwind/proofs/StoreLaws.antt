@@ -1,4 +1,5 @@
 -- The last stage of an addition, from what it has at hand.
+--     edges_held                   no more edges are held than a graph has room for
 --     edges_over, hops_over, lists_over, counts_fit     what counts decide
 --     exits_kept                   what is at hand where scratch was used
 --     all_lent, links_lent         what is lent where hops are counted and stored, and where edges are copied
@@ -27,7 +28,7 @@ use Rattle.graph.specs.declared.error.AddressBuildError.{AddressBuildError}
 use Rattle.graph.specs.declared.record.Block.{Block}
 use Rattle.graph.specs.declared.record.Edge.{Edge}
 use Rattle.graph.specs.Graph.{Graph, Held, held, block}
-use Rattle.graph.specs.Words.{held_in}
+use Rattle.graph.specs.Words.{edge_rows, held_in}
 use Rattle.graph.specs.Fold.{flat}
 use Rattle.graph.specs.Error.{refusal_of}
 use Rattle.graph.specs.Stored.{Stored}
@@ -60,6 +61,8 @@ use Rattle.addition.specs.Walk.{◌∈◌}
 use Rattle.addition.proofs.Lists.{and_both}
 use Rattle.addition.proofs.Sound.{sound}
 use Rattle.addition.proofs.AgainWays.{way_ends, way_table}
+use Rattle.graph.proofs.SectionLaws.{size_most}
+use Rattle.graph.proofs.RecordLaws.{edge_count}
 use Rattle.unwind.proofs.StoodLaws.{blocks_stay}
 use Rattle.unwind.proofs.Standing.{stands_of}
 use Rattle.unwind.proofs.TrieNodes.{length_nodes}
@@ -77,6 +80,9 @@ use Rattle.unwind.proofs.Finished.{copies_graph, finished}
 -- 19 and 20 of so many edges, and of hops of these sizes
 abbrev counts_check : ℕ → Sizes → Check
 counts_check n sz = unless (leb n 4096) (refusal 19 0 0) then unless (leb sz.hops 2048 && leb sz.lists 4096) (refusal 20 0 0)
+
+pub edges_held : (l : List ℕ) → length (held_in l).graph.edges ≤ 4096
+edges_held l = omega (arith, edge_count l, size_most edge_rows l)
 
 module _ (n : ℕ) (sz : Sizes) where
   pub edges_over : 4096 < n → Check.refused (refusal 19 0 0) ≡ counts_check n sz

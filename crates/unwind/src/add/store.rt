@@ -117,6 +117,7 @@ fn check_sizes(
 }
 
 // So many copies of edges, and hops of these sizes, beside the edges that there are.
+#[tactic(auto, using(crate::proofs::StoreLaws::hops_over, crate::proofs::StoreLaws::edges_held))]
 fn check_counts(g: &Words, copies: usize, sizes: Sizes) -> Checked
     ensures { check_of result ≡ (unless (leb (length (held_in g.now).graph.edges + copies + sizes.blocks) 4096) (refusal 19 0 0) then unless (leb sizes.hops 2048 && leb sizes.lists 4096) (refusal 20 0 0)) }
 {
