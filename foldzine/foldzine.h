@@ -1,6 +1,6 @@
 /*
- * foldzine.h: what the static library exports (`rt staticlib export` writes
- * target/staticlib/libexport.a). The functions are proved: each takes any bytes
+ * foldzine.h: what the static library exports (`rt lib` in crates/export writes
+ * crates/export/out/libexport.a). The functions are proved: each takes any bytes
  * and any words, and its contract (crates/export) says all that it answers and
  * all that it leaves in the words that it is lent.
  *

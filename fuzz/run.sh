@@ -1,5 +1,5 @@
 #!/bin/sh
-# `run.sh [SECONDS] [OPTIONS]`: builds the fuzz target and runs it, from the corpus on. `rt staticlib export` first.
+# `run.sh [SECONDS] [OPTIONS]`: builds the fuzz target and runs it, from the corpus on. `rt lib` in crates/export first.
 # New inputs go to target/found, and what makes the two sides differ or traps to target/.
 set -e
 cd "$(dirname "$0")"

@@ -2,7 +2,7 @@
  * hops IMAGE ROUTES: builds the graph of a sequence image, adds the routes of a
  * route image, and prints the hops as the chart does.
  *
- *     cc -O2 -I. examples/hops.c ../target/staticlib/libexport.a -o hops
+ *     cc -O2 -I. examples/hops.c ../crates/export/out/libexport.a -o hops
  */
 #include <inttypes.h>
 #include <stdio.h>
