@@ -17,33 +17,29 @@ EDGE = 'source target kind role number key source_address target_address'.split(
 
 DUMP = '''
 -- An addition's answer as numbers: a refusal, or blocks, edges and hops.
-use mathlib.Core.Bool.{Bool, true, false, cond, _&&_}
-use mathlib.Core.List.{List, [], _∷_, _++_, map}
-use Prim.Native.Nat.{ℕ, suc}
-use lib.Dec.{eqb}
-use lib.ListN.{length}
-use Rattle·graph.specs.declared.record.TableEntry.{TableEntry}
-use Rattle·graph.specs.declared.record.Block.{Block}
-use Rattle·graph.specs.declared.record.Edge.{Edge}
-use Rattle·graph.specs.Graph.{held}
-use Rattle·addition.specs.Ways.{HopEnd, block, leave}
-use Rattle·addition.specs.Add.{Outcome, added, refused, add_routes}
+use Rattle.std.specs.Prelude.{Bool, true, false, cond, ◌&&◌, List, [], ◌∷◌, ◌++◌, map, length, ℕ, suc, eqb}
+use Rattle.graph.specs.declared.record.TableEntry.{TableEntry}
+use Rattle.graph.specs.declared.record.Block.{Block}
+use Rattle.graph.specs.declared.record.Edge.{Edge}
+use Rattle.graph.specs.Graph.{held}
+use Rattle.addition.specs.Ways.{HopEnd, block, leave}
+use Rattle.addition.specs.Add.{Outcome, added, refused, add_routes}
 
 unfoldable pub join : List (List ℕ) → List ℕ
 join [] = []
 join (l ∷ ls) = l ++ join ls
 
-unfoldable pub endOf : HopEnd → ℕ
-endOf (block b) = suc b
-endOf leave = 0
+unfoldable pub end_of : HopEnd → ℕ
+end_of (block b) = suc b
+end_of leave = 0
 
 unfoldable pub dump : Outcome → List ℕ
-dump (refused r) = r .number ∷ r .first ∷ r .second ∷ []
+dump (refused r) = r.number ∷ r.first ∷ r.second ∷ []
 dump (added a) =
-    (length (a .graph .blocks) ∷ length (a .graph .edges) ∷ length (a .hops) ∷ [])
-    ++ join (map (λ b. b .first ∷ b .count ∷ []) (a .graph .blocks))
-    ++ join (map (λ e. e .source ∷ e .target ∷ e .kind ∷ e .role ∷ e .number ∷ e .key ∷ e .«source_address» ∷ e .«target_address» ∷ []) (a .graph .edges))
-    ++ join (map (λ h. h .source ∷ endOf (h .end) ∷ length (h .calls) ∷ join (map (λ c. length c ∷ c) (h .calls))) (a .hops))
+    (length a.graph.blocks ∷ length a.graph.edges ∷ length a.hops ∷ [])
+    ++ join (map (λ b. b.first ∷ b.count ∷ []) a.graph.blocks)
+    ++ join (map (λ e. e.source ∷ e.target ∷ e.kind ∷ e.role ∷ e.number ∷ e.key ∷ e.source_address ∷ e.target_address ∷ []) a.graph.edges)
+    ++ join (map (λ h. h.source ∷ end_of h.end ∷ length h.calls ∷ join (map (λ c. length c ∷ c) h.calls)) a.hops)
 
 unfoldable pub same : List ℕ → List ℕ → Bool
 same [] [] = true
@@ -52,7 +48,7 @@ same (a ∷ s) [] = false
 same (a ∷ s) (b ∷ t) = eqb a b && same s t
 
 unfoldable pub holds : List TableEntry → List Block → List Edge → List ℕ → List ℕ → Bool
-unfolding UNFOLD join endOf dump same
+unfolding UNFOLD join end_of dump same
 holds t b e l n =
     same (dump (add_routes (held (record { entry = 0; table = t; blocks = b; edges = e; regions = []; handlers = []; unresolved = []; calls = [] })) l)) n
 '''
@@ -60,11 +56,11 @@ holds t b e l n =
 
 def unfoldable():
     """Every definition that opens only where it is named."""
-    names = ['mathlib.Core.List.zipWith']
+    names = ['mathlib.Core.List.zip_with']
     for file in sorted(sum((glob.glob(f'crates/{c}/specs/*.antt', root_dir=ROOT) for c in ('image', 'graph', 'addition')), [])):
         _, crate, _, module = file[:-5].split('/')
         text = open(os.path.join(ROOT, file), encoding='utf-8').read()
-        names += [f'Rattle·{crate}.specs.{module}.{name}' for name in re.findall(r'^ *unfoldable pub (?!use )(\S+)', text, re.M)]
+        names += [f'Rattle.{crate}.specs.{module}.{name}' for name in re.findall(r'^ *unfoldable pub (?!use )(\S+)', text, re.M)]
     return ' '.join(names)
 
 
@@ -137,27 +133,26 @@ def main():
         text = open(os.path.join(ROOT, file), encoding='utf-8').read()
         write(file, types(text) if file.endswith('.rt') else text)
     write('crates.txt', 'image:\ngraph: image\naddition: graph image\nrows: addition graph image\n')
-    write('crates/rows/src/lib.rt', '// Rows to compute.\n')
+    write('crates/rows/src/lib.rt', '// Rows to compute.\n#![tactic(auto)]\n')
     write('crates/rows/specs/Dump.antt', DUMP.replace('UNFOLD', unfoldable()))
     many = lambda items: '(' + ' ∷ '.join([str(i) for i in items] + ['[]']) + ')'
     files = [found[i:i + PER_FILE] for i in range(0, len(found), PER_FILE)]
     for number, part in enumerate(files):
-        text = ['-- Rows.', 'use mathlib.Core.Path.{_≡_, refl}', 'use mathlib.Core.Bool.{true}', 'use mathlib.Core.List.{[], _∷_}',
-                'use Rattle·rows·specs.specs.Dump.{holds}', '']
+        text = ['-- Rows.', 'use Rattle.std.specs.Prelude.{◌≡◌, refl, true, [], ◌∷◌}', 'use Rattle.rows.specs.Dump.{holds}', '']
         for row, (code, before, routes, after) in enumerate(part, number * PER_FILE):
             # the words of a table's entry are numbers, and its flags too
-            entries = many('record { address = %d; end = %d; «has_end» = %d; keeps = %d; flow = %d }' % entry for entry in code)
+            entries = many('record { address = %d; end = %d; has_end = %d; keeps = %d; flow = %d }' % entry for entry in code)
             blocks = many(literal(['first', 'count'], block) for block in before.blocks)
             edges = many(literal(EDGE, edge) for edge in before.edges)
-            text += [f'row-{row} : holds {entries} {blocks} {edges} {many(routes)} {many(after.numbers())} ≡ true', 'unfolding holds', f'row-{row} = refl', '']
+            text += [f'row_{row} : holds {entries} {blocks} {edges} {many(routes)} {many(after.numbers())} ≡ true', 'unfolding holds', f'row_{row} = refl', '']
         write(f'crates/rows/specs/Rows{number}.antt', '\n'.join(text))
     write('crates/rows/specs/Lib.antt', 'pub mod Dump\n' + ''.join(f'pub mod Rows{n}\n' for n in range(len(files))))
 
     began = time.time()
-    checked = subprocess.run(['rt', 'dev', 'rows'], cwd=folder, capture_output=True)
+    checked = subprocess.run(['rt', 'check'], cwd=os.path.join(folder, 'crates/rows'), capture_output=True)
     told = (checked.stdout + checked.stderr).decode()
-    bad = sorted({int(n) for n in re.findall(r'`row-(\d+)`', told)})
-    slow = {int(n) for n in re.findall(r'`row-(\d+)`: .*step limit', told)}
+    bad = sorted({int(n) for n in re.findall(r'`row_(\d+)`', told)})
+    slow = {int(n) for n in re.findall(r'`row_(\d+)`: .*step limit', told)}
     for row in bad:
         print(f'row {row} ' + ('was not computed: the step limit' if row in slow else f'differs: {found[row][2].hex()} gives {found[row][3].numbers()}'))
     if checked.returncode and not bad:

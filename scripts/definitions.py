@@ -28,7 +28,7 @@ STANDARD = 'small:1:200 handlers:2:100 given:3:100 mistakes:4:200 routes:5:60 wi
 
 def literal(names, values):
     shown = [('true' if v else 'false') if n in BOOLEANS else v for n, v in zip(names, values)]
-    return 'record { ' + '; '.join(f'{"«%s»" % n if "_" in n else n} = {v}' for n, v in zip(names, shown)) + ' }'
+    return 'record { ' + '; '.join(f'{n} = {v}' for n, v in zip(names, shown)) + ' }'
 
 
 def image(data):
@@ -71,17 +71,13 @@ def expected(answer):
 
 DUMP = '''
 -- The same numbers from the definitions.
-use mathlib.Core.Bool.{Bool, true, false, cond, _&&_, _||_}
-use mathlib.Core.List.{List, [], _∷_, _++_, map}
-use Prim.Native.Nat.{ℕ, suc}
-use lib.Dec.{eqb}
-use lib.ListN.{length, getD}
-use Rattle·image.specs.Image.{Image}
-use Rattle·graph.specs.Graph.{Graph, held}
-use Rattle·graph.specs.Build.{Outcome, built, refused, build_of}
-use Rattle·graph.specs.Table.{entryAt}
-use Rattle·graph.specs.WellFormed.{well_formed}
-use Rattle·graph.specs.Reached.{reached_blocks}
+use Rattle.std.specs.Prelude.{Bool, true, false, cond, ◌&&◌, ◌||◌, List, [], ◌∷◌, ◌++◌, map, length, ℕ, suc, eqb}
+use Rattle.image.specs.Image.{Image}
+use Rattle.graph.specs.Graph.{Graph, held}
+use Rattle.graph.specs.Build.{Outcome, built, refused, build_of}
+use Rattle.graph.specs.Table.{entry_at}
+use Rattle.graph.specs.WellFormed.{well_formed}
+use Rattle.graph.specs.Reached.{reached_blocks}
 
 unfoldable pub join : List (List ℕ) → List ℕ
 join [] = []
@@ -91,16 +87,16 @@ unfoldable pub maybe : Bool → ℕ → ℕ
 maybe there n = cond there (suc n) 0
 
 unfoldable pub dump : Outcome → List ℕ
-dump (refused r) = r .number ∷ r .first ∷ r .second ∷ []
+dump (refused r) = r.number ∷ r.first ∷ r.second ∷ []
 dump (built g) =
-    (length (g .blocks) ∷ length (g .edges) ∷ length (g .regions) ∷ length (g .unresolved) ∷ length (g .calls) ∷
-    g .entry ∷ length (reached_blocks g) ∷ cond (well_formed (held g)) 1 0 ∷ [])
-    ++ join (map (λ b. cond (eqb (b .count) 0) 0 (suc (entryAt (g .table) (b .first) .address)) ∷ b .count ∷ []) (g .blocks))
-    ++ join (map (λ e. e .source ∷ e .target ∷ e .kind ∷ e .role ∷ e .number ∷ e .key ∷ e .«source_address» ∷ e .«target_address» ∷ []) (g .edges))
-    ++ join (map (λ r. maybe (eqb (r .«has_parent») 1) (r .parent) ∷ r .start ∷ r .end ∷ r .protected) (g .regions))
-    ++ join (map (λ h. h .region ∷ h .place ∷ h .entry ∷ h .kind ∷ maybe (eqb (h .kind) 4) (h .filter) ∷ []) (g .handlers))
-    ++ join (map (λ u. u .source ∷ cond (COMPUTED) 0 (suc (u .target)) ∷ u .role ∷ maybe (eqb (u .role) 6) (u .«case_index») ∷ []) (g .unresolved))
-    ++ join (map (λ c. c .source ∷ maybe (eqb (c .«has_target») 1) (c .target) ∷ []) (g .calls))
+    (length g.blocks ∷ length g.edges ∷ length g.regions ∷ length g.unresolved ∷ length g.calls ∷
+    g.entry ∷ length (reached_blocks g) ∷ cond (well_formed (held g)) 1 0 ∷ [])
+    ++ join (map (λ b. cond (eqb b.count 0) 0 (suc (entry_at g.table b.first).address) ∷ b.count ∷ []) g.blocks)
+    ++ join (map (λ e. e.source ∷ e.target ∷ e.kind ∷ e.role ∷ e.number ∷ e.key ∷ e.source_address ∷ e.target_address ∷ []) g.edges)
+    ++ join (map (λ r. maybe (eqb r.has_parent 1) r.parent ∷ r.start ∷ r.end ∷ r.protected) g.regions)
+    ++ join (map (λ h. h.region ∷ h.place ∷ h.entry ∷ h.kind ∷ maybe (eqb h.kind 4) h.filter ∷ []) g.handlers)
+    ++ join (map (λ u. u.source ∷ cond (COMPUTED) 0 (suc u.target) ∷ u.role ∷ maybe (eqb u.role 6) u.case_index ∷ []) g.unresolved)
+    ++ join (map (λ c. c.source ∷ maybe (eqb c.has_target 1) c.target ∷ []) g.calls)
 
 unfoldable pub same : List ℕ → List ℕ → Bool
 same [] [] = true
@@ -111,27 +107,30 @@ same (a ∷ s) (b ∷ t) = eqb a b && same s t
 unfoldable pub holds : Image → List ℕ → Bool
 unfolding UNFOLD join maybe dump same
 holds m l = same (dump (build_of m)) l
-'''.replace('COMPUTED', ' || '.join(f'eqb (u .role) {role}' for role in COMPUTED))
+'''.replace('COMPUTED', ' || '.join(f'eqb u.role {role}' for role in COMPUTED))
 
 
 def types(code):
     """The modules and types that code declares: the definitions need no more of it."""
     kept, within = [], False
     for line in code.splitlines():
-        begins = re.match(r'(pub )?(struct|enum|mod|type|const) |use [a-z_:]+::[A-Z]', line)
+        if used := re.match(r'use ([a-z_:]+)::\{(.*)\};', line):
+            names = ', '.join(name for name in used[2].split(', ') if name[0].isupper())
+            line = f'use {used[1]}::{{{names}}};' if names else ''
+        begins = re.match(r'#!\[tactic|#\[derive|(pub )?(struct|enum|mod|type|const) |use [a-z_:]+::[A-Z{]', line)
         if begins or within:
             kept.append(line)
-            within = not (line == '}' or line.endswith(';') and not line.startswith(' '))
+            within = not (line == '}' or line.endswith((';', ']')) and not line.startswith(' '))
     return '\n'.join(kept) + '\n'
 
 
 def unfoldable():
     """Every definition that opens only where it is named."""
-    names = ['mathlib.Core.List.zipWith']
+    names = ['mathlib.Core.List.zip_with']
     for file in sorted(glob.glob('crates/image/specs/*.antt', root_dir=ROOT) + glob.glob('crates/graph/specs/*.antt', root_dir=ROOT)):
         _, crate, _, module = file[:-5].split('/')
         text = open(os.path.join(ROOT, file), encoding='utf-8').read()
-        names += [f'Rattle·{crate}.specs.{module}.{name}' for name in re.findall(r'^unfoldable pub (?!use )(\S+)', text, re.M)]
+        names += [f'Rattle.{crate}.specs.{module}.{name}' for name in re.findall(r'^unfoldable pub (?!use )(\S+)', text, re.M)]
     return ' '.join(names)
 
 
@@ -169,22 +168,21 @@ def main():
         text = open(os.path.join(ROOT, file), encoding='utf-8').read()
         write(file, types(text) if file.endswith('.rt') else text)
     write('crates.txt', 'image:\ngraph: image\nrows: graph image\n')
-    write('crates/rows/src/lib.rt', '// Rows to compute.\n')
+    write('crates/rows/src/lib.rt', '// Rows to compute.\n#![tactic(auto)]\n')
     write('crates/rows/specs/Dump.antt', DUMP.replace('UNFOLD', unfoldable()))
     files = [rows[i:i + PER_FILE] for i in range(0, len(rows), PER_FILE)]
     for number, part in enumerate(files):
-        text = ['-- Rows.', 'use mathlib.Core.Path.{_≡_, refl}', 'use mathlib.Core.Bool.{true, false}', 'use mathlib.Core.List.{[], _∷_}',
-                'use Rattle·rows·specs.specs.Dump.{holds}', '']
+        text = ['-- Rows.', 'use Rattle.std.specs.Prelude.{◌≡◌, refl, true, false, [], ◌∷◌}', 'use Rattle.rows.specs.Dump.{holds}', '']
         for row, (_, data, answer) in enumerate(part, number * PER_FILE):
             numbers = ' ∷ '.join([str(n) for n in expected(answer)] + ['[]'])
-            text += [f'row-{row} : holds ({image(data)}) ({numbers}) ≡ true', 'unfolding holds', f'row-{row} = refl', '']
+            text += [f'row_{row} : holds ({image(data)}) ({numbers}) ≡ true', 'unfolding holds', f'row_{row} = refl', '']
         write(f'crates/rows/specs/Rows{number}.antt', '\n'.join(text))
     write('crates/rows/specs/Lib.antt', 'pub mod Dump\n' + ''.join(f'pub mod Rows{n}\n' for n in range(len(files))))
 
     began = time.time()
-    checked = subprocess.run(['rt', 'dev', 'rows'], cwd=folder, capture_output=True)
+    checked = subprocess.run(['rt', 'check'], cwd=os.path.join(folder, 'crates/rows'), capture_output=True)
     told = (checked.stdout + checked.stderr).decode()
-    bad = sorted({int(n) for n in re.findall(r'`row-(\d+)`', told)})
+    bad = sorted({int(n) for n in re.findall(r'`row_(\d+)`', told)})
     for row in bad:
         family, data, answer = rows[row]
         print(f'row {row} ({family}) differs: {data.hex()}\n    the Rust: {answer}')
