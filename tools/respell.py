@@ -1,5 +1,5 @@
 #!/usr/bin/env python3
-"""respell.py [--dry] [FOLDER]: turns the repository's own definitions, lemmas, fields and constructors to snake case.
+"""respell.py [--dry] [--names] [FOLDER]: turns the repository's own definitions, lemmas, fields and constructors to snake case.
 
 Run at the top of the repository, after port.py, everything committed. A name counts where a .antt file of specs/ or
 proofs/ gives it a signature (definition, lemma, field, constructor, parameter of a module), begins with a small letter
@@ -8,7 +8,7 @@ it joins two names, as in `length-map`: each part is a word of std or a definiti
 goals (`loop-x-preserved`), which the checker names, and names of std that a `use` line brings and no file defines.
 Where the new name is taken in a file that uses the old one, a line 'together:' says so; a lemma (dashes) then ends in
 `_law`, a definition that a parameter would hide in `_of`, and another definition (capitals) is left: TOGETHER or FILES wants an
-entry. Touches .antt, .rt, must-fail edits, scripts/, and what stands between backticks in .md files.
+entry. --dry writes nothing, --names prints each old and new name. Touches .antt, .rt, must-fail edits, scripts/, and what stands between backticks in .md files.
 """
 import os
 import re
@@ -195,6 +195,8 @@ def main():
                 return name
             return table.get(name, name)
         return TOKEN.sub(one, text)
+    if "--names" in sys.argv:
+        print("\n".join("%s -> %s" % pair for pair in sorted(table.items())))
     changed = 0
     for path, text in texts.items():
         if path.endswith(".md"):

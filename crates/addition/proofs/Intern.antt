@@ -18,12 +18,12 @@ use borrow.Author.Tests.{eqb-true}
 use lib.ListN.{length, length-append}
 use Rattle.image.specs.Deal.{funclet, call, UnwindEnd, handler, UnwindPath, UnwindRoute}
 use Rattle.addition.specs.Order.{Tagged, tagged, compare_tagged, compare_ends, sorted, same}
-use Rattle.addition.specs.Trie.{Node, enters, groups, rest, same_funclet, same_node, place_of, Interned, created, create, Children, intern_each, node_of, intern, longest, Tries, intern_routes, tries}
+use Rattle.addition.specs.Trie.{Node, groups, rest, same_funclet, same_node, place_of, Interned, created, create, Children, intern_each, node_of, intern, longest, Tries, intern_routes, tries}
 use Rattle.addition.specs.Walk.{◌∈◌, Funclet, Handler}
 use Rattle.addition.proofs.Lists.{at, and_both, none_in, at_lt, lt_at, at_append, at_last}
 use Rattle.addition.proofs.Order.{sorted_mem, same_eq}
 use Rattle.addition.proofs.Trie.{◌⊑◌, ⊑_refl, ⊑_trans, Spelled, Says, Child, child_up, Leads, node_says}
-use Rattle.addition.proofs.Paths.{path, exact_key, exact_end, ends_mem, rest_mem, groups_mem}
+use Rattle.addition.proofs.Paths.{exact_key, exact_end, ends_mem, rest_mem, groups_mem}
 
 -- ---- what holds of every node
 

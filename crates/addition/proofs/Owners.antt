@@ -35,8 +35,6 @@ use Rattle.addition.proofs.Instance.{first_or_later, place_first, later_above, c
 use Rattle.addition.proofs.NewEdges.{new_unwinds}
 use Rattle.addition.proofs.Parts
 use Rattle.addition.proofs.Milder.{Milder, reach_entry}
-use Rattle.addition.proofs.Walks.{ends}
-use Rattle.addition.proofs.HopWays
 use Rattle.addition.proofs.Accepted.{node_clear, funclet_begins, handler_begins}
 
 module _ (g : Graph) (rs : List UnwindRoute) (sound : Sound g) (milder : Milder g rs)

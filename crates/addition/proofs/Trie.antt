@@ -9,7 +9,7 @@ use mathlib.Core.List.Memᴰ
 use mathlib.Core.List.{List, map}
 use mathlib.Core.Option.{some}
 use Prim.Native.Nat.{ℕ, compare}
-use Rattle.image.specs.Deal.{UnwindStep, funclet, call, UnwindEnd, UnwindPath}
+use Rattle.image.specs.Deal.{UnwindStep, call, UnwindEnd, UnwindPath}
 use Rattle.addition.specs.Order.{Tagged, tagged, compare_tagged, sorted}
 use Rattle.addition.specs.Trie.{Node, Cut, over, enters, cut, ends_of, groups, rest}
 use Rattle.addition.specs.Walk.{◌∈◌}

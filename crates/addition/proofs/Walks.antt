@@ -11,7 +11,7 @@ use mathlib.Core.List.{List, map}
 use mathlib.Core.Option.{some}
 use Prim.Native.Nat.{ℕ}
 use native.Mathlib.Omega.{arith}
-use Rattle.image.specs.Deal.{UnwindStep, funclet, call, UnwindEnd, handler, propagate, resume, UnwindPath, UnwindRoute}
+use Rattle.image.specs.Deal.{UnwindStep, call, UnwindEnd, handler, propagate, resume, UnwindPath, UnwindRoute}
 use Rattle.graph.specs.Graph.{Graph}
 use Rattle.addition.specs.Order.{Tagged}
 use Rattle.addition.specs.Blocks.{first_of}

@@ -24,7 +24,6 @@ use lib.ListN.{length, get_or, set, length-set, get_or-replicate, get_or-eq_defa
 use lib.Seq.{get_or-set_same, get_or-set_other, set_out}
 use Rattle.graph.specs.Fold.{count}
 use Rattle.graph.specs.BlockSet.{member, none, including, excluding, Common, size_of, LowestOf, LowestFrom}
-use Rattle.graph.specs.WellFormed.{within}
 use Rattle.graph.specs.declared.blockset.Lowest.TheVariants.{At}
 use Rattle.graph.proofs.FoldLaws.{count_same, count_none, count_add, count_one, count_le}
 use Rattle.graph.proofs.Bit.{bit, bit_shift, bit_lt, bit_zero, bit_or_law, bit_xor_law, bit_power_same, bit_power_other, ones_bits, ones_low, trailing_bit}

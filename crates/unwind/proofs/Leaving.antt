@@ -33,7 +33,7 @@ use Rattle.addition.specs.Instance.{part_of, blocks_of, later, copied, base, pla
 use Rattle.addition.specs.Ways.{Way, block, end_at, ways_from, route_ways, node_ways, ways}
 use Rattle.unwind.specs.Sources.{Exit, exit, compare_exits, is_from, exits_at, exits_from, route_exits, node_exits, copy_exits}
 use Rattle.addition.specs.Walk.{◌∈◌}
-use Rattle.addition.proofs.Lists.{none_in, and_both, and_true, at, at_rank, at_lt, mem_keep, keep_mem, mem_joined, joined_mem, mem_map, map_mem, mem_flat, flat_mem, flat-suc, flat_le, upto_mem, mem_among, among_mem}
+use Rattle.addition.proofs.Lists.{none_in, and_both, and_true, at_rank, at_lt, mem_keep, keep_mem, mem_joined, joined_mem, mem_map, map_mem, mem_flat, flat_mem, flat-suc, flat_le, upto_mem, mem_among, among_mem}
 use Rattle.addition.proofs.Instance.{first_or_later, blocks_lt, place_first, place_later, copied_later, place_apart, clone_owner, later_above}
 use Rattle.unwind.proofs.TrieOrder.{number_lt}
 use Rattle.unwind.proofs.Rising.{Rising, rising_keep, rising_join, sorted-same, total_exits}

@@ -18,7 +18,7 @@ use native.Mathlib.Numerals.{add-one}
 use native.Mathlib.Decide.{ℕ_discrete}
 use native.Mathlib.Omega.{arith}
 use borrow.Author.Tests.{eq-eqb, eqb-true, le-leb, lt-leb}
-use lib.ListN.{length, get_or, set, length-set, length-map}
+use lib.ListN.{length, get_or, length-set, length-map}
 use lib.Seq.{get_or-set_same, get_or-set_other}
 use Rattle.image.specs.Refusal.{clear, refused, refusal, unless}
 use Rattle.image.specs.Image.{RouteImage}

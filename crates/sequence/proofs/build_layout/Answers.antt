@@ -27,7 +27,6 @@ pub returns-in-Refused : goal.returns-in-Refused
 returns-in-Refused c = let done = rw c.in-Refused.is at c.build_read.ensures in
     refused_gives c.args.s.now c.args.g.now _ c.args.h.now _ (done.0 ∙ read_built c.args.s.now (image_in c.args.s.now c.args.y) c.requires.0) done.1
 
--- ----
 pub returns-then-byte_at-eq0 : goal.returns-then-byte_at-eq0
 returns-then-byte_at-eq0 c =
     let bytes : List ℕ = c.args.s.now in

@@ -1,5 +1,4 @@
 use mathlib.Core.Path.{◌≡◌, refl, ap, ◌∙◌}
-use Prim.Native.Nat.{◌-◌}
 use lib.ListN.{get_or, length-set}
 use mathlib.Core.Bool.{false}
 use Rattle.graph.specs.Fold.{count}

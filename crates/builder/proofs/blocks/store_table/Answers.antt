@@ -1,5 +1,4 @@
 use mathlib.Core.Path.{ap, ◌∙◌}
-use Prim.Native.Nat.{◌-◌}
 use lib.Seq.{take_all}
 use Rattle.image.specs.Record.{instruction_from}
 use Rattle.image.specs.Image.{records_in}

@@ -1,5 +1,4 @@
 use mathlib.Core.Path.{◌≡◌}
-use Prim.Native.Nat.{◌-◌}
 use Rattle.image.specs.Image.{image_in}
 use Rattle.image.specs.Record.{instruction_from}
 use Rattle.image.proofs.Tables.{length-records}

@@ -1,5 +1,4 @@
 use mathlib.Core.Path.{◌≡◌, refl, sym, ◌∙◌}
-use Prim.Native.Nat.{◌-◌}
 use Rattle.image.proofs.Checks.{checks-more, checks_stop}
 use Rattle.graph.specs.Fold.{checks}
 use native.Mathlib.Omega.{arith}

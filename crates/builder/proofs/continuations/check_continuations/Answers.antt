@@ -1,5 +1,5 @@
 use mathlib.Core.Path.{◌≡◌, sym, ap, ◌∙◌}
-use Prim.Native.Nat.{◌-◌, ◌<◌}
+use Prim.Native.Nat.{◌<◌}
 use Rattle.image.specs.Record.{instruction_from}
 use Rattle.image.specs.Image.{image_in}
 use Rattle.image.proofs.Checks.{checks-more, checks_stop}

@@ -1,5 +1,4 @@
 use mathlib.Core.Path.{◌≡◌, refl, sym, ◌∙◌}
-use Prim.Native.Nat.{◌-◌}
 use lib.ListN.{take, length-set}
 use lib.Seq.{get_or-set_other, get_or-take}
 use Rattle.builder.proofs.DraftLaws.{put-none, put_on, put_end, below_set, counted_size}

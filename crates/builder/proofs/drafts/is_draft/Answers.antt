@@ -1,6 +1,4 @@
 use mathlib.Core.Path.{◌≡◌, refl, sym, ◌∙◌}
-use mathlib.Core.Bool.{false}
-use Prim.Native.Nat.{◌-◌}
 use Rattle.graph.specs.Fold.{some}
 use Rattle.graph.specs.Regions.{same_range, is_draft}
 use Rattle.graph.proofs.FoldLaws.{some_more, some_at}

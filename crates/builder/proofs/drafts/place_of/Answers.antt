@@ -1,5 +1,4 @@
 use mathlib.Core.Path.{◌≡◌, refl, sym, ◌∙◌}
-use Prim.Native.Nat.{◌-◌}
 use lib.ListN.{take}
 use lib.Seq.{get_or-take}
 use Rattle.builder.proofs.DraftLaws.{place_on, place_here, place_end, counted_size}

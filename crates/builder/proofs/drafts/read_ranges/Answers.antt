@@ -1,5 +1,4 @@
 use mathlib.Core.Path.{◌≡◌, ap}
-use Prim.Native.Nat.{◌-◌}
 use lib.ListN.{length}
 use Rattle.image.specs.Record.{handler_from}
 use Rattle.image.specs.Image.{image_in}

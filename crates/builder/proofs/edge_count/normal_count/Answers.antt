@@ -1,11 +1,10 @@
 use mathlib.Core.Path.{◌≡◌, refl, sym, ap, ◌∙◌}
-use Prim.Native.Nat.{ℕ, ◌+◌, ◌-◌}
+use Prim.Native.Nat.{ℕ, ◌+◌}
 use Rattle.image.specs.Image.{image_in}
 use Rattle.image.specs.Record.{instruction_from}
 use Rattle.image.proofs.Tables.{length-records}
 use Rattle.graph.specs.Fold.{flat}
 use Rattle.graph.specs.Transfer.{size}
-use Rattle.graph.specs.Blocks.{is_terminator}
 use Rattle.graph.specs.Edges.{normal_edges}
 use Rattle.builder.specs.Cursor.{cursor_at}
 use Rattle.builder.specs.declared.cursor.Cursor.{Cursor}

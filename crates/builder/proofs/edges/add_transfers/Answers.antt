@@ -1,5 +1,4 @@
 use mathlib.Core.Path.{◌≡◌, ap}
-use Prim.Native.Nat.{◌-◌}
 use Rattle.image.specs.Image.{image_in}
 use Rattle.image.specs.declared.record.Instruction.{Instruction}
 use Rattle.graph.specs.Fold.{flat}

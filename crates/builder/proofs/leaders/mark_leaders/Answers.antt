@@ -1,6 +1,6 @@
 use mathlib.Core.Bool.{◌||◌}
 use mathlib.Core.Path.{◌≡◌, sym, ap, ◌∙◌}
-use Prim.Native.Nat.{ℕ, ◌-◌}
+use Prim.Native.Nat.{ℕ}
 use Rattle.image.specs.Record.{instruction_from}
 use Rattle.image.specs.Image.{image_in}
 use Rattle.image.proofs.Tables.{length-records}

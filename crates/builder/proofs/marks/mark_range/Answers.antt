@@ -1,5 +1,4 @@
 use mathlib.Core.Path.{◌≡◌}
-use Prim.Native.Nat.{◌-◌}
 use Rattle.graph.specs.Transfer.{table_of}
 use Rattle.graph.specs.Leaders.{range_mark}
 use Rattle.builder.proofs.RangedLaws.{has_positions}

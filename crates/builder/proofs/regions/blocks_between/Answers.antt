@@ -1,5 +1,4 @@
 use mathlib.Core.Path.{◌≡◌, ap₂, ◌∙◌}
-use Prim.Native.Nat.{◌-◌}
 use lib.ListN.{get_or}
 use Rattle.graph.specs.BlockSet.{including}
 use Rattle.builder.proofs.RegionLaws.{set-none, set_more}

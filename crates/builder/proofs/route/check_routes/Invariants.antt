@@ -5,7 +5,6 @@ use Rattle.image.specs.Refusal.{clear, checks}
 use Rattle.image.specs.Image.{routes_in}
 use Rattle.image.specs.Deal.{routes_of}
 use Rattle.graph.specs.Lookup.{entries_in}
-use Rattle.graph.specs.Leaders.{routes}
 use Rattle.graph.specs.Route.{route_check, paths_before, steps_before}
 use Rattle.builder.proofs.route.check_routes.Given as goal
 

@@ -1,5 +1,4 @@
 -- `follow` meets its contract. The loop's invariant: the links of b are followed up to `at`. Assumes nothing.
-use Prim.Native.Nat.{◌-◌}
 use Rattle.graph.specs.Words.{held_in}
 use Rattle.graph.proofs.SearchLaws.{Going, togo}
 use Rattle.graph.proofs.reach.follow.Given as goal

@@ -1,6 +1,6 @@
 -- `link` meets its contract. The loop's invariant: the edges from i on are linked. Assumes nothing.
 use mathlib.Core.Path.{◌≡◌}
-use Prim.Native.Nat.{◌-◌, ◌≤◌}
+use Prim.Native.Nat.{◌≤◌}
 use lib.ListN.{length}
 use Rattle.graph.specs.Words.{held_in}
 use Rattle.graph.specs.Search.{Linked}

@@ -1,4 +1,3 @@
-use Prim.Native.Nat.{◌-◌}
 use native.Mathlib.Omega.{arith}
 use Rattle.image.proofs.Padded.{same_none, same_more, same-all}
 use Rattle.image.proofs.little.padded.Goals as goal

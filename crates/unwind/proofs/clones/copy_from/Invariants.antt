@@ -1,5 +1,4 @@
 -- `copy_from` meets its contract. The loop's invariant: the copies of the edges before the one at hand are added. Assumes nothing.
-use Prim.Native.Nat.{◌-◌}
 use lib.ListN.{length}
 use Rattle.graph.specs.Words.{held_in}
 use Rattle.unwind.specs.Clones.{first_edges}

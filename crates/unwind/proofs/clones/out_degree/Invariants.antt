@@ -1,6 +1,6 @@
 -- `out_degree` meets its contract. The loop's invariant: what is counted and what is left on the chain are all edges out of b. Assumes nothing.
 use mathlib.Core.Path.{◌≡◌}
-use Prim.Native.Nat.{◌+◌, ◌-◌}
+use Prim.Native.Nat.{◌+◌}
 use lib.ListN.{length}
 use Rattle.graph.specs.Words.{held_in}
 use Rattle.addition.specs.Part.{outgoing}

@@ -1,6 +1,6 @@
 -- `follow` meets its contract. The loop's invariant: in the bounded graph the links of b are followed up to `at`, and no set but i
 -- changed. Assumes nothing.
-use Prim.Native.Nat.{ℕ, ◌-◌}
+use Prim.Native.Nat.{ℕ}
 use Rattle.graph.specs.Words.{held_in}
 use Rattle.graph.proofs.SearchLaws.{Going, togo}
 use Rattle.unwind.specs.PartSearch.{bounded}

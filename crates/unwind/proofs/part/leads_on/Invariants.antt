@@ -1,5 +1,4 @@
 -- `leads_on` meets its contract. The loop's invariant: no ordinary edge out of b stands before the link at hand. Assumes nothing.
-use Prim.Native.Nat.{◌-◌}
 use lib.ListN.{length}
 use Rattle.graph.specs.Words.{held_in}
 use Rattle.unwind.proofs.ChainLaws.{chain}

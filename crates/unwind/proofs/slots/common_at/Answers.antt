@@ -1,4 +1,4 @@
-use Prim.Native.Nat.{◌*◌, ◌-◌}
+use Prim.Native.Nat.{◌*◌}
 use native.Mathlib.Omega.{arith}
 use Rattle.unwind.specs.Placed.{returns_in}
 use Rattle.unwind.proofs.ReturnLaws.{returns_word}

@@ -1,5 +1,5 @@
 use mathlib.Core.Path.{refl}
-use Prim.Native.Nat.{◌*◌, ◌-◌}
+use Prim.Native.Nat.{◌*◌}
 use native.Mathlib.Omega.{arith}
 use Rattle.graph.specs.BlockSet.{none}
 use Rattle.unwind.proofs.SlotLaws.{copied_none, copied_zero, copied_all}

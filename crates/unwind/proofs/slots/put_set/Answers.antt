@@ -1,4 +1,4 @@
-use Prim.Native.Nat.{◌*◌, ◌-◌}
+use Prim.Native.Nat.{◌*◌}
 use native.Mathlib.Omega.{arith}
 use Rattle.unwind.proofs.SlotLaws.{copied_none, copied_more, copied_all}
 use Rattle.unwind.proofs.slots.put_set.Goals as goal

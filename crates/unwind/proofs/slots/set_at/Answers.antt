@@ -1,4 +1,4 @@
-use Prim.Native.Nat.{◌*◌, ◌-◌}
+use Prim.Native.Nat.{◌*◌}
 use native.Mathlib.Omega.{arith}
 use Rattle.unwind.proofs.SlotLaws.{filled_none, filled_more, filled-all}
 use Rattle.unwind.proofs.slots.set_at.Goals as goal

@@ -1,5 +1,5 @@
 use mathlib.Core.Path.{◌≡◌, ap}
-use Prim.Native.Nat.{◌-◌, ◌<◌}
+use Prim.Native.Nat.{◌<◌}
 use native.Mathlib.Omega.{arith}
 use lib.ListN.{length}
 use Rattle.image.specs.Record.{route_from}
@@ -7,7 +7,6 @@ use Rattle.image.specs.Image.{routes_in}
 use Rattle.image.specs.declared.record.Route.{Route}
 use Rattle.image.proofs.Tables.{length-records}
 use Rattle.graph.proofs.RouteLaws.{paths_in}
-use Rattle.unwind.specs.Tallied.{counts_in}
 use Rattle.unwind.proofs.SeenLaws.{seen_none}
 use Rattle.unwind.proofs.TrieRoutes.{route_start, route_grouped, route_room, place_small, route_next, route_done}
 use borrow.Author.Rules.{rules}

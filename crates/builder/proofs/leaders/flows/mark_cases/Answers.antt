@@ -1,5 +1,5 @@
 use mathlib.Core.Path.{◌≡◌}
-use Prim.Native.Nat.{◌+◌, ◌-◌}
+use Prim.Native.Nat.{◌+◌}
 use Rattle.image.specs.Record.{case_from}
 use Rattle.image.specs.Image.{image_in}
 use Rattle.image.proofs.Tables.{length-records}

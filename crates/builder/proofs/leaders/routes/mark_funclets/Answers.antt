@@ -1,4 +1,3 @@
-use Prim.Native.Nat.{◌-◌}
 use mathlib.Core.Path.{◌≡◌}
 use Rattle.image.specs.Image.{image_in}
 use Rattle.image.specs.Record.{step_from}

@@ -1,5 +1,4 @@
 use mathlib.Core.Path.{◌≡◌}
-use Prim.Native.Nat.{◌-◌}
 use native.Mathlib.Omega.{arith}
 use Rattle.unwind.proofs.AlikeLaws.{steady_none, steady_more}
 use Rattle.unwind.proofs.emit.alike.sets_turn.Goals as goal

@@ -1,5 +1,4 @@
 use mathlib.Core.Path.{◌≡◌}
-use Prim.Native.Nat.{◌-◌}
 use native.Mathlib.Omega.{arith}
 use Rattle.unwind.proofs.BusyLaws.{joins_none, joins_more}
 use Rattle.unwind.proofs.emit.busy.guarded_in.Goals as goal

@@ -1,7 +1,7 @@
 use mathlib.Core.Path.{◌≡◌, refl, sym, ◌∙◌}
 use mathlib.Core.Bool.{false≢true}
 use mathlib.Core.Logic.{⊎_elim}
-use Prim.Native.Nat.{◌+◌, ◌-◌, ◌*◌, ◌<◌, min}
+use Prim.Native.Nat.{◌+◌, ◌*◌, ◌<◌, min}
 use native.Mathlib.Omega.{arith}
 use Rattle.graph.specs.Fold.{flat}
 use Rattle.unwind.specs.Blockwise.{Given, Ready}

@@ -1,5 +1,5 @@
 use mathlib.Core.Path.{◌≡◌, sym, ap, ap₂, ◌∙◌}
-use Prim.Native.Nat.{◌+◌, ◌-◌, compare}
+use Prim.Native.Nat.{◌+◌, compare}
 use native.Mathlib.Omega.{arith}
 use Rattle.image.specs.Image.{routes_in}
 use Rattle.image.specs.declared.record.Step.{Step}

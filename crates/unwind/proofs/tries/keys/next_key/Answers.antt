@@ -1,5 +1,4 @@
 use mathlib.Core.Path.{◌≡◌, sym, ◌∙◌}
-use Prim.Native.Nat.{◌-◌}
 use native.Mathlib.Omega.{arith}
 use Rattle.unwind.proofs.TrieSpans.{among_none, among-all, key_final}
 use borrow.Author.Rules.{rules}

@@ -1,5 +1,4 @@
 use mathlib.Core.Path.{◌≡◌, sym, ◌∙◌}
-use Prim.Native.Nat.{◌-◌}
 use native.Mathlib.Omega.{arith}
 use Rattle.unwind.proofs.TrieRuns.{insert_start, insert_on, insert_end}
 use borrow.Author.Rules.{rules}
