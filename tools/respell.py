@@ -20,6 +20,7 @@ import sys
 TOGETHER = {
     "first-edge": "first_edge", "first-end": "first_end",
     "not-given": "not_given", "not-routed": "not_routed", "entries-set": "entries_set", "part-put": "part_put",  # fields
+    "is-returning": "is_returning",  # the import of that name stands in another file
     "edges-in": "edges_within", "ends-in": "ends_within", "ways-in": "ways_within",  # `edges_in` is a definition
 }
 # lemmas and names of proofs that a definition's new name meets, by file: these give way
@@ -35,7 +36,7 @@ FILES = {
     "graph/proofs/rule/covers_table/Proof.antt": {"in_place": "in_place_law"},
     "text/proofs/HopTextLaws.antt": {"told_at": "told_at_law"},
     "text/proofs/hops/hop_line/Proof.antt": {"told_at": "told_at_law"},
-    "unwind/proofs/FirstLaws.antt": {"some_Is_first": "some_first"},
+    "unwind/proofs/FirstLaws.antt": {"some_IsFirst": "some_first"},
     "unwind/proofs/LowerLaws.antt": {"branch_in": "branch_in_law"},
     "unwind/proofs/PoolLaws.antt": {"node_in": "node_in_law"},
     "unwind/proofs/emit/block/gather_returned/Proof.antt": {"node_in": "node_in_law"},

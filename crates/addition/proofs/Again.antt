@@ -36,7 +36,7 @@ use Rattle.addition.specs.Ways.{ways, route_edges}
 use Rattle.addition.specs.Add.{extended, Addition, addition, node_check, size_check, added, add_routes_to, add_routes}
 use Rattle.addition.specs.Walk.{◌∈◌}
 use Rattle.addition.proofs.Lists.{at, and_l, and_r, and_true, map_mem, flat_mem, lt_at, at_get_or}
-use Rattle.addition.proofs.Sound.{Sound, sound as well-formed}
+use Rattle.addition.proofs.Sound.{Sound, sound as well_formed_law}
 use Rattle.addition.proofs.Instance.{mem_copied, blocks_lt}
 use Rattle.addition.proofs.Accepted.{then_clear, node_clear, funclet_starts, accepted, passed}
 use Rattle.addition.proofs.AgainBlocks.{Old, block_up, regions_after, covers_after, copies_after, runs_after}
@@ -149,7 +149,7 @@ unfolding held addition
 again g rs a e adds =
     let x = accepted g rs a adds in
     subst (λ (a : Addition). well_formed (held a.graph) ≡ true) x.is
-    (stands_so _ (stands_after g rs (stands (held g) e) (well-formed (held g) e) x.nodes x.sizes))
+    (stands_so _ (stands_after g rs (stands (held g) e) (well_formed_law (held g) e) x.nodes x.sizes))
 
 -- h ≡ held (h.graph): nothing of the graph is cut, and the counts are its lengths. Words that 21 lets pass hold such a graph.
 pub passes_again : (h : Held) (l : List ℕ) (a : Addition) → h ≡ held h.graph → add_routes h l ≡ added a → well_formed (held a.graph) ≡ true

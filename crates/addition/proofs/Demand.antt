@@ -30,7 +30,7 @@ use Rattle.addition.specs.Add.{Addition, addition, node_check, added, add_routes
 use Rattle.addition.specs.Walk.{◌∈◌, Built, Covers, Guarded, Takes}
 use Rattle.addition.specs.Demand.{Demand3, Demanded}
 use Rattle.addition.proofs.Lists.{at, lt_at}
-use Rattle.addition.proofs.Sound.{Sound, sound as well-formed}
+use Rattle.addition.proofs.Sound.{Sound, sound as well_formed_law}
 use Rattle.addition.proofs.Intern.{tries_law}
 use Rattle.addition.proofs.Parts
 use Rattle.addition.proofs.Milder.{Milder, mild}
@@ -231,4 +231,4 @@ demand3 h l m a r e conditions =
     let x = passed h l a e in
     let is : read x.image ≡ read m = sym x.routes ∙ r in
     let same : x.image ≡ m = cc in
-    demand3_milder h.graph (routes_of m) a (well-formed h x.graph) (mild h.graph (routes_of m) conditions) (subst (λ (i : RouteImage). add_routes_to h.graph (routes_of i) ≡ added a) same x.adds)
+    demand3_milder h.graph (routes_of m) a (well_formed_law h x.graph) (mild h.graph (routes_of m) conditions) (subst (λ (i : RouteImage). add_routes_to h.graph (routes_of i) ≡ added a) same x.adds)

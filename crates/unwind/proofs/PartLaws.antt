@@ -29,7 +29,7 @@ use Rattle.graph.specs.Search.{Finds, Ends, link_in, link, Linked, Roomy, Works,
 use Rattle.graph.specs.WellFormed.{is_block, edge_ends_exist, is_built}
 use Rattle.graph.proofs.FoldLaws.{decided}
 use Rattle.graph.proofs.BlockLaws.{member-none, member-including, length-including}
-use Rattle.graph.proofs.SearchLaws as search-laws
+use Rattle.graph.proofs.SearchLaws as search_laws
 use Rattle.addition.specs.Lists.{keep, is_empty}
 use Rattle.addition.specs.Blocks.{first_of}
 use Rattle.addition.specs.Part.{funclets, ordinary, outgoing, part, returning}
@@ -113,8 +113,8 @@ module _ (g : Graph) (w : List ℕ) (e : ℕ) where
   pub target_bent : Ends g → (i : ℕ) → i < length g.edges → (edge g' i).target < length g.blocks
   target_bent ends i h =
       ⊎_elim
-      (λ t. rw (target_yes i t) (search-laws.target_lt g ends i h))
-      (λ t. rw (target_no i t) (search-laws.source_lt g ends i h))
+      (λ t. rw (target_yes i t) (search_laws.target_lt g ends i h))
+      (λ t. rw (target_no i t) (search_laws.source_lt g ends i h))
       (decided (followed w (edge g i)))
 
   pub ends_bent : Ends g → e < length g.blocks → Ends g'
@@ -125,7 +125,7 @@ module _ (g : Graph) (w : List ℕ) (e : ℕ) where
         edges =
             all_each (λ (i : ℕ). ltb (edge g' i).source (length g'.blocks) && ltb (edge g' i).target (length g'.blocks)) (length g'.edges)
             (λ i lt. let k : i < length g.edges = rw length-bent at lt in
-            rw (source_bent i, blocks_bent) (and_true (lt-ltb _ _ (search-laws.source_lt g ends i k)) (lt-ltb _ _ (target_bent ends i k))));
+            rw (source_bent i, blocks_bent) (and_true (lt-ltb _ _ (search_laws.source_lt g ends i k)) (lt-ltb _ _ (target_bent ends i k))));
       }
     where
       entered : ltb g'.entry (length g'.blocks) ≡ true
@@ -144,29 +144,29 @@ module _ (g : Graph) (w : List ℕ) (e : ℕ) where
 
   pub part_start : e < 1024 → Works g' 0 (length g'.edges) (including none e) (including none e)
   unfolding bounded
-  part_start few = search-laws.works_start g' _ refl few
+  part_start few = search_laws.works_start g' _ refl few
 
   -- ---- the links of a block
 
-  module _ (b : ℕ) (s₀ p₀ s p : List ℕ) (at k : ℕ) (eq : at ≡ suc k) (here : search-laws.Going g' b at s₀ p₀ s p) where
-    leaves : (j i : ℕ) → j ≡ suc k → search-laws.Found g' b i j → (edge g' k).source ≡ b
-    leaves _ i z (search-laws.past rest) = absurd (omega arith)
-    leaves _ i z (search-laws.found_at d le lt is rest) = let same : d ≡ k = omega arith in rw same at is
+  module _ (b : ℕ) (s₀ p₀ s p : List ℕ) (at k : ℕ) (eq : at ≡ suc k) (here : search_laws.Going g' b at s₀ p₀ s p) where
+    leaves : (j i : ℕ) → j ≡ suc k → search_laws.Found g' b i j → (edge g' k).source ≡ b
+    leaves _ i z (search_laws.past rest) = absurd (omega arith)
+    leaves _ i z (search_laws.found_at d le lt is rest) = let same : d ≡ k = omega arith in rw same at is
 
     from_b : (edge g' k).source ≡ b
-    from_b = leaves at here.place eq (rw here.is (search-laws.find g' b here.place here.within))
+    from_b = leaves at here.place eq (rw here.is (search_laws.find g' b here.place here.within))
 
     -- the edge at hand is followed, or leads back to b
     pub bent_on : (at' : ℕ) → at' ≡ link g' (edge g' k).source (suc k) → (edge g' k).target < 1024
-        → search-laws.Going g' b at' s₀ p₀ (cond (followed w (edge g k)) (seeing s (edge g k).target s) s) (cond (followed w (edge g k)) (seeing s (edge g k).target p) p)
+        → search_laws.Going g' b at' s₀ p₀ (cond (followed w (edge g k)) (seeing s (edge g k).target s) s) (cond (followed w (edge g k)) (seeing s (edge g k).target p) p)
     bent_on at' next few =
-        let on = search-laws.going_on g' b s₀ p₀ s p at k eq here at' next few in
+        let on = search_laws.going_on g' b s₀ p₀ s p at k eq here at' next few in
         ⊎_elim
         (λ t. rw t (rw (target_yes k t) at on))
         (λ t. rw t (back (edge g' k).target (target_no k t ∙ sym (source_bent k) ∙ from_b) on))
         (decided (followed w (edge g k)))
       where
-        back : (t : ℕ) → t ≡ b → search-laws.Going g' b at' s₀ p₀ (seeing s t s) (seeing s t p) → search-laws.Going g' b at' s₀ p₀ s p
+        back : (t : ℕ) → t ≡ b → search_laws.Going g' b at' s₀ p₀ (seeing s t s) (seeing s t p) → search_laws.Going g' b at' s₀ p₀ s p
         back t is on =
             record {
               place = on.place;
