@@ -15,8 +15,8 @@ import re
 import shutil
 import sys
 
-# old name -> the name to give it, where snake case falls together with another; here two fields, of which port.py turned
-# some declarations and not others
+# old name -> the name to give it, whatever the rules below say: first two fields of which port.py turned some declarations
+# and not others
 TOGETHER = {
     "first-edge": "first_edge", "first-end": "first_end",
     "not-given": "not_given", "not-routed": "not_routed", "entries-set": "entries_set", "part-put": "part_put",  # fields
