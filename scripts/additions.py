@@ -9,7 +9,7 @@ before and the bytes of the route image, as numbers, is what the Rust gave. `rt`
 hold are printed.
 """
 import argparse, glob, os, re, shutil, struct, subprocess, sys, tempfile, time
-from definitions import ROOT, literal, types
+from definitions import ROOT, copy_crates, literal
 
 PER_FILE = 30
 STANDARD = '1:150 2:150'
@@ -129,9 +129,7 @@ def main():
         os.makedirs(os.path.dirname(os.path.join(folder, path)), exist_ok=True)
         open(os.path.join(folder, path), 'w', encoding='utf-8').write(text)
 
-    for file in sum((glob.glob(f'crates/{crate}/s*/**/*.*t', root_dir=ROOT, recursive=True) for crate in ('image', 'graph', 'addition')), []):
-        text = open(os.path.join(ROOT, file), encoding='utf-8').read()
-        write(file, types(text) if file.endswith('.rt') else text)
+    copy_crates(folder, 'image', 'graph', 'addition')
     write('crates.txt', 'image:\ngraph: image\naddition: graph image\nrows: addition graph image\n')
     write('crates/rows/src/lib.rt', '// Rows to compute.\n#![tactic(auto)]\n')
     write('crates/rows/specs/Dump.antt', DUMP.replace('UNFOLD', unfoldable()))

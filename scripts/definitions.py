@@ -110,18 +110,11 @@ holds m l = same (dump (build_of m)) l
 '''.replace('COMPUTED', ' || '.join(f'eqb u.role {role}' for role in COMPUTED))
 
 
-def types(code):
-    """The modules and types that code declares: the definitions need no more of it."""
-    kept, within = [], False
-    for line in code.splitlines():
-        if used := re.match(r'use ([a-z_:]+)::\{(.*)\};', line):
-            names = ', '.join(name for name in used[2].split(', ') if name[0].isupper())
-            line = f'use {used[1]}::{{{names}}};' if names else ''
-        begins = re.match(r'#!\[tactic|#\[derive|(pub )?(struct|enum|mod|type|const) |use [a-z_:]+::[A-Z{]', line)
-        if begins or within:
-            kept.append(line)
-            within = not (line == '}' or line.endswith((';', ']')) and not line.startswith(' '))
-    return '\n'.join(kept) + '\n'
+def copy_crates(folder, *crates):
+    """The crates as they stand, with their proofs: what a check of them kept elsewhere serves again."""
+    for crate in crates:
+        for part in ('src', 'specs', 'proofs'):
+            shutil.copytree(os.path.join(ROOT, 'crates', crate, part), os.path.join(folder, 'crates', crate, part))
 
 
 def unfoldable():
@@ -164,9 +157,7 @@ def main():
         os.makedirs(os.path.dirname(os.path.join(folder, path)), exist_ok=True)
         open(os.path.join(folder, path), 'w', encoding='utf-8').write(text)
 
-    for file in sum((glob.glob(f'crates/{crate}/s*/**/*.*t', root_dir=ROOT, recursive=True) for crate in ('image', 'graph')), []):
-        text = open(os.path.join(ROOT, file), encoding='utf-8').read()
-        write(file, types(text) if file.endswith('.rt') else text)
+    copy_crates(folder, 'image', 'graph')
     write('crates.txt', 'image:\ngraph: image\nrows: graph image\n')
     write('crates/rows/src/lib.rt', '// Rows to compute.\n#![tactic(auto)]\n')
     write('crates/rows/specs/Dump.antt', DUMP.replace('UNFOLD', unfoldable()))

@@ -1,6 +1,7 @@
 -- A build: what its passes ask, its outcome, and the graph that its stores leave.
+--     building                       what the checks behind the leaders ask
 --     passed, emitting, handled      what the leaders, the edges and the handlers ask
---     build_refused, build_late, build_built, read_refused, read_built     the outcome
+--     build_tabled, build_refused, build_late, build_built, read_refused, read_built     the outcome
 --     code_laid                      the table and the blocks, from nothing
 --     edges_added                    the three passes that add edges, unresolved transfers and calls
 --     ready, graph_laid              the words before the regions, and behind the entry
@@ -24,7 +25,7 @@ use Rattle.graph.specs.Transfer.{table_of, size}
 use Rattle.graph.specs.Blocks.{block_of, blocks_of, entry_of}
 use Rattle.graph.specs.Edges.{normal_edges, exception_edges, edges_of, unresolved_of, calls_of}
 use Rattle.graph.specs.Regions.{regions_of, handlers_of}
-use Rattle.graph.specs.Build.{input_check, result_check, build_check, graph_from, Outcome, built, build_of, build_read, build_from}
+use Rattle.graph.specs.Build.{table_check, input_check, result_check, build_check, graph_from, Outcome, built, build_of, build_read, build_from}
 use Rattle.graph.specs.Answers.{Laid}
 use Rattle.graph.proofs.TableLaws.{length-entries}
 use Rattle.graph.proofs.RangeLaws.{rising}
@@ -35,9 +36,23 @@ use Rattle.graph.proofs.AddingLaws.{added_then, adding-held, table-held, blocks_
 use Rattle.builder.specs.Drafts.{Handled, Whole, with_regions, with_handlers}
 use Rattle.builder.specs.Emit.{Numbered, Emitting}
 use Rattle.builder.specs.Marks.{Passed}
-use Rattle.builder.specs.Answers.{code_only}
+use Rattle.builder.specs.Answers.{code_only, build_answer}
+use Rattle.image.specs.Verdict.{refusal_of as form_refusal}
+use Rattle.image.specs.declared.form.ImageError.{ImageError}
+use Rattle.std.proofs.Common.{Result, Ok, Err}
+use Rattle.std.specs.Result.{IsErrAnd}
 use Rattle.builder.proofs.GivenLaws.{sourced}
 use Rattle.builder.proofs.BoundLaws.{unresolved_few, calls_few}
+use mathlib.Core.Bool.{Bool, false}
+use lib.ListN.{replicate}
+use Rattle.image.specs.Image.{image_in}
+use Rattle.image.specs.declared.section.Layout.{Layout}
+use Rattle.graph.specs.Leaders.{is_leader}
+use Rattle.graph.proofs.BuiltChecks.{parts}
+use Rattle.builder.specs.Ranges.{Ended}
+use Rattle.builder.specs.Marks.{Marked}
+use Rattle.builder.specs.Answers.{Building}
+use Rattle.builder.proofs.MarkLaws.{leading}
 
 -- ---- the checks
 
@@ -55,9 +70,18 @@ module _ (m : Image) (accepted : Accepted m) (p : Parts m) where
     pub handled : Numbered m blocks → Handled m blocks
     handled n = record { few = accepted.handlers_most; table = p.table; passed = p.handlers; numbered = n }
 
+pub building : {marks : List Bool} (s : List ℕ) (y : Layout) (end : ℕ) → Accepted (image_in s y) → Ended (table_of (image_in s y)) end → (clears : input_check (image_in s y) ≡ clear)
+    → Marked y.code.instructions.count (is_leader (image_in s y)) (replicate 512 false) marks → Building (image_in s y) end marks
+building s y end accepted ended clears marked =
+    record { accepted = accepted; passed = clears; ended = ended.1; leading = leading s y (passed _ accepted (parts _ clears)) marked }
+
 -- ---- the outcome
 
 module _ (m : Image) where
+  pub build_tabled : (r : Refusal) → Check.refused r ≡ table_check (table_of m) → Outcome.refused r ≡ build_of m
+  unfolding build_of build_check input_check
+  build_tabled r e = rw (← e)
+
   pub build_refused : (r : Refusal) → Check.refused r ≡ input_check m → Outcome.refused r ≡ build_of m
   unfolding build_of build_check
   build_refused r e = rw (← e)
@@ -73,9 +97,11 @@ module _ (m : Image) where
       (rw (a, b) (ap built is), rw (← is) at laid)
 
 module _ (l : List ℕ) where
-  pub read_refused : (e : AddressBuildError) (r : Refusal) → refusal_of e ≡ r → refusing r ≡ read_image l → Outcome.refused (refusal_of e) ≡ build_from l
+  pub read_refused : {A : Type 0} (w : List ℕ) (e : ImageError) (r : Result A AddressBuildError) → IsErrAnd r (λ x. refusal_of x ≡ form_refusal e) → refusing (form_refusal e) ≡ read_image l
+      → build_answer w r ≡ build_from l
   unfolding build_from build_read
-  read_refused e r is found = rw (← found) (ap Outcome.refused is)
+  read_refused w e (Ok _) fails found = absurd fails
+  read_refused w e (Err x) is found = rw (← found) (ap Outcome.refused is)
 
   pub read_built : (m : Image) → read m ≡ read_image l → build_of m ≡ build_from l
   unfolding build_from build_read

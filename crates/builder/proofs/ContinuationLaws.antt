@@ -11,7 +11,7 @@ use Prim.Native.Nat.{ℕ, ◌+◌, ◌<◌}
 use native.Mathlib.Omega.{arith}
 use borrow.Author.Tests.{eqb-true, eq-eqb, ne_eqb}
 use lib.Dec.{eqb}
-use lib.ListN.{get_or}
+use lib.ListN.{length, get_or}
 use Rattle.image.specs.Refusal.{refusal, Check, clear, ◌then◌, unless}
 use Rattle.image.specs.Record.{instruction_from}
 use Rattle.image.specs.Image.{Image, image_in}
@@ -22,17 +22,17 @@ use Rattle.image.proofs.Tables.{length-records}
 use Rattle.graph.specs.Fold.{checks}
 use Rattle.graph.specs.Table.{is_start}
 use Rattle.graph.specs.Flow.{Flow, slots, slots_of, falls_through, is_call, flow_under}
-use Rattle.graph.specs.Transfer.{table_of, size, instruction_at, address_at, flow_at, Transfer, slot_transfer, transfer_at, slot_count, is_given}
+use Rattle.graph.specs.Transfer.{table_of, size, instruction_at, address_at, flow_at, Transfer, slot_transfer, transfer_at, slot_count, is_given, given_at}
 use Rattle.graph.specs.Blocks.{is_terminator}
 use Rattle.graph.specs.Edges.{resolved}
 use Rattle.graph.specs.Build.{given_mode, given_check, continues, continuation_check}
 use Rattle.graph.proofs.CheckLaws.{checks_clear, checks_at}
 use Rattle.builder.specs.declared.cursor.Visit.{Visit}
-use Rattle.builder.specs.declared.cursor.Given.TheVariants.{Edges, Flow as ByFlow}
 use Rattle.builder.specs.Cursor.{given_for, visit_at}
 use Rattle.builder.specs.Marks.{Leading}
-use Rattle.builder.proofs.CursorLaws.{leads_edges, leads_flow}
+use Rattle.std.specs.Option.{is_some}
 use Rattle.builder.proofs.EdgeLaws.{terminator_is}
+use Rattle.std.proofs.Common.{Some, None}
 
 pub not_continued : (m : Image) → (m.header.mode ≡ 2 → ⊥) → (n : ℕ) → checks (continuation_check m) n ≡ clear
 unfolding continuation_check given_mode
@@ -105,13 +105,21 @@ module _ (m : Image) (mode : m.header.mode ≡ 2) (p : ℕ) where
     is : v.instruction ≡ instruction_at m p
     is = ap (λ (x : Visit). x.instruction) at
 
-    pub given_clear : (n : ℕ) → v.given ≡ Edges n → continuation_check m p ≡ clear
-    unfolding continuation_check given_mode
-    given_clear n given = rw (eq-eqb m.header.mode 2 mode, ends, (leads_edges m p n (sym leads ∙ given)).0)
+    leads_given : is_given m p ≡ is_some v.given
+    unfolding given_for
+    leads_given = rw leads (go (is_given m p))
+      where
+        go : (b : Bool) → b ≡ is_some (cond b (Some (length (given_at m p))) None)
+        go true = refl
+        go false = refl
 
-    module _ (by : v.given ≡ ByFlow) (h : checks (given_check m) (size m) ≡ clear) (here : p < size m) where
+    pub given_clear : is_some v.given ≡ true → continuation_check m p ≡ clear
+    unfolding continuation_check given_mode
+    given_clear given = rw (eq-eqb m.header.mode 2 mode, ends, leads_given ∙ given)
+
+    module _ (by : is_some v.given ≡ false) (h : checks (given_check m) (size m) ≡ clear) (here : p < size m) where
       none : is_given m p ≡ false
-      none = leads_flow m p (sym leads ∙ by)
+      none = leads_given ∙ by
 
       goes : (eqb (instruction_at m p).flow Flow.next || is_call (instruction_at m p).flow) ≡ true
       unfolding given_check given_mode

@@ -46,7 +46,6 @@ use Rattle.graph.specs.Build.{handler_check}
 use Rattle.graph.proofs.FoldLaws.{decided, flat-more, count_yes, count_no, count_add}
 use Rattle.graph.proofs.TableLaws.{length-entries, below_most}
 use Rattle.builder.specs.declared.cursor.Cursor.{Cursor}
-use Rattle.builder.specs.declared.ranges.Ranged.TheVariants.{Positions}
 use Rattle.builder.specs.Cursor.{Sourced, cases_before, sources_before, edges_before, cursor_at}
 use Rattle.builder.specs.Ranges.{Ranges}
 use Rattle.builder.specs.Marks.{Leading}
@@ -55,6 +54,19 @@ use Rattle.builder.specs.EdgeCount.{kept_before, Kept}
 use Rattle.builder.proofs.CursorLaws.{edges_length, cases_length, edges_most}
 use Rattle.builder.proofs.EdgeLaws.{given_edges, flow_edges, switch_edges, two_edges, case_next, terminator_is}
 use Rattle.builder.proofs.ExceptionLaws.{entry_resolved, range_first_law, range_size_law, other_modes, handlers_edges}
+use Rattle.builder.specs.declared.ranges.Positions.{Positions}
+use Rattle.std.specs.Option.{is_some}
+use Rattle.builder.specs.Emit.{Resolves}
+use Rattle.std.proofs.Common.{Ok, Option, Some, None}
+use mir.Val.{bool_byte}
+
+pub bit_most : (b : Bool) → bool_byte b ≤ 1
+bit_most true = omega arith
+bit_most false = omega arith
+
+counted : (b : Bool) (n : ℕ) → n + bool_byte b ≡ word b + n
+counted true n = omega arith
+counted false n = omega arith
 
 -- ---- lists
 
@@ -118,8 +130,8 @@ module _ (m : Image) where
       (λ e. rw e)
       (decided (instruction_at m p).keeps)
 
-  pub kept_next : (p k : ℕ) (i : Instruction) → i ≡ instruction_at m p → k ≡ kept_before m p → word i.keeps + k ≡ kept_before m (p + 1)
-  kept_next p k i i-is k_is = rw (i-is, k_is) (sym (count_next (λ q. (instruction_at m q).keeps) p))
+  pub kept_next : (p k : ℕ) (i : Instruction) → i ≡ instruction_at m p → k ≡ kept_before m p → k + bool_byte i.keeps ≡ kept_before m (p + 1)
+  kept_next p k i i-is k_is = rw (i-is, k_is) (counted (instruction_at m p).keeps (kept_before m p) ∙ sym (count_next (λ q. (instruction_at m q).keeps) p))
 
   pub kept_more : (kept : List ℕ) (p v : ℕ) → p + 1 < length kept → v ≡ kept_before m (p + 1) → ((q : ℕ) → q ≤ p → get_or kept q 0 ≡ kept_before m q)
       → (q : ℕ) → q ≤ p + 1 → get_or (set kept (p + 1) v) q 0 ≡ kept_before m q
@@ -129,15 +141,15 @@ module _ (m : Image) where
         | no other ↦ get_or-set_other kept (p + 1) q v 0 other ∙ before q (omega arith)
       ]
 
-  pub kept_between : (kept : List ℕ) (h first past : ℕ) (a : Handler) → Kept m kept → handler_check m h ≡ clear → a ≡ handler_at m h → Ranges (table_of m) a.start a.end (Positions first past)
-      → get_or kept past 0 ≡ get_or kept first 0 + length (handler_edges m h)
-  kept_between kept h first past a k passed is range =
+  pub kept_between : (kept : List ℕ) (h : ℕ) (p : Positions) (a : Handler) → Kept m kept → handler_check m h ≡ clear → a ≡ handler_at m h → Ranges (table_of m) a.start a.end (Ok p)
+      → get_or kept p.past 0 ≡ get_or kept p.first 0 + length (handler_edges m h)
+  kept_between kept h p a k passed is range =
       let size_is = length-entries m.instructions in
-      let from = range_first_law m h a is first past range in
-      let many = range_size_law m h a is first past range in
-      let split : past ≡ range_first m h + range_size m h = omega arith in
+      let from = range_first_law m h a is p range in
+      let many = range_size_law m h a is p range in
+      let split : p.past ≡ range_first m h + range_size m h = omega arith in
       let edges = flat_each (λ i. unwind_edges m h (range_first m h + i)) (λ i. (instruction_at m (range_first m h + i)).keeps) (range_size m h) (λ i _. unwind_one h (range_first m h + i) passed) in
-      rw (k.before past (omega arith), split, k.before first (omega arith), from, edges)
+      rw (k.before p.past (omega arith), split, k.before p.first (omega arith), from, edges)
       (count_add (λ q. (instruction_at m q).keeps) (range_first m h) (range_size m h))
 
   pub handler_most : (h : ℕ) → length (handler_edges m h) ≤ size m
@@ -277,3 +289,7 @@ bounds l y h mode =
       normal = omega (arith, normal_most m h, (none-given m x mode).0, instructions-are, cases-are);
       exceptional = rw (handlers-are, instructions-are) at (exceptions_most m mode);
     }
+
+pub resolved_told : (m : Image) (x : Transfer) (r : Option ℕ) → Resolves m x r → bool_byte (is_some r) ≡ word (resolved m x)
+resolved_told m x (Some k) found = rw found.0
+resolved_told m x None none = rw none

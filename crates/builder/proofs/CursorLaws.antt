@@ -31,26 +31,25 @@ use Rattle.graph.specs.Transfer.{table_of, size, instruction_at, address_at, cas
 use Rattle.graph.proofs.FoldLaws.{decided, some_at, some_where, some-none, flat_one, count_yes, count_no}
 use Rattle.graph.proofs.TableLaws.{length-entries, entry_address, start_has, rises}
 use Rattle.builder.specs.declared.cursor.Cursor.{Cursor}
-use Rattle.builder.specs.declared.cursor.Given.{Given}
-use Rattle.builder.specs.declared.cursor.Given.TheVariants.{Edges, Flow}
-use Rattle.builder.specs.Cursor.{Sourced, cases_before, sources_before, edges_before, cursor_at, given_for, given_here, after}
+use Rattle.builder.specs.Cursor.{Sourced, cases_before, sources_before, edges_before, cursor_at, given_for, given_here, after, Steps}
+use Rattle.std.proofs.Common.{Option, Some, None}
 
 -- ---- what `given_for` says
 
 module _ (m : Image) (p : ℕ) where
-  pub leads_edges : (n : ℕ) → given_for m p ≡ Edges n → (is_given m p ≡ true) × (length (given_at m p) ≡ n)
+  pub leads_edges : (n : ℕ) → given_for m p ≡ Some n → (is_given m p ≡ true) × (length (given_at m p) ≡ n)
   unfolding given_for
   leads_edges n e = go (is_given m p) refl e
     where
-      go : (b : Bool) → is_given m p ≡ b → cond b (Edges (length (given_at m p))) Flow ≡ Edges n → (is_given m p ≡ true) × (length (given_at m p) ≡ n)
+      go : (b : Bool) → is_given m p ≡ b → cond b (Some (length (given_at m p))) None ≡ Some n → (is_given m p ≡ true) × (length (given_at m p) ≡ n)
       go true b e = (b, cc)
       go false b e = absurd (let z : ◌≡◌ {A = ℕ} 0 1 = cc in omega arith)
 
-  pub leads_flow : given_for m p ≡ Flow → is_given m p ≡ false
+  pub leads_flow : given_for m p ≡ None → is_given m p ≡ false
   unfolding given_for
   leads_flow e = go (is_given m p) refl e
     where
-      go : (b : Bool) → is_given m p ≡ b → cond b (Edges (length (given_at m p))) Flow ≡ Flow → is_given m p ≡ false
+      go : (b : Bool) → is_given m p ≡ b → cond b (Some (length (given_at m p))) None ≡ None → is_given m p ≡ false
       go true b e = absurd (let z : ◌≡◌ {A = ℕ} 0 1 = cc in omega arith)
       go false b e = b
 
@@ -205,7 +204,7 @@ module _ (m : Image) (h : Sourced m) where
     pub given_here_law : given_here m.sources (sources_before m p) (address_at m p) ≡ given_for m p
     unfolding given_here given_for source_at
     given_here_law =
-        ⊎_elim (λ e. let test = sym is_given_law ∙ e in rw test (rw e (ap Edges (sym (edges_length e)))))
+        ⊎_elim (λ e. let test = sym is_given_law ∙ e in rw test (rw e (ap Some (sym (edges_length e)))))
         (λ e. let test = sym is_given_law ∙ e in rw test (rw e refl))
         (decided (is_given m p))
 
@@ -225,12 +224,12 @@ module _ (m : Image) (h : Sourced m) where
 
     -- ---- the cursor behind it
 
-    pub cursor_after : (g : Given) → g ≡ given_for m p → after (cursor_at m p) (instruction_at m p).cases g ≡ cursor_at m (p + 1)
+    pub cursor_after : (g : Option ℕ) → g ≡ given_for m p → after (cursor_at m p) (instruction_at m p).cases g ≡ cursor_at m (p + 1)
     unfolding cases_before sources_before edges_before total
-    cursor_after (Edges n) e =
+    cursor_after (Some n) e =
         let r = leads_edges m p n (sym e) in
         rw (add-one p, count_yes (λ q. is_given m q) p r.0, add-one (sources_before m p), sym r.1 ∙ edges_length r.0)
-    cursor_after Flow e = rw (add-one p, count_no (λ q. is_given m q) p (leads_flow m p (sym e)))
+    cursor_after None e = rw (add-one p, count_no (λ q. is_given m q) p (leads_flow m p (sym e)))
 
   pub sources_most : (p : ℕ) → p ≤ size m → sources_before m p ≤ length m.sources
   sources_most p hp = (splits p hp).most
@@ -247,14 +246,15 @@ module _ (m : Image) (h : Sourced m) where
     pub visit_given : given_here m.sources c.source i.address ≡ given_for m p
     visit_given = rw (here, is) (given_here_law p hp)
 
-    module _ (g : Given) (leads : g ≡ given_for m p) where
+    module _ (g : Option ℕ) (leads : g ≡ given_for m p) where
       pub visit_next : after c i.cases g ≡ cursor_at m (p + 1)
       visit_next = rw (here, is) (cursor_after p hp g leads)
 
-      pub visit_fits : (c.at < 512) × (c.case + i.cases ≤ 512) × ((after c i.cases g).source ≤ 512) × ((after c i.cases g).edge ≤ 512)
-      visit_fits = (
-        rw here (omega (arith, h.accepted.instructions_most)),
-        rw (here, is) (omega (arith, cases_within p hp, h.accepted.cases_most)),
-        rw visit_next (omega (arith, sources_most (p + 1) (omega arith), h.accepted.sources_most)),
-        rw visit_next (omega (arith, edges_most (p + 1) (omega arith), h.accepted.edges_most)),
-      )
+      pub visit_fits : Steps c i.cases g
+      visit_fits =
+          record {
+            at = rw here (omega (arith, h.accepted.instructions_most));
+            case = rw (here, is) (omega (arith, cases_within p hp, h.accepted.cases_most));
+            source = rw visit_next (omega (arith, sources_most (p + 1) (omega arith), h.accepted.sources_most));
+            edge = rw visit_next (omega (arith, edges_most (p + 1) (omega arith), h.accepted.edges_most));
+          }

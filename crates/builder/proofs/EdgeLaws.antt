@@ -32,8 +32,6 @@ use Rattle.image.specs.declared.record.GivenEdge.{GivenEdge}
 use Rattle.image.specs.Image.{Image}
 use Rattle.graph.specs.declared.record.Edge.{Edge}
 use Rattle.graph.specs.declared.record.UnresolvedTransfer.{UnresolvedTransfer}
-use Rattle.graph.specs.declared.found.Found.{Found}
-use Rattle.graph.specs.declared.found.Found.TheVariants.{At, Nothing}
 use Rattle.graph.specs.Lookup.{Finds}
 use Rattle.graph.specs.Flow.{Flow, Role, From, Slot, slots_of, falls_through, is_call, flow_under}
 use Rattle.graph.specs.Transfer.{table_of, size, instruction_at, address_at, flow_at, Transfer, has_target, slot_transfer, cases_at, transfer_at, slot_count, is_given, given_at, given}
@@ -47,19 +45,20 @@ use Rattle.builder.specs.Cursor.{Sourced, cursor_at}
 use Rattle.builder.specs.Marks.{Leading}
 use Rattle.builder.specs.Emit.{Emitting, Resolves, edge_between, unresolved_from, slot_edges, slot_unresolved, case_at, case_edges, case_unresolved}
 use Rattle.builder.proofs.CursorLaws.{edge_is, edges_within_law, case_is, cases_within, cases_length}
+use Rattle.std.proofs.Common.{Option, Some, None}
 
 module _ (m : Image) (x : Transfer) where
-  pub resolves : (f : Found) → has_target x ≡ true → Finds (table_of m) x.target f → Resolves m x f
+  pub resolves : (f : Option ℕ) → has_target x ≡ true → Finds (table_of m) x.target f → Resolves m x f
   unfolding resolved
-  resolves (At k) has found = (rw has found.0, found.1, rw (length-entries m.instructions) at found.2)
-  resolves Nothing has none = rw has none
+  resolves (Some k) has found = (rw has found.0, found.1, rw (length-entries m.instructions) at found.2)
+  resolves None has none = rw has none
 
   pub resolved-not : has_target x ≡ false → resolved m x ≡ false
   unfolding resolved
   resolved-not none = rw none
 
   module _ (p : ℕ) where
-    pub edge_found : (blocks : List ℕ) (k a b c : ℕ) (e : Edge) → Emitting m blocks → p < size m → Resolves m x (At k)
+    pub edge_found : (blocks : List ℕ) (k a b c : ℕ) (e : Edge) → Emitting m blocks → p < size m → Resolves m x (Some k)
         → a ≡ address_at m p → b ≡ get_or blocks p 0 → c ≡ get_or blocks k 0 → e ≡ edge_between b c a x → transfer_edges m p x ≡ e ∷ []
     unfolding transfer_edges block_at
     edge_found blocks k a b c e n here r a-is b-is c-is e-is =
@@ -85,7 +84,7 @@ module _ (m : Image) (x : Transfer) where
     unresolved_of_law e = rw (e, or-false (eqb x.from From.nowhere || falls_through x.role))
 
 module _ (m : Image) (blocks : List ℕ) (h : Emitting m blocks) (p : ℕ) (here : p < size m) where
-  pub given_found : (x : GivenEdge) (k b c : ℕ) → Finds (table_of m) x.target (At k) → b ≡ get_or blocks p 0 → c ≡ get_or blocks k 0
+  pub given_found : (x : GivenEdge) (k b c : ℕ) → Finds (table_of m) x.target (Some k) → b ≡ get_or blocks p 0 → c ≡ get_or blocks k 0
       → given_edge m p x ≡ record { source = b; target = c; kind = x.kind; role = Role.given; number = x.payload; key = 0; source_address = 0; target_address = 0 }
   unfolding given_edge block_at
   given_found x k b c found b-is c-is =

@@ -28,9 +28,10 @@ use Rattle.graph.specs.Build.{handler_check}
 use Rattle.graph.specs.Adding.{Added}
 use Rattle.graph.proofs.AddingLaws.{added_none, edges_more}
 use Rattle.graph.proofs.BuiltRegions.{entry_clear}
-use Rattle.builder.specs.declared.ranges.Ranged.TheVariants.{Positions}
 use Rattle.builder.specs.Emit.{Numbered, edge_between, handler_edges}
 use Rattle.builder.specs.Ranges.{Ranges}
+use Rattle.builder.specs.declared.ranges.Positions.{Positions}
+use Rattle.std.proofs.Common.{Ok}
 
 module _ (m : Image) where
   pub edge_to : (x : Transfer) (p : ℕ) (blocks : List ℕ) (i : Instruction) (b c : ℕ) (e : Edge) → Numbered m blocks → p < size m → resolved m x ≡ true
@@ -48,12 +49,12 @@ module _ (m : Image) where
       unfolding unwind_edges
       unwind_is p = rw (x_is, is)
 
-    module _ (first past : ℕ) (range : Ranges (table_of m) a.start a.end (Positions first past)) where
-      pub range_first_law : first ≡ range_first m h
+    module _ (p : Positions) (range : Ranges (table_of m) a.start a.end (Ok p)) where
+      pub range_first_law : p.first ≡ range_first m h
       unfolding range_first
       range_first_law = rw is at range.1
 
-      pub range_size_law : past - first ≡ range_size m h
+      pub range_size_law : p.past - p.first ≡ range_size m h
       unfolding range_first range_size
       range_size_law = rw (range.1, range.2, is)
 

@@ -29,12 +29,12 @@ use Rattle.graph.specs.Leaders.{goes_on, gap_mark, sequence_mark, leads_to, end_
 use Rattle.graph.proofs.RuleLaws.{both_true}
 use Rattle.graph.proofs.FoldLaws.{decided, all_at, some_same, some_front, some_or}
 use Rattle.builder.specs.declared.cursor.Cursor.{Cursor}
-use Rattle.builder.specs.declared.cursor.Given.TheVariants.{Edges, Flow as ByFlow}
 use Rattle.builder.specs.Cursor.{Sourced, cases_before, edges_before, cursor_at, given_for}
 use Rattle.builder.specs.Marks.{Marked, slot_mark, case_mark, edge_mark, switch_cases, names_mark, lead_mark, funclet_end, visit_mark, instruction_mark}
 use Rattle.builder.proofs.CursorLaws.{leads_edges, leads_flow, same_place, cases_length, case_is, edge_is}
 use Rattle.builder.proofs.EdgeLaws.{given_inside as all-given, case_inside}
 use Rattle.builder.proofs.MarkLaws.{mark_none, mark_then, mark_as, some_own, eqb_comm}
+use Rattle.std.proofs.Common.{Some, None}
 
 pub names_are : (m : Image) (first : ℕ) (i : Instruction) (flow n : ℕ) (x : Slot × Slot) → flow ≡ flow_under m.header.calls i.flow → x ≡ slots_of flow → n ≡ switch_cases flow i → (p : ℕ) → (slot_mark m i x.0 p || case_mark m first n p) ≡ names_mark m first i p
 unfolding names_mark
@@ -172,7 +172,7 @@ pub visits_all : {n : ℕ} {l r : List Bool} (m : Image) (k : ℕ) → k ≡ siz
 visits_all m k all n a = mark_as (instruction_mark m) (λ p hp. rw all (visits_are m p (rw (← n) hp))) a
 
 module _ (m : Image) (h : Sourced m) (c : Cursor) (here : c ≡ cursor_at m c.at) (within : c.at < size m) where
-  pub given_inside : (k : ℕ) → given_for m c.at ≡ Edges k → c.edge + k ≤ length m.edges
+  pub given_inside : (k : ℕ) → given_for m c.at ≡ Some k → c.edge + k ≤ length m.edges
   given_inside k leads =
       let g = leads_edges m c.at k leads in
       omega (arith, g.1, all-given m h c here within g.0)
@@ -180,7 +180,7 @@ module _ (m : Image) (h : Sourced m) (c : Cursor) (here : c ≡ cursor_at m c.at
   pub flow_inside : (i : Instruction) → i ≡ instruction_at m c.at → c.case + i.cases ≤ length m.cases
   flow_inside i is = rw is (case_inside m h c here within)
 
-  pub given_marks : {n : ℕ} {l r t : List Bool} (k : ℕ) → given_for m c.at ≡ Edges k → Marked n (edge_mark m c.edge k) l r → Marked n (λ p. eqb p (c.at + 1)) r t → Marked n (lead_mark m c.at) l t
+  pub given_marks : {n : ℕ} {l r t : List Bool} (k : ℕ) → given_for m c.at ≡ Some k → Marked n (edge_mark m c.edge k) l r → Marked n (λ p. eqb p (c.at + 1)) r t → Marked n (lead_mark m c.at) l t
   unfolding ends_at lead_mark
   given_marks k leads a b =
       let g = leads_edges m c.at k leads in
@@ -188,7 +188,7 @@ module _ (m : Image) (h : Sourced m) (c : Cursor) (here : c ≡ cursor_at m c.at
       (λ p _. sym (rw (g.0, g.1, ← add-one c.at, ← ap (λ (x : Cursor). x.edge) here)))
       (mark_then a b)
 
-  module _ (leads : given_for m c.at ≡ ByFlow) (i : Instruction) (is : i ≡ instruction_at m c.at) where
+  module _ (leads : given_for m c.at ≡ None) (i : Instruction) (is : i ≡ instruction_at m c.at) where
     none : is_given m c.at ≡ false
     none = leads_flow m c.at leads
 

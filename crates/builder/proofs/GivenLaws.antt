@@ -27,9 +27,9 @@ use Rattle.graph.proofs.CheckLaws.{checks-same, checks_clear, checks_at}
 use Rattle.graph.proofs.RangeLaws.{rising}
 use Rattle.builder.specs.declared.cursor.Cursor.{Cursor}
 use Rattle.builder.specs.declared.cursor.Visit.{Visit}
-use Rattle.builder.specs.declared.cursor.Given.TheVariants.{Edges, Flow as ByFlow}
 use Rattle.builder.specs.Cursor.{Sourced, cursor_at, given_for, visit_at}
 use Rattle.builder.proofs.CursorLaws.{leads_edges, leads_flow, edges_within_law, edge_is}
+use Rattle.std.proofs.Common.{Some, None}
 
 pub order_at : (t : List TableEntry) (p : ℕ) → (p ≡ 0 → ⊥)
     → order_check t p ≡ unless (ltb (entry_at t (p - 1)).address (entry_at t p).address) (refusal 5 (entry_at t (p - 1)).address (entry_at t p).address)
@@ -41,7 +41,7 @@ module _ (m : Image) (h : Sourced m) (p : ℕ) (hp : p < size m) (c : Cursor) (v
   leads : v.given ≡ given_for m p
   leads = ap (λ (x : Visit). x.given) at
 
-  module _ (n : ℕ) (e : v.given ≡ Edges n) where
+  module _ (n : ℕ) (e : v.given ≡ Some n) where
     given_edges : (is_given m p ≡ true) × (length (given_at m p) ≡ n)
     given_edges = leads_edges m p n (sym leads ∙ e)
 
@@ -54,7 +54,7 @@ module _ (m : Image) (h : Sourced m) (p : ℕ) (hp : p < size m) (c : Cursor) (v
         rw (here, at, given_edges.0, given_edges.1)
         (checks-same _ _ n (λ k hk. ap (target_check (table_of m) (address_at m p)) (sym (edge_is m h p hp given_edges.0 k (rw given_edges.1 hk)))))
 
-  pub visit_flow : m.header.mode ≡ 2 → v.given ≡ ByFlow
+  pub visit_flow : m.header.mode ≡ 2 → v.given ≡ None
       → unless (eqb v.instruction.flow Flow.next || is_call v.instruction.flow) (refusal 9 v.instruction.address 0) ≡ given_check m p
   unfolding given_check given_mode
   visit_flow mode e = rw (at, leads_flow m p (sym leads ∙ e), eq-eqb m.header.mode 2 mode)

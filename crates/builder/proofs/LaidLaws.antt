@@ -1,19 +1,18 @@
 -- The table and its blocks, as they are stored and numbered.
 --     table_next                             which entry comes next
---     goes_on, ends_table                    whether the next instruction is of the same block, by its mark
 --     same_first, next_first                 where its block begins
 --     block_ends, block_on                   the block that ends at a position, and none
---     number_is, numbers_more, one_more      the number of a block, from that of the position before
+--     number_is, numbers_more, stepped, one_more      the number of a block, from that of the position before
 -- Assumes nothing.
-use mathlib.Core.Bool.{Bool, true, false, cond, not}
-use mathlib.Core.Path.{◌≡◌, sym, ap, ap₂, ◌∙◌}
+use mathlib.Core.Bool.{Bool, true, false, cond}
+use mathlib.Core.Path.{◌≡◌, refl, sym, ap, ap₂, ◌∙◌}
 use mathlib.Core.Logic.{⊎_elim}
 use mathlib.Core.List.{List, [], ◌∷◌, ◌++◌}
 use Prim.Native.Nat.{ℕ, zero, suc, ◌+◌, ◌-◌, ◌≤◌, ◌<◌}
+use mir.Val.{bool_byte}
 use native.Mathlib.Numerals.{add-one}
 use native.Mathlib.Decide.{ℕ_discrete}
 use native.Mathlib.Omega.{arith}
-use borrow.Author.Tests.{eq-eqb, ne_eqb}
 use lib.ListN.{length, get_or, set, take}
 use lib.Seq.{take-suc, get_or-set_same, get_or-set_other}
 use Rattle.image.specs.Record.{instruction_from}
@@ -42,16 +41,6 @@ table_next is p h =
 
 module _ (m : Image) where
   module _ (p : ℕ) where
-    pub goes_on : (marks : List Bool) → Leading m marks → p + 1 < size m → not (get_or marks (p + 1) false) ≡ not (is_terminator m p)
-    unfolding is_terminator
-    goes_on marks leading h =
-        rw (ne_eqb (suc p) (size m) (λ e. omega arith))
-        (ap (λ (k : ℕ). not (get_or marks k false)) (add-one p) ∙ ap not (leading (suc p) (omega arith)))
-
-    pub ends_table : p < size m → size m ≤ p + 1 → false ≡ not (is_terminator m p)
-    unfolding is_terminator
-    ends_table h le = rw (eq-eqb (suc p) (size m) (omega arith))
-
     pub same_first : is_terminator m p ≡ false → suc p < size m → first_of m (suc p) ≡ first_of m p
     unfolding first_of
     same_first e h = rw (sym (leads_next m p h) ∙ e)
@@ -95,3 +84,7 @@ module _ (m : Image) where
 pub one_more : (b : Bool) (n : ℕ) → cond b (n + 1) n ≤ n + 1
 one_more true n = omega arith
 one_more false n = omega arith
+
+pub stepped : (b : Bool) (n : ℕ) → n + bool_byte b ≡ cond b (n + 1) n
+stepped true n = refl
+stepped false n = omega arith

@@ -1,3 +1,5 @@
+pub mod Sizes
+pub mod Row
 pub mod DraftLaws
 pub mod RegionLaws
 pub mod RangedLaws

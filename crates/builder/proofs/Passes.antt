@@ -17,11 +17,11 @@ use Rattle.graph.specs.Build.{build_check, graph_from, Outcome, built, refused, 
 use Rattle.graph.specs.WellFormed.{well_formed}
 use Rattle.graph.proofs.BuiltChecks.{parts, input_clear}
 use Rattle.graph.proofs.Built.{graph_passes}
-use Rattle.builder.specs.declared.build.Built.{Built}
-use Rattle.builder.specs.declared.build.Built.TheVariants.{Stored, Refused}
 use Rattle.builder.specs.Answers.{build_answer, BuildLeaves, Graphed}
 use Rattle.builder.proofs.BoundLaws.{unresolved_few, calls_few}
 use Rattle.builder.proofs.BuildLaws.{passed}
+use Rattle.graph.specs.declared.error.AddressBuildError.{AddressBuildError}
+use Rattle.std.proofs.Common.{Result, Ok, Err}
 
 -- the graph of an outcome, and which of the two it is
 abbrev graph_or : Graph → Outcome → Graph
@@ -49,6 +49,6 @@ build_passes l g e = of_reading (read_image l) refl e
     of_reading (read m) is e = of_check m is (build_check m) refl e
     of_reading (refusing r) is e = absurd (let z : ◌≡◌ {A = ℕ} 0 1 = ap which e in omega arith)
 
-pub graphed : (l w w' : List ℕ) (r : Built) → build_answer w' r ≡ build_from l → BuildLeaves w w' r → Graphed w' r
-graphed l w w' Stored e laid = ap well_formed laid.holds ∙ build_passes l (held_in w').graph e
-graphed l w w' (Refused x) e kept = tt
+pub graphed : {A : Type 0} (l w w' : List ℕ) (r : Result A AddressBuildError) → build_answer w' r ≡ build_from l → BuildLeaves w w' r → Graphed w' r
+graphed l w w' (Ok _) e laid = ap well_formed laid.holds ∙ build_passes l (held_in w').graph e
+graphed l w w' (Err x) e kept = tt

@@ -1,4 +1,5 @@
 -- Regions and handler records, field by field.
+--     parent_told, parent_number      a parent, as a region keeps it
 --     contains_is                     what is read of the ranges of two handlers
 --     parent_in_law, parent_out           one region more: whether it contains region r
 --     set-none, set_more, set_same    the blocks from a position on: none, one more, and they hang on f alone
@@ -25,7 +26,6 @@ use Rattle.image.specs.Image.{Image, table}
 use Rattle.image.specs.declared.record.Handler.{Handler}
 use Rattle.image.proofs.Checks.{then_left}
 use Rattle.graph.specs.Table.{is_start, range_check}
-use Rattle.graph.specs.declared.found.Found.TheVariants.{At}
 use Rattle.graph.specs.Lookup.{Finds}
 use Rattle.graph.specs.Transfer.{table_of}
 use Rattle.graph.specs.Blocks.{block_of, block_at}
@@ -42,34 +42,35 @@ use Rattle.graph.specs.Regions.{same_range, contains, span, place, is_draft, dra
 use Rattle.graph.proofs.FoldLaws.{length-table}
 use Rattle.graph.proofs.StoredLaws.{stored_then, region-more, handler-more}
 use Rattle.graph.proofs.TableLaws.{length-entries}
-use Rattle.builder.specs.declared.ranges.Ranged.TheVariants.{Positions}
 use Rattle.builder.specs.Emit.{Numbered}
 use Rattle.builder.specs.Ranges.{Ranges}
 use Rattle.builder.specs.Drafts.{Extents, Whole, with_regions, with_handlers}
+use Rattle.builder.specs.declared.ranges.Positions.{Positions}
+use Rattle.std.proofs.Common.{Some, Ok}
+use Rattle.std.specs.Option.{is_some, unwrap_or, option_to_list}
+use Rattle.std.proofs.Common.{Option, None}
+use mir.Val.{bool_byte}
 
 pub set_same : (f g : ℕ → ℕ) (n : ℕ) → ((i : ℕ) → i < n → f i ≡ g i) → set_below f n ≡ set_below g n
 unfolding set_below
 set_same f g zero same = refl
 set_same f g (suc n) same = ap₂ including (set_same f g n (λ i h. same i (omega arith))) (same n (omega arith))
 
-module _ (f : ℕ → ℕ) (first : ℕ) where
-  pub set-none : replicate 16 0 ≡ set_below (λ i. f (first + i)) (first - first)
+module _ (f : ℕ → ℕ) where
+  pub set-none : replicate 16 0 ≡ set_below f 0
   unfolding set_below
-  set-none = let none : first - first ≡ 0 = omega arith in rw none
+  set-none = refl
 
-  pub set_more : (p : ℕ) → first ≤ p → including (set_below (λ i. f (first + i)) (p - first)) (f p) ≡ set_below (λ i. f (first + i)) (p + 1 - first)
+  pub set_more : (k : ℕ) → including (set_below f k) (f k) ≡ set_below f (k + 1)
   unfolding set_below
-  set_more p h =
-      let more : p + 1 - first ≡ suc (p - first) = omega arith in
-      let here : first + (p - first) ≡ p = omega arith in
-      rw (more, here)
+  set_more k = rw (add-one k)
 
 pub contains_is : {m : Image} {starts ends : List ℕ} → Extents m starts ends → (a b : ℕ) → (not (same_range m a b) && leb (get_or starts a 0) (get_or starts b 0) && leb (get_or ends b 0) (get_or ends a 0)) ≡ contains m a b
 unfolding contains
 contains_is extents a b = rw (extents.start a, extents.start b, extents.end a, extents.end b)
 
 module _ (m : Image) where
-  pub block_found : (blocks : List ℕ) (a p b : ℕ) → Numbered m blocks → Finds (table_of m) a (At p) → b ≡ get_or blocks p 0 → b ≡ block_at m a
+  pub block_found : (blocks : List ℕ) (a p b : ℕ) → Numbered m blocks → Finds (table_of m) a (Some p) → b ≡ get_or blocks p 0 → b ≡ block_at m a
   unfolding block_at
   block_found blocks a p b numbered found e =
       e ∙ numbered.block p (rw (length-entries m.instructions) at found.2) ∙ ap (block_of m) (sym found.1)
@@ -121,13 +122,13 @@ module _ (m : Image) where
   unfolding drafts
   draft-below r h = drafts-below (length m.handlers) r h
 
-  pub range_known : (blocks : List ℕ) (h first past : ℕ) (a : Handler) → Numbered m blocks → a ≡ handler_at m h → Ranges (table_of m) a.start a.end (Positions first past)
-      → set_below (λ i. get_or blocks (first + i) 0) (past - first) ≡ set_below (λ i. block_of m (range_first m h + i)) (range_size m h)
+  pub range_known : (blocks : List ℕ) (h : ℕ) (k : Positions) (a : Handler) → Numbered m blocks → a ≡ handler_at m h → Ranges (table_of m) a.start a.end (Ok k)
+      → set_below (λ i. get_or blocks (k.first + i) 0) (k.past - k.first) ≡ set_below (λ i. block_of m (range_first m h + i)) (range_size m h)
   unfolding range_first range_size
-  range_known blocks h first past a numbered is range =
+  range_known blocks h k a numbered is range =
       let r = rw is at range in
       let size = length-entries m.instructions in
-      set_same (λ i. get_or blocks (first + i) 0) (λ i. block_of m (first + i)) (past - first) (λ i lt. numbered.block (first + i) (omega arith))
+      set_same (λ i. get_or blocks (k.first + i) 0) (λ i. block_of m (k.first + i)) (k.past - k.first) (λ i lt. numbered.block (k.first + i) (omega arith))
       ∙ rw (r.1, r.2)
 
   module _ (h : ℕ) (passed : handler_check m h ≡ clear) where
@@ -179,3 +180,13 @@ module _ (g : Graph) where
   pub handlers_more : (f : ℕ → HandlerRecord) (i : ℕ) (x : HandlerRecord) → i < 32 → x ≡ f i → with_handler (held (with_handlers g (table f i))) x ≡ held (with_handlers g (table f (i + 1)))
   unfolding table
   handlers_more f i x h e = handler-more (with_handlers g (table f i)) x (rw (length-table f i) h) ∙ rw (e, add-one i)
+
+-- ---- the parent, as a region keeps it
+
+pub parent_told : (p : Option ℕ) → bool_byte (is_some p) ≡ length (option_to_list p)
+parent_told (Some k) = refl
+parent_told None = refl
+
+pub parent_number : (p : Option ℕ) → unwrap_or p 0 ≡ get_or (option_to_list p) 0 0
+parent_number (Some k) = refl
+parent_number None = refl

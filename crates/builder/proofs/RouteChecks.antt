@@ -3,6 +3,7 @@
 --     path_entries               14 of a path, step by step
 --     step_check, step_names, step_calls     14 of a step
 --     end_check, end_names, end_leaves       14 of an end
+--     path_steps, path_few, path_behind      where the steps of a path that was read end
 -- Assumes nothing.
 use mathlib.Core.Bool.{Bool, true, false, cond, not}
 use mathlib.Core.Path.{◌≡◌, refl, ap, ◌∙◌}
@@ -24,6 +25,15 @@ use Rattle.graph.specs.Route.{route_at, funclet_of, funclets, resumes_late, hand
 use Rattle.graph.proofs.CheckLaws.{checks-same, each_append, each_flat}
 use Rattle.graph.proofs.RouteLaws.{route, path, step, route_is, paths_of_law, path_of, steps_of, step_of_law, end_of_law}
 use Rattle.builder.specs.Ranges.{named_check, path_check}
+use mathlib.Core.List.{[]}
+use Prim.Native.Nat.{◌≤◌}
+use native.Mathlib.Omega.{arith}
+use lib.ListN.{get_or}
+use Rattle.image.specs.Record.{path_from, step_from}
+use Rattle.image.specs.Image.{routes_in}
+use Rattle.image.specs.declared.section.RouteLayout.{RouteLayout}
+use Rattle.image.proofs.Tables.{length-records}
+use Rattle.graph.proofs.RouteLaws.{steps_in_law, steps_next}
 
 -- 14 of one step, and of a path's end
 abbrev pub step_check : List TableEntry → Step → Check
@@ -72,3 +82,14 @@ module _ (m : RouteImage) (ok : AcceptedRoutes m) where
   path_entries p h t =
       each_append _ (funclets (path_in m p)) (handler_of (path_in m p).end)
       ∙ rw (end_of_law m ok p h, each_flat, steps_of m ok p h) (ap (λ (c : Check). c then end_check t (path m p)) (checks-same _ _ (path m p).steps (λ j hj. ap (λ (x : UnwindStep). check_each (named_check t) (funclet_of x)) (step_of_law m ok p h j hj))))
+
+module _ (s : List ℕ) (y : RouteLayout) (ok : AcceptedRoutes (routes_in s y)) (p : ℕ) (among : p < length (routes_in s y).paths)
+    (step : ℕ) (here : step ≡ steps_before (routes_in s y) p) (x : Path) (is : x ≡ get_or (routes_in s y).paths p (path_from [] 0)) where
+  pub path_steps : step + x.steps ≤ y.steps.count
+  path_steps = omega (arith, steps_in_law (routes_in s y) ok p among, here, ap (λ (x : Path). x.steps) is, length-records step_from s y.steps)
+
+  pub path_few : step + x.steps ≤ 512
+  path_few = omega (arith, path_steps, length-records step_from s y.steps, ok.steps_most)
+
+  pub path_behind : step + x.steps ≡ steps_before (routes_in s y) (p + 1)
+  path_behind = omega (arith, steps_next (routes_in s y) p, here, ap (λ (x : Path). x.steps) is)

@@ -1,14 +1,15 @@
 -- The table of transfers.
 --     slots_at     the code's table, by its numbers, is the definition's
---     kind_low, kind_high, kind_past     the kinds of roles, as the code counts them
 -- Assumes nothing.
 use mathlib.Core.Path.{◌≡◌, refl, sym, ◌∙◌}
 use mathlib.Core.List.{List, [], ◌∷◌}
-use Prim.Native.Nat.{ℕ, zero, suc, ◌-◌, ◌<◌, ◌≤◌}
+use Prim.Native.Nat.{ℕ, zero, suc, ◌<◌, ◌≤◌}
 use native.Mathlib.Omega.{arith}
-use lib.ListN.{length, get_or, get_or-map, get_or-eq_default}
-use Rattle.graph.specs.Flow.{Role, empty, slots, slots_of, kind_of}
+use lib.ListN.{length, get_or, get_or-map}
+use Rattle.graph.specs.Flow.{empty, slots, slots_of}
 use Rattle.builder.specs.Slots.{slots_in}
+use Rattle.builder.specs.declared.roles.EdgeRole.{EdgeRole}
+use Rattle.builder.specs.declared.roles.EdgeRole.TheVariants as R
 use Rattle.builder.specs.declared.transfer.Origin.{Origin}
 use Rattle.builder.specs.declared.transfer.Origin.TheVariants.{Nowhere, Computed, Named, End}
 use Rattle.builder.specs.declared.transfer.Slot.{Slot as OneSlot}
@@ -19,7 +20,7 @@ default [] k d e h = absurd (omega arith)
 default (x ∷ l) zero d e h = refl
 default (x ∷ l) (suc k) d e h = default l k d e (omega arith)
 
-abbrev one : ℕ → Origin → OneSlot
+abbrev one : EdgeRole → Origin → OneSlot
 one r f = (r, f)
 
 abbrev two : OneSlot → OneSlot → Slots
@@ -28,55 +29,26 @@ two a b = (a, b)
 -- the table of the code
 abbrev pub table : List Slots
 table =
-    let none = one Role.sequential Nowhere in
-    let next = one Role.sequential End in
-    let fall = one Role.conditional_fall_through End in
-    let back = one Role.call_continuation End in
+    let none = one R.Sequential Nowhere in
+    let next = one R.Sequential End in
+    let fall = one R.ConditionalFallThrough End in
+    let back = one R.CallContinuation End in
     two next none ∷
     two none none ∷
     two none none ∷
-    two (one Role.jump Computed) none ∷
-    two (one Role.conditional_taken Computed) fall ∷
-    two (one Role.call Computed) back ∷
-    two (one Role.jump Named) none ∷
-    two (one Role.conditional_taken Named) fall ∷
-    two (one Role.call Named) back ∷
-    two (one Role.exceptional Named) next ∷
-    two (one Role.exceptional Computed) none ∷
-    two (one Role.exceptional Computed) next ∷
-    two (one Role.switch_default Named) none ∷
+    two (one R.Jump Computed) none ∷
+    two (one R.ConditionalTaken Computed) fall ∷
+    two (one R.Call Computed) back ∷
+    two (one R.Jump Named) none ∷
+    two (one R.ConditionalTaken Named) fall ∷
+    two (one R.Call Named) back ∷
+    two (one R.Exceptional Named) next ∷
+    two (one R.Exceptional Computed) none ∷
+    two (one R.Exceptional Computed) next ∷
+    two (one R.SwitchDefault Named) none ∷
     []
 
 -- both tables are written out, so that they are the same is computed
 pub slots_at : (k : ℕ) (d : Slots) → k ≤ 12 → slots_in (get_or table k d) ≡ slots_of k
 unfolding slots_of slots
 slots_at k d h = sym (get_or-map slots_in table k d) ∙ default slots k (slots_in d) (empty, empty) (omega arith)
-
-abbrev kinds : List ℕ
-kinds = 0 ∷ 1 ∷ 2 ∷ 3 ∷ 4 ∷ 4 ∷ 5 ∷ 6 ∷ []
-
-module _ (k : ℕ) where
-  pub kind_past : 8 ≤ k → 7 ≡ kind_of k
-  unfolding kind_of
-  kind_past h = sym (get_or-eq_default kinds 7 h)
-
-pub kind_low : (k : ℕ) → k < 5 → k ≡ kind_of k
-unfolding kind_of
-kind_low zero h = refl
-kind_low (suc zero) h = refl
-kind_low (suc (suc zero)) h = refl
-kind_low (suc (suc (suc zero))) h = refl
-kind_low (suc (suc (suc (suc zero)))) h = refl
-kind_low (suc (suc (suc (suc (suc k))))) h = absurd (omega arith)
-
-pub kind_high : (k : ℕ) → 5 ≤ k → k < 8 → k - 1 ≡ kind_of k
-unfolding kind_of
-kind_high zero l h = absurd (omega arith)
-kind_high (suc zero) l h = absurd (omega arith)
-kind_high (suc (suc zero)) l h = absurd (omega arith)
-kind_high (suc (suc (suc zero))) l h = absurd (omega arith)
-kind_high (suc (suc (suc (suc zero)))) l h = absurd (omega arith)
-kind_high (suc (suc (suc (suc (suc zero))))) l h = refl
-kind_high (suc (suc (suc (suc (suc (suc zero)))))) l h = refl
-kind_high (suc (suc (suc (suc (suc (suc (suc zero))))))) l h = refl
-kind_high (suc (suc (suc (suc (suc (suc (suc (suc k)))))))) l h = absurd (omega arith)

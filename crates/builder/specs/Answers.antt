@@ -1,5 +1,5 @@
 -- What a build answers, and what it leaves in the words that it is lent.
-use Rattle.std.specs.Prelude.{Bool, true, ◌≡◌, List, [], ℕ}
+use Rattle.std.specs.Prelude.{Bool, true, ◌≡◌, List, [], ℕ, Result, Ok, Err}
 use Rattle.image.specs.Refusal.{clear}
 use Rattle.image.specs.Image.{Image}
 use Rattle.image.specs.Accepted.{Accepted}
@@ -12,24 +12,23 @@ use Rattle.graph.specs.WellFormed.{well_formed}
 use Rattle.graph.specs.Table.{code_end_of}
 use Rattle.graph.specs.Transfer.{table_of}
 use Rattle.graph.specs.Blocks.{blocks_of}
-use Rattle.builder.specs.declared.build.Built.{Built}
-use Rattle.builder.specs.declared.build.Built.TheVariants.{Stored, Refused}
+use Rattle.graph.specs.declared.error.AddressBuildError.{AddressBuildError}
 use Rattle.builder.specs.Marks.{Leading}
 
 -- a build: the graph that now stands in the words, or the refusal
-abbrev pub build_answer : List ℕ → Built → Outcome
-build_answer w Stored = built (held_in w).graph
-build_answer w (Refused e) = refused (refusal_of e)
+abbrev pub build_answer : {A : Type 0} → List ℕ → Result A AddressBuildError → Outcome
+build_answer w (Ok _) = built (held_in w).graph
+build_answer w (Err e) = refused (refusal_of e)
 
 -- a build leaves its graph, of which nothing is cut, and each other word as it was; refused, every word
-abbrev pub BuildLeaves : List ℕ → List ℕ → Built → Type 0
-BuildLeaves w w' Stored = Laid w w' (held_in w').graph
-BuildLeaves w w' (Refused e) = w' ≡ w
+abbrev pub BuildLeaves : {A : Type 0} → List ℕ → List ℕ → Result A AddressBuildError → Type 0
+BuildLeaves w w' (Ok _) = Laid w w' (held_in w').graph
+BuildLeaves w w' (Err e) = w' ≡ w
 
 -- what a build stores is a graph: 21 lets it pass
-abbrev pub Graphed : List ℕ → Built → Type 0
-Graphed w Stored = well_formed (held_in w) ≡ true
-Graphed w (Refused e) = Unit {0}
+abbrev pub Graphed : {A : Type 0} → List ℕ → Result A AddressBuildError → Type 0
+Graphed w (Ok _) = well_formed (held_in w) ≡ true
+Graphed w (Err e) = Unit {0}
 
 -- ---- on the way
 

@@ -1,5 +1,5 @@
 -- What the code that adds regions is lent, and what it answers on the way: ranges and drafts in arrays, and the parent of one.
-use Rattle.std.specs.Prelude.{◌≡◌, List, [], ◌∷◌, ◌++◌, ℕ, ◌≤◌, ◌<◌, length, get_or, take, drop}
+use Rattle.std.specs.Prelude.{◌≡◌, List, ◌∷◌, ◌++◌, ℕ, ◌≤◌, ◌<◌, length, get_or, take, drop}
 use Rattle.image.specs.Refusal.{clear}
 use Rattle.image.specs.Image.{Image}
 use Rattle.graph.specs.declared.record.Region.{Region}
@@ -10,8 +10,6 @@ use Rattle.graph.specs.Fold.{checks}
 use Rattle.graph.specs.Transfer.{table_of}
 use Rattle.graph.specs.Leaders.{handler_at}
 use Rattle.graph.specs.Build.{table_check, handler_check}
-use Rattle.builder.specs.declared.regions.Parent.{Parent}
-use Rattle.builder.specs.declared.regions.Parent.TheVariants.{At, Nothing}
 use Rattle.builder.specs.Emit.{Numbered}
 
 -- two arrays hold the ranges of the handlers, and zeros past the last
@@ -33,11 +31,6 @@ pub record Drafted (l : List ℕ) (n : ℕ) (gs : List ℕ) : Type 0 where
 -- h in place j of a list
 abbrev pub put : ℕ → ℕ → List ℕ → List ℕ
 put j h gs = take j gs ++ h ∷ drop j gs
-
--- a list of one region, or of none
-abbrev pub parent_in : Parent → List ℕ
-parent_in (At k) = k ∷ []
-parent_in Nothing = []
 
 -- the checks of the table and of the handlers have passed, and the numbers of the blocks are known
 pub record Handled (m : Image) (blocks : List ℕ) : Type 0 where

@@ -1,12 +1,10 @@
 -- What the code that adds edges is lent, and what it answers on the way.
-use Rattle.std.specs.Prelude.{true, false, ◌≡◌, List, [], ℕ, ◌+◌, ◌<◌, ◌≤◌, length, get_or}
+use Rattle.std.specs.Prelude.{true, false, ◌≡◌, List, [], ℕ, ◌+◌, ◌<◌, ◌≤◌, length, get_or, Option, Some, None}
 use Rattle.image.specs.Refusal.{clear}
 use Rattle.image.specs.Image.{Image}
 use Rattle.image.specs.Record.{case_from}
 use Rattle.graph.specs.declared.record.Edge.{Edge}
 use Rattle.graph.specs.declared.record.UnresolvedTransfer.{UnresolvedTransfer}
-use Rattle.graph.specs.declared.found.Found.{Found}
-use Rattle.graph.specs.declared.found.Found.TheVariants.{At, Nothing}
 use Rattle.graph.specs.Table.{below}
 use Rattle.graph.specs.Lookup.{Rising}
 use Rattle.graph.specs.Fold.{flat, checks}
@@ -63,9 +61,9 @@ abbrev pub handler_edges : Image → ℕ → List Edge
 handler_edges m h = flat (λ i. unwind_edges m h (range_first m h + i)) (range_size m h)
 
 -- where a transfer leads
-abbrev pub Resolves : Image → Transfer → Found → Type 0
-Resolves m x (At k) = (resolved m x ≡ true) × (below (table_of m) x.target ≡ k) × (k < size m)
-Resolves m x Nothing = resolved m x ≡ false
+abbrev pub Resolves : Image → Transfer → Option ℕ → Type 0
+Resolves m x (Some k) = (resolved m x ≡ true) × (below (table_of m) x.target ≡ k) × (k < size m)
+Resolves m x None = resolved m x ≡ false
 
 -- the edge between two blocks that a transfer of the instruction at an address makes, and its unresolved record
 abbrev pub edge_between : ℕ → ℕ → ℕ → Transfer → Edge

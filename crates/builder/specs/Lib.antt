@@ -1,3 +1,4 @@
+pub mod Roles
 pub mod Slots
 pub mod Cursor
 pub mod Drafts

@@ -10,6 +10,7 @@ ghost use Rattle.graph.specs.Blocks.{is_terminator, first_of, block_of, block_en
 ghost use Rattle.graph.specs.Lookup.{entries_in};
 ghost use Rattle.builder.specs.Marks.{Leading};
 
+use crate::edges::is_terminator;
 use graph::record::{Block, TableEntry};
 use graph::store::Words;
 use graph::store::blocks::add_block;
@@ -29,22 +30,17 @@ pub fn store_table(g: &mut Words, s: &[u8], y: Section)
     }
 }
 
+#[tactic(auto, unfolding(graph::specs::Transfer::table_entry))]
 fn table_entry(i: Instruction) -> TableEntry
     ensures { result ≡ table_entry i }
 {
     TableEntry {
         address: i.address,
         end: i.end,
-        has_end: word(i.has_end),
-        keeps: word(i.keeps),
+        has_end: u64::from(i.has_end),
+        keeps: u64::from(i.keeps),
         flow: i.flow,
     }
-}
-
-pub fn word(b: bool) -> u64
-    ensures { result ≡ cond b 1 0 }
-{
-    if b { 1 } else { 0 }
 }
 
 // The blocks of a table of n instructions whose leaders are marked; without an instruction, an empty one.
@@ -64,10 +60,14 @@ pub fn store_blocks(g: &mut Words, marks: &[bool; 512], n: usize)
 
 // The block that ends at p, if one does, and where the next instruction's block begins.
 fn store_block(g: &mut Words, marks: &[bool; 512], n: usize, first: usize, p: usize) -> usize
-    requires { (n ≤ 512) × (p < n) × (first ≤ p) }
-    ensures { (result ≤ p + 1) × ((m : Image) → size m ≡ n → Leading m marks.now → first ≡ first_of m p → Stored g.old g.new (with_blocks (held_in g.old) (block_end m p)) × (suc p < n → result ≡ first_of m (suc p))) }
+    requires n_most { n ≤ 512 }
+    requires p_in { p < n }
+    requires first { first ≤ p }
+    ensures within { result ≤ p + 1 }
+    ensures stored { (m : Image) → size m ≡ n → Leading m marks.now → first ≡ first_of m p → Stored g.old g.new (with_blocks (held_in g.old) (block_end m p)) }
+    ensures first { (m : Image) → size m ≡ n → Leading m marks.now → first ≡ first_of m p → suc p < n → result ≡ first_of m (suc p) }
 {
-    if same_block(marks, n, p) {
+    if !is_terminator(marks, n, p) {
         return first;
     }
     let behind = p + 1;
@@ -82,34 +82,16 @@ fn store_block(g: &mut Words, marks: &[bool; 512], n: usize, first: usize, p: us
     behind
 }
 
-// Whether the instruction behind p is of the same block.
-fn same_block(marks: &[bool; 512], n: usize, p: usize) -> bool
-    requires { (n ≤ 512) × (p < n) }
-    ensures { (m : Image) → size m ≡ n → Leading m marks.now → result ≡ not (is_terminator m p) }
-{
-    let behind = p + 1;
-    if behind < n {
-        return !marks[behind];
-    }
-    false
-}
-
 // The number of the block of each position. That of the first is 0 before.
 pub fn number_blocks(numbers: &mut [u16], marks: &[bool; 512], n: usize)
-    requires { (n ≤ 512) × (n ≤ length numbers.old) × (get_or numbers.old 0 0 ≡ 0) }
+    requires n_most { n ≤ 512 }
+    requires room { n ≤ length numbers.old }
+    requires first { get_or numbers.old 0 0 ≡ 0 }
     ensures { (m : Image) → size m ≡ n → Leading m marks.now → (p : ℕ) → p < n → get_or numbers.new p 0 ≡ block_of m p }
 {
     let mut block: u16 = 0;
     for p in 1..n {
-        block = block_behind(block, marks[p]);
+        block += u16::from(marks[p]);
         numbers[p] = block;
     }
-}
-
-// The number of a position's block, from that of the position before and whether it leads.
-fn block_behind(block: u16, leads: bool) -> u16
-    requires { block < 512 }
-    ensures { result ≡ cond leads (block + 1) block }
-{
-    if leads { block + 1 } else { block }
 }

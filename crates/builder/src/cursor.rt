@@ -5,7 +5,7 @@ ghost use Rattle.std.specs.Prelude.{◌≡◌, ◌+◌, ◌<◌, ◌≤◌};
 ghost use Rattle.image.specs.Image.{Image, records_in, image_in};
 ghost use Rattle.image.specs.Record.{source_from};
 ghost use Rattle.image.specs.There.{Holds, ImageThere};
-ghost use Rattle.builder.specs.Cursor.{Sourced, cursor_at, given_here, visit_at, after};
+ghost use Rattle.builder.specs.Cursor.{Sourced, cursor_at, given_here, visit_at, after, Steps};
 
 use image::access::{instruction_in, source_in};
 use image::record::Instruction;
@@ -21,18 +21,12 @@ pub struct Cursor {
     pub edge: usize,
 }
 
-// Where an instruction leads: along so many given edges, or as its flow says.
-#[derive(Clone, Copy)]
-pub enum Given {
-    Edges(usize),
-    Flow,
-}
-
-// The instruction at a cursor, and the cursor behind it.
+// The instruction at a cursor, how many edges are given for it, if any are, and the cursor behind it. Where none are, it leads as
+// its flow says.
 #[derive(Clone, Copy)]
 pub struct Visit {
     pub instruction: Instruction,
-    pub given: Given,
+    pub given: Option<usize>,
     pub next: Cursor,
 }
 
@@ -50,7 +44,10 @@ pub fn cursor_start() -> Cursor
 // A scan that every build makes does these three steps in its own loop instead: a `Visit` that is handed over costs more than
 // what is done with it.
 pub fn visit_at(s: &[u8], y: Layout, c: Cursor) -> Visit
-    requires { Sourced (image_in s.now y) × (c ≡ cursor_at (image_in s.now y) c.at) × (c.at < y.code.instructions.count) × ImageThere s.now y }
+    requires sourced { Sourced (image_in s.now y) }
+    requires cursor { c ≡ cursor_at (image_in s.now y) c.at }
+    requires at_in { c.at < y.code.instructions.count }
+    requires there { ImageThere s.now y }
     ensures { result ≡ visit_at (image_in s.now y) c.at }
 {
     let code = y.code;
@@ -65,7 +62,7 @@ pub fn visit_at(s: &[u8], y: Layout, c: Cursor) -> Visit
     }
 }
 
-pub fn given_at(s: &[u8], sources: Section, i: usize, address: u64) -> Given
+pub fn given_at(s: &[u8], sources: Section, i: usize, address: u64) -> Option<usize>
     requires { Holds s.now sources 12 }
     ensures { result ≡ given_here (records_in source_from s.now sources) i address }
 {
@@ -73,30 +70,27 @@ pub fn given_at(s: &[u8], sources: Section, i: usize, address: u64) -> Given
     if i < count {
         let source = source_in(s, sources, i);
         if source.address == address {
-            return Given::Edges(source.edges);
+            return Some(source.edges);
         }
     }
-    Given::Flow
+    None
 }
 
-pub fn cursor_after(c: Cursor, cases: usize, given: Given) -> Cursor
-    requires { (c.at < 512) × (c.case + cases ≤ 512) × ((after c cases given).source ≤ 512) × ((after c cases given).edge ≤ 512) }
+pub fn cursor_after(c: Cursor, cases: usize, given: Option<usize>) -> Cursor
+    requires { Steps c cases given }
     ensures { result ≡ after c cases given }
 {
-    let at = c.at + 1;
-    let case = c.case + cases;
+    let next = Cursor {
+        at: c.at + 1,
+        case: c.case + cases,
+        ..c
+    };
     match given {
-        Given::Edges(edges) => Cursor {
-            at,
-            case,
+        Some(edges) => Cursor {
             source: c.source + 1,
             edge: c.edge + edges,
+            ..next
         },
-        Given::Flow => Cursor {
-            at,
-            case,
-            source: c.source,
-            edge: c.edge,
-        },
+        None => next,
     }
 }

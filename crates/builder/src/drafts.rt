@@ -12,7 +12,10 @@ use image::section::Layout;
 
 // The ranges of all handlers, into arrays of zeros.
 pub fn read_ranges(starts: &mut [u64; 32], ends: &mut [u64; 32], s: &[u8], y: Layout)
-    requires { (starts.old ≡ replicate 32 0) × (ends.old ≡ replicate 32 0) × (length (image_in s.now y).handlers ≤ 32) × ImageThere s.now y }
+    requires no_starts { starts.old ≡ replicate 32 0 }
+    requires no_ends { ends.old ≡ replicate 32 0 }
+    requires few { length (image_in s.now y).handlers ≤ 32 }
+    requires there { ImageThere s.now y }
     ensures { Extents (image_in s.now y) starts.new ends.new }
 {
     let n = y.code.handlers.count as usize;
@@ -25,8 +28,10 @@ pub fn read_ranges(starts: &mut [u64; 32], ends: &mut [u64; 32], s: &[u8], y: La
 
 // The drafts of the first n handlers, into a list of none: how many there are.
 pub fn drafts_of(list: &mut [usize; 32], starts: &[u64; 32], ends: &[u64; 32], n: usize) -> usize
-    requires { Counted list.old 0 × (n ≤ 32) }
-    ensures { Counted list.new result × ((m : Image) → Extents m starts.now ends.now → take result list.new ≡ drafts_below m n) }
+    requires counted { Counted list.old 0 }
+    requires n_most { n ≤ 32 }
+    ensures counted { Counted list.new result }
+    ensures drafts { (m : Image) → Extents m starts.now ends.now → take result list.new ≡ drafts_below m n }
 {
     let mut count = 0;
     for h in 0..n {
@@ -43,8 +48,12 @@ fn add_draft(
     ends: &[u64; 32],
     h: usize,
 ) -> usize
-    requires { Counted list.old count × (count ≤ h) × (h < 32) }
-    ensures { Counted list.new result × (result ≤ h + 1) × ((m : Image) → Extents m starts.now ends.now → take count list.old ≡ drafts_below m h → take result list.new ≡ drafts_below m (h + 1)) }
+    requires counted { Counted list.old count }
+    requires count_most { count ≤ h }
+    requires h_in { h < 32 }
+    ensures counted { Counted list.new result }
+    ensures most { result ≤ h + 1 }
+    ensures drafts { (m : Image) → Extents m starts.now ends.now → take count list.old ≡ drafts_below m h → take result list.new ≡ drafts_below m (h + 1) }
 {
     if is_draft(starts, ends, h) {
         let j = place_of(starts, ends, list, count, h);
@@ -75,8 +84,10 @@ fn place_of(
     count: usize,
     h: usize,
 ) -> usize
-    requires { Counted list.now count × (h < 32) }
-    ensures { (result ≤ count) × ((m : Image) → Extents m starts.now ends.now → place m h (take count list.now) ≡ put result h (take count list.now)) }
+    requires counted { Counted list.now count }
+    requires h_in { h < 32 }
+    ensures within { result ≤ count }
+    ensures place { (m : Image) → Extents m starts.now ends.now → place m h (take count list.now) ≡ put result h (take count list.now) }
 {
     let own = span(starts, ends, h);
     for j in 0..count {
@@ -89,7 +100,10 @@ fn place_of(
 
 // The list with h in place j: those from there on move up by one.
 fn insert(list: &mut [usize; 32], count: usize, j: usize, h: usize)
-    requires { Counted list.old count × (j ≤ count) × (count < 32) × (h < 32) }
+    requires counted { Counted list.old count }
+    requires j_in { j ≤ count }
+    requires room { count < 32 }
+    requires h_in { h < 32 }
     ensures { Drafted list.new (count + 1) (put j h (take count list.old)) }
 {
     let mut next = h;
@@ -103,12 +117,11 @@ fn insert(list: &mut [usize; 32], count: usize, j: usize, h: usize)
 
 // Whether handlers a and b have one range.
 pub fn same_range(starts: &[u64; 32], ends: &[u64; 32], a: usize, b: usize) -> bool
-    requires { (a < 32) × (b < 32) }
+    requires a_in { a < 32 }
+    requires b_in { b < 32 }
     ensures { (m : Image) → Extents m starts.now ends.now → result ≡ same_range m a b }
 {
-    let start = starts[a] == starts[b];
-    let end = ends[a] == ends[b];
-    start & end
+    starts[a] == starts[b] && ends[a] == ends[b]
 }
 
 // How many addresses its range has.
@@ -116,15 +129,13 @@ pub fn span(starts: &[u64; 32], ends: &[u64; 32], h: usize) -> u64
     requires { h < 32 }
     ensures { (m : Image) → Extents m starts.now ends.now → result ≡ span m h }
 {
-    let start = starts[h];
-    let end = ends[h];
-    if start <= end { end - start } else { 0 }
+    ends[h].saturating_sub(starts[h])
 }
 
 pub fn handler(s: &[u8], y: Layout, h: usize) -> Handler
-    requires { ImageThere s.now y × (h < y.code.handlers.count) }
+    requires there { ImageThere s.now y }
+    requires h_in { h < y.code.handlers.count }
     ensures { result ≡ handler_at (image_in s.now y) h }
 {
-    let code = y.code;
-    handler_in(s, code.handlers, h)
+    handler_in(s, y.code.handlers, h)
 }

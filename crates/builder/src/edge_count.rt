@@ -22,11 +22,11 @@ ghost use Rattle.builder.specs.EdgeCount.{Kept};
 
 use crate::cursor::{Cursor, cursor_start, visit_at};
 use crate::drafts::handler;
-use crate::edges::{SWITCH, is_terminator, resolve};
-use crate::ranges::{Ranged, range_check};
-use crate::transfer::{Transfer, case_transfer, flow_under, slot_transfer, slots_of};
-use graph::error::{AddressBuildError, Checked};
-use graph::found::Found;
+use crate::edges::{is_terminator, resolve};
+use crate::flow::{SWITCH, flow_under};
+use crate::ranges::range_check;
+use crate::transfer::{Transfer, case_transfer, slot_transfer, slots_of};
+use graph::error::AddressBuildError;
 use graph::store::edges::EDGE_MOST;
 use image::access::{case_in, instruction_in};
 use image::record::Instruction;
@@ -40,33 +40,39 @@ pub fn check_edge_count(
     hints: &[u16],
     code_end: u64,
     marks: &[bool; 512],
-) -> Checked
-    requires { Passed (image_in s.now y) × Leading (image_in s.now y) marks.now × (code_end ≡ code_end_of (table_of (image_in s.now y))) × ImageThere s.now y }
+) -> Result<(), AddressBuildError>
+    requires passed { Passed (image_in s.now y) }
+    requires leading { Leading (image_in s.now y) marks.now }
+    requires code_ends { code_end ≡ code_end_of (table_of (image_in s.now y)) }
+    requires there { ImageThere s.now y }
     ensures { check_of result ≡ unless (leb (length (edges_of (image_in s.now y))) 4096) (refusal 19 0 0) }
 {
     if y.header.mode != 0 {
-        return Checked::Clear;
+        return Ok(());
     }
     let instructions = y.code.instructions.count as usize;
     let cases = y.code.cases.count as usize;
     let handlers = y.code.handlers.count as usize;
     let normal_most = 2 * instructions + cases;
     if normal_most + handlers * instructions <= EDGE_MOST {
-        return Checked::Clear;
+        return Ok(());
     }
     let exceptional = exception_count(s, y, hints, code_end);
     if normal_most + exceptional <= EDGE_MOST {
-        return Checked::Clear;
+        return Ok(());
     }
     if normal_count(s, y, hints, marks) + exceptional <= EDGE_MOST {
-        return Checked::Clear;
+        return Ok(());
     }
-    Checked::Refused(AddressBuildError::TooManyEdges)
+    Err(AddressBuildError::TooManyEdges)
 }
 
 // How many exception edges the handlers have, in mode 0.
 fn exception_count(s: &[u8], y: Layout, hints: &[u16], code_end: u64) -> usize
-    requires { Passed (image_in s.now y) × (y.header.mode ≡ 0) × (code_end ≡ code_end_of (table_of (image_in s.now y))) × ImageThere s.now y }
+    requires passed { Passed (image_in s.now y) }
+    requires mode { y.header.mode ≡ 0 }
+    requires code_ends { code_end ≡ code_end_of (table_of (image_in s.now y)) }
+    requires there { ImageThere s.now y }
     ensures { result ≡ length (exception_edges (image_in s.now y)) }
 {
     let kept = kept_before(s, y);
@@ -80,24 +86,17 @@ fn exception_count(s: &[u8], y: Layout, hints: &[u16], code_end: u64) -> usize
 
 // How many of the instructions before each position keep their exception edge.
 fn kept_before(s: &[u8], y: Layout) -> [usize; 513]
-    requires { size (image_in s.now y) ≤ 512 × ImageThere s.now y }
+    requires size_most { size (image_in s.now y) ≤ 512 }
+    requires there { ImageThere s.now y }
     ensures { Kept (image_in s.now y) result }
 {
     let n = y.code.instructions.count as usize;
     let mut kept = [0; 513];
     for p in 0..n {
         let i = instruction_in(s, y.code.instructions, p);
-        kept[p + 1] = behind(kept[p], i.keeps);
+        kept[p + 1] = kept[p] + usize::from(i.keeps);
     }
     kept
-}
-
-// How many before the next position, from those before this one.
-fn behind(kept: usize, keeps: bool) -> usize
-    requires { kept < 512 }
-    ensures { result ≡ word keeps + kept }
-{
-    if keeps { kept + 1 } else { kept }
 }
 
 // How many of the instructions that handler h protects keep their exception edge.
@@ -109,23 +108,28 @@ fn kept_by(
     kept: &[usize; 513],
     h: usize,
 ) -> usize
-    requires ended { Ended (table_of (image_in s.now y)) code_end × (handler_check (image_in s.now y) h ≡ clear) × ImageThere s.now y × (h < y.code.handlers.count) }
-    requires y_bound { (size (image_in s.now y) ≤ 512) × Kept (image_in s.now y) kept.now }
+    requires ended { Ended (table_of (image_in s.now y)) code_end }
+    requires checked { handler_check (image_in s.now y) h ≡ clear }
+    requires there { ImageThere s.now y }
+    requires h_in { h < y.code.handlers.count }
+    requires size_most { size (image_in s.now y) ≤ 512 }
+    requires kept { Kept (image_in s.now y) kept.now }
     ensures { result ≡ length (handler_edges (image_in s.now y) h) }
 {
     let own = handler(s, y, h);
-    let start = own.start;
-    let end = own.end;
-    let range = range_check(s, y.code.instructions, hints, code_end, start, end);
-    let Ranged::Positions { first, past } = range else {
+    let found = range_check(s, y.code.instructions, hints, code_end, own.start, own.end);
+    let Ok(range) = found else {
         return 0;
     };
-    kept[past] - kept[first]
+    kept[range.past] - kept[range.first]
 }
 
 // How many normal edges the blocks' ends have, in mode 0: no edges are given there.
 fn normal_count(s: &[u8], y: Layout, hints: &[u16], marks: &[bool; 512]) -> usize
-    requires { Sourced (image_in s.now y) × Leading (image_in s.now y) marks.now × (y.header.mode ≡ 0) × ImageThere s.now y }
+    requires sourced { Sourced (image_in s.now y) }
+    requires leading { Leading (image_in s.now y) marks.now }
+    requires mode { y.header.mode ≡ 0 }
+    requires there { ImageThere s.now y }
     ensures { result ≡ length (normal_edges (image_in s.now y)) }
 {
     let n = y.code.instructions.count as usize;
@@ -148,8 +152,12 @@ fn normal_count(s: &[u8], y: Layout, hints: &[u16], marks: &[bool; 512]) -> usiz
 
 // Those of the instruction at a cursor, where it ends its block.
 fn end_count(s: &[u8], y: Layout, hints: &[u16], c: Cursor, i: Instruction, ends: bool) -> usize
-    requires sourced { Sourced (image_in s.now y) × (y.header.mode ≡ 0) × ImageThere s.now y }
-    requires c_value { (c ≡ cursor_at (image_in s.now y) c.at) × (c.at < size (image_in s.now y)) × (i ≡ instruction_at (image_in s.now y) c.at) }
+    requires sourced { Sourced (image_in s.now y) }
+    requires mode { y.header.mode ≡ 0 }
+    requires there { ImageThere s.now y }
+    requires cursor { c ≡ cursor_at (image_in s.now y) c.at }
+    requires at_in { c.at < size (image_in s.now y) }
+    requires instruction { i ≡ instruction_at (image_in s.now y) c.at }
     ensures { result ≡ length (cond ends (edges_at (image_in s.now y) c.at) []) }
 {
     if ends {
@@ -160,7 +168,11 @@ fn end_count(s: &[u8], y: Layout, hints: &[u16], c: Cursor, i: Instruction, ends
 
 // How many transfers of the instruction at a cursor are resolved.
 fn transfer_count(s: &[u8], y: Layout, hints: &[u16], c: Cursor, i: Instruction) -> usize
-    requires { Sourced (image_in s.now y) × (c ≡ cursor_at (image_in s.now y) c.at) × (c.at < size (image_in s.now y)) × (i ≡ instruction_at (image_in s.now y) c.at) × ImageThere s.now y }
+    requires sourced { Sourced (image_in s.now y) }
+    requires cursor { c ≡ cursor_at (image_in s.now y) c.at }
+    requires at_in { c.at < size (image_in s.now y) }
+    requires instruction { i ≡ instruction_at (image_in s.now y) c.at }
+    requires there { ImageThere s.now y }
     ensures { result ≡ length (slot_edges (image_in s.now y) c.at (slot_count (image_in s.now y) c.at)) }
 {
     let flow = flow_under(y.header.calls, i.flow);
@@ -174,7 +186,10 @@ fn transfer_count(s: &[u8], y: Layout, hints: &[u16], c: Cursor, i: Instruction)
 
 // How many of the n cases from `first` on are resolved.
 fn case_count(s: &[u8], y: Layout, hints: &[u16], first: usize, n: usize) -> usize
-    requires { Rising (table_of (image_in s.now y)) × (first + n ≤ 512) × ImageThere s.now y × (first + n ≤ y.code.cases.count) }
+    requires rising { Rising (table_of (image_in s.now y)) }
+    requires most { first + n ≤ 512 }
+    requires there { ImageThere s.now y }
+    requires cases_in { first + n ≤ y.code.cases.count }
     ensures { result ≡ count (λ k. resolved (image_in s.now y) (case_transfer (get_or (image_in s.now y).cases (first + k) (case_from [] 0)) k)) n }
 {
     let mut edges: usize = 0;
@@ -187,11 +202,9 @@ fn case_count(s: &[u8], y: Layout, hints: &[u16], first: usize, n: usize) -> usi
 
 // One where a transfer is resolved, else none.
 fn resolves(s: &[u8], y: Layout, hints: &[u16], x: Transfer) -> usize
-    requires { Rising (table_of (image_in s.now y)) × ImageThere s.now y }
+    requires rising { Rising (table_of (image_in s.now y)) }
+    requires there { ImageThere s.now y }
     ensures { result ≡ word (resolved (image_in s.now y) (transfer_in x)) }
 {
-    match resolve(s, y.code.instructions, hints, x) {
-        Found::At(_) => 1,
-        Found::Nothing => 0,
-    }
+    usize::from(resolve(s, y.code.instructions, hints, x).is_some())
 }

@@ -9,18 +9,19 @@ ghost use Rattle.graph.specs.Flow.{Flow, From, falls_through, flow_under};
 ghost use Rattle.graph.specs.Transfer.{table_of, size, instruction_at, address_at, transfer_at, slot_count, is_given, given_at};
 ghost use Rattle.graph.specs.Edges.{transfer_edges, transfer_unresolved, given_edge, edges_at, unresolved_at, normal_edges, unresolved_of};
 ghost use Rattle.graph.specs.Adding.{Added};
+ghost use Rattle.builder.specs.Roles.{role_of};
 ghost use Rattle.builder.specs.Slots.{slot_in, slot_at, transfer_in};
 ghost use Rattle.builder.specs.Cursor.{Sourced, cursor_at};
 ghost use Rattle.builder.specs.Marks.{Leading};
 ghost use Rattle.builder.specs.Emit.{Emitting, Visiting, Resolves, edge_between, unresolved_from, slot_edges, slot_unresolved};
 
-use crate::cursor::{Cursor, Given, Visit, cursor_after, cursor_start, given_at};
+use crate::cursor::{Cursor, Visit, cursor_after, cursor_start, given_at};
+use crate::flow::{SWITCH, flow_under};
 use crate::lookup::find;
+use crate::roles::{falls_through, kind_of, unresolved_role};
 use crate::transfer::{
-    Origin, Slot, Transfer, case_transfer, falls_through, flow_under, has_target, is_empty,
-    kind_of, slot_transfer, slots_of, unresolved_role,
+    Origin, Slot, Transfer, case_transfer, has_target, is_empty, slot_transfer, slots_of,
 };
-use graph::found::Found;
 use graph::record::{Edge, UnresolvedTransfer};
 use graph::store::Words;
 use graph::store::edges::add_edge;
@@ -28,8 +29,6 @@ use graph::store::unresolved::add_unresolved;
 use image::access::{case_in, edge_in, instruction_in};
 use image::record::Instruction;
 use image::section::{Layout, Section};
-
-pub const SWITCH: u64 = 12;
 
 const GIVEN: u64 = 11;
 
@@ -42,7 +41,8 @@ pub fn add_normal_edges(
     marks: &[bool; 512],
     blocks: &[u16],
 )
-    requires emitting { Emitting (image_in s.now y) blocks.now × ImageThere s.now y }
+    requires emitting { Emitting (image_in s.now y) blocks.now }
+    requires there { ImageThere s.now y }
     requires leading { Leading (image_in s.now y) marks.now }
     ensures { Added g.old g.new (normal_edges (image_in s.now y)) (unresolved_of (image_in s.now y)) [] }
 {
@@ -51,7 +51,7 @@ pub fn add_normal_edges(
     let n = table.count as usize;
     let mut c = cursor_start();
     for p in 0..n {
-        let i = instruction_in(s, table, c.at);
+        let i = instruction_in(s, table, p);
         let given = given_at(s, sources, c.source, i.address);
         let next = cursor_after(c, i.cases, given);
         let visit = Visit {
@@ -66,13 +66,11 @@ pub fn add_normal_edges(
 
 // Whether the instruction at p is the last of its block: none follows, or the next one leads.
 pub fn is_terminator(marks: &[bool; 512], n: usize, p: usize) -> bool
-    requires { (p < n) × (n ≤ 512) }
+    requires p_in { p < n }
+    requires n_most { n ≤ 512 }
     ensures { result ≡ (eqb (p + 1) n || get_or marks.now (p + 1) false) }
 {
-    if p + 1 == n {
-        return true;
-    }
-    marks[p + 1]
+    p + 1 == n || marks[p + 1]
 }
 
 // What the instruction at a cursor gives, where it ends its block.
@@ -86,7 +84,8 @@ fn emit_if(
     visit: Visit,
     ends: bool,
 )
-    requires emitting { Emitting (image_in s.now y) blocks.now × ImageThere s.now y }
+    requires emitting { Emitting (image_in s.now y) blocks.now }
+    requires there { ImageThere s.now y }
     requires visiting { Visiting (image_in s.now y) c visit }
     ensures { Added g.old g.new (cond ends (edges_at (image_in s.now y) c.at) []) (cond ends (unresolved_at (image_in s.now y) c.at) []) [] }
 {
@@ -96,14 +95,14 @@ fn emit_if(
 }
 
 fn emit(g: &mut Words, s: &[u8], y: Layout, hints: &[u16], blocks: &[u16], c: Cursor, visit: Visit)
-    requires emitting { Emitting (image_in s.now y) blocks.now × ImageThere s.now y }
+    requires emitting { Emitting (image_in s.now y) blocks.now }
+    requires there { ImageThere s.now y }
     requires visiting { Visiting (image_in s.now y) c visit }
     ensures { Added g.old g.new (edges_at (image_in s.now y) c.at) (unresolved_at (image_in s.now y) c.at) [] }
 {
-    let given = visit.given;
-    match given {
-        Given::Edges(n) => add_given_edges(g, s, y, hints, blocks, c, n),
-        Given::Flow => add_transfers(g, s, y, hints, blocks, c, visit.instruction),
+    match visit.given {
+        Some(n) => add_given_edges(g, s, y, hints, blocks, c, n),
+        None => add_transfers(g, s, y, hints, blocks, c, visit.instruction),
     }
 }
 
@@ -118,8 +117,11 @@ fn add_given_edges(
     n: usize,
 )
     requires emitting { Emitting (image_in s.now y) blocks.now }
-    requires c_value { (c ≡ cursor_at (image_in s.now y) c.at) × (c.at < size (image_in s.now y)) × ImageThere s.now y }
-    requires at_value { (is_given (image_in s.now y) c.at ≡ true) × (length (given_at (image_in s.now y) c.at) ≡ n) }
+    requires cursor { c ≡ cursor_at (image_in s.now y) c.at }
+    requires at_in { c.at < size (image_in s.now y) }
+    requires there { ImageThere s.now y }
+    requires is_given { is_given (image_in s.now y) c.at ≡ true }
+    requires count { length (given_at (image_in s.now y) c.at) ≡ n }
     ensures { Added g.old g.new (edges_at (image_in s.now y) c.at) [] [] }
 {
     let p = c.at;
@@ -132,14 +134,17 @@ fn add_given_edges(
 // Given edge e, of the instruction at p. Its target starts an instruction (8).
 fn add_given(g: &mut Words, s: &[u8], y: Layout, hints: &[u16], blocks: &[u16], p: usize, e: usize)
     requires emitting { Emitting (image_in s.now y) blocks.now }
-    requires p_bound { (p < size (image_in s.now y)) × (is_start (table_of (image_in s.now y)) (get_or (image_in s.now y).edges e (edge_from [] 0)).target ≡ true) × ImageThere s.now y × (e < y.code.edges.count) }
+    requires p_in { p < size (image_in s.now y) }
+    requires target { is_start (table_of (image_in s.now y)) (get_or (image_in s.now y).edges e (edge_from [] 0)).target ≡ true }
+    requires there { ImageThere s.now y }
+    requires e_in { e < y.code.edges.count }
     ensures { Added g.old g.new (given_edge (image_in s.now y) p (get_or (image_in s.now y).edges e (edge_from [] 0)) ∷ []) [] [] }
 {
     let table = y.code.instructions;
     let edges = y.code.edges;
     let edge = edge_in(s, edges, e);
     let target = edge.target;
-    let Found::At(to) = find(s, table, hints, target) else {
+    let Some(to) = find(s, table, hints, target) else {
         return;
     };
     let record = Edge {
@@ -166,7 +171,10 @@ fn add_transfers(
     i: Instruction,
 )
     requires emitting { Emitting (image_in s.now y) blocks.now }
-    requires c_value { (c ≡ cursor_at (image_in s.now y) c.at) × (c.at < size (image_in s.now y)) × (i ≡ instruction_at (image_in s.now y) c.at) × ImageThere s.now y }
+    requires cursor { c ≡ cursor_at (image_in s.now y) c.at }
+    requires at_in { c.at < size (image_in s.now y) }
+    requires instruction { i ≡ instruction_at (image_in s.now y) c.at }
+    requires there { ImageThere s.now y }
     ensures { Added g.old g.new (slot_edges (image_in s.now y) c.at (slot_count (image_in s.now y) c.at)) (slot_unresolved (image_in s.now y) c.at (slot_count (image_in s.now y) c.at)) [] }
 {
     let flow = flow_under(y.header.calls, i.flow);
@@ -191,12 +199,9 @@ fn slot_end(flow: u64, cases: usize, second: Slot) -> usize
     if flow == SWITCH {
         return cases + 1;
     }
-    let from = second.1;
-    match from {
+    match second.1 {
         Origin::Nowhere => 1,
-        Origin::Computed => 2,
-        Origin::Named => 2,
-        Origin::End => 2,
+        Origin::Computed | Origin::Named | Origin::End => 2,
     }
 }
 
@@ -210,17 +215,20 @@ fn transfer_of(
     slot: Slot,
     k: usize,
 ) -> Transfer
-    requires sourced { Sourced (image_in s.now y) × (c ≡ cursor_at (image_in s.now y) c.at) × (c.at < size (image_in s.now y)) × (i ≡ instruction_at (image_in s.now y) c.at) × ImageThere s.now y }
-    requires flow_value { (flow ≡ flow_under y.header.calls i.flow) × (slot_in slot ≡ slot_at flow k) × (k < slot_count (image_in s.now y) c.at) }
+    requires sourced { Sourced (image_in s.now y) }
+    requires cursor { c ≡ cursor_at (image_in s.now y) c.at }
+    requires at_in { c.at < size (image_in s.now y) }
+    requires instruction { i ≡ instruction_at (image_in s.now y) c.at }
+    requires there { ImageThere s.now y }
+    requires flow { flow ≡ flow_under y.header.calls i.flow }
+    requires slot { slot_in slot ≡ slot_at flow k }
+    requires k_in { k < slot_count (image_in s.now y) c.at }
     ensures { transfer_in result ≡ transfer_at (image_in s.now y) c.at k }
 {
-    if k > 0 {
-        if flow == SWITCH {
-            let cases = y.code.cases;
-            let behind = k - 1;
-            let case = case_in(s, cases, c.case + behind);
-            return case_transfer(case, behind);
-        }
+    if k > 0 && flow == SWITCH {
+        let behind = k - 1;
+        let case = case_in(s, y.code.cases, c.case + behind);
+        return case_transfer(case, behind);
     }
     slot_transfer(i, slot)
 }
@@ -237,39 +245,41 @@ fn add_transfer(
     x: Transfer,
 )
     requires emitting { Emitting (image_in s.now y) blocks.now }
-    requires p_bound { (p < size (image_in s.now y)) × (source ≡ address_at (image_in s.now y) p) × ImageThere s.now y }
+    requires p_in { p < size (image_in s.now y) }
+    requires source { source ≡ address_at (image_in s.now y) p }
+    requires there { ImageThere s.now y }
     ensures { Added g.old g.new (transfer_edges (image_in s.now y) p (transfer_in x)) (transfer_unresolved (image_in s.now y) p (transfer_in x)) [] }
 {
     let table = y.code.instructions;
     match resolve(s, table, hints, x) {
-        Found::At(to) => add_edge(
+        Some(to) => add_edge(
             g,
             edge_between(block_of(blocks, p), block_of(blocks, to), source, x),
         ),
-        Found::Nothing => report(g, source, x),
+        None => report(g, source, x),
     }
 }
 
 // Where a transfer leads: the position of its target, if it has one that starts an instruction.
-pub fn resolve(s: &[u8], table: Section, hints: &[u16], x: Transfer) -> Found
-    requires { Rising (entries_in s.now table) × Holds s.now table 31 }
+pub fn resolve(s: &[u8], table: Section, hints: &[u16], x: Transfer) -> Option<usize>
+    requires rising { Rising (entries_in s.now table) }
+    requires there { Holds s.now table 31 }
     ensures { (m : Image) → table_of m ≡ entries_in s.now table → Resolves m (transfer_in x) result }
 {
     if has_target(x) {
         return find(s, table, hints, x.target);
     }
-    Found::Nothing
+    None
 }
 
 pub fn edge_between(source: u64, target: u64, address: u64, x: Transfer) -> Edge
     ensures { result ≡ edge_between source target address (transfer_in x) }
 {
-    let role = x.role;
     Edge {
         source,
         target,
-        kind: kind_of(role),
-        role,
+        kind: kind_of(x.role) as u64,
+        role: x.role as u64,
         number: x.number,
         key: x.key,
         source_address: address,
@@ -278,20 +288,17 @@ pub fn edge_between(source: u64, target: u64, address: u64, x: Transfer) -> Edge
 }
 
 // The record of a transfer that leads nowhere; what falls through has none.
+#[tactic(auto, using(graph::proofs::AddingLaws::unresolved_added, graph::proofs::AddingLaws::added_none))]
 fn report(g: &mut Words, source: u64, x: Transfer)
-    ensures { Added g.old g.new [] (cond (eqb (transfer_in x).from From.nowhere || falls_through x.role) [] (unresolved_from source (transfer_in x) ∷ [])) [] }
+    ensures { Added g.old g.new [] (cond (eqb (transfer_in x).from From.nowhere || falls_through (role_of x.role)) [] (unresolved_from source (transfer_in x) ∷ [])) [] }
 {
-    let role = x.role;
-    if is_empty(x) {
-        return;
-    }
-    if falls_through(role) {
+    if is_empty(x) || falls_through(x.role) {
         return;
     }
     let record = UnresolvedTransfer {
         source,
         target: x.target,
-        role: unresolved_role(role, has_target(x)),
+        role: unresolved_role(x.role, has_target(x)) as u64,
         case_index: x.number,
     };
     add_unresolved(g, record);

@@ -16,15 +16,14 @@ ghost use Rattle.builder.specs.Drafts.{Handled};
 
 use crate::drafts::handler;
 use crate::edges::{block_of, edge_between};
-use crate::ranges::{Ranged, range_check};
+use crate::ranges::range_check;
 use crate::regions::block_at;
+use crate::roles::EdgeRole;
 use crate::transfer::{Origin, Transfer};
 use graph::store::Words;
 use graph::store::edges::add_edge;
 use image::access::instruction_in;
 use image::section::Layout;
-
-const UNWIND: u64 = 9;
 
 // The exception edges of all handlers; the other modes add none.
 #[tactic(auto, using(crate::proofs::ExceptionLaws::other_modes_add))]
@@ -36,7 +35,9 @@ pub fn add_exception_edges(
     code_end: u64,
     blocks: &[u16],
 )
-    requires { Handled (image_in s.now y) blocks.now × (code_end ≡ code_end_of (table_of (image_in s.now y))) × ImageThere s.now y }
+    requires handled { Handled (image_in s.now y) blocks.now }
+    requires code_ends { code_end ≡ code_end_of (table_of (image_in s.now y)) }
+    requires there { ImageThere s.now y }
     ensures { Added g.old g.new (exception_edges (image_in s.now y)) [] [] }
 {
     if y.header.mode != 0 {
@@ -58,17 +59,20 @@ fn add_handler_edges(
     blocks: &[u16],
     h: usize,
 )
-    requires handled { Handled (image_in s.now y) blocks.now × (code_end ≡ code_end_of (table_of (image_in s.now y))) × ImageThere s.now y × (h < y.code.handlers.count) }
-    requires h_value { handler_check (image_in s.now y) h ≡ clear }
+    requires handled { Handled (image_in s.now y) blocks.now }
+    requires code_ends { code_end ≡ code_end_of (table_of (image_in s.now y)) }
+    requires there { ImageThere s.now y }
+    requires h_in { h < y.code.handlers.count }
+    requires checked { handler_check (image_in s.now y) h ≡ clear }
     ensures { Added g.old g.new (handler_edges (image_in s.now y) h) [] [] }
 {
     let own = handler(s, y, h);
-    let start = own.start;
-    let end = own.end;
-    let range = range_check(s, y.code.instructions, hints, code_end, start, end);
-    let Ranged::Positions { first, past } = range else {
+    let found = range_check(s, y.code.instructions, hints, code_end, own.start, own.end);
+    let Ok(range) = found else {
         return;
     };
+    let first = range.first;
+    let past = range.past;
     let entry = own.entry;
     let to = block_at(s, y, hints, blocks, entry);
     let x = unwind_transfer(h, entry);
@@ -82,7 +86,7 @@ fn unwind_transfer(h: usize, entry: u64) -> Transfer
     ensures { transfer_in result ≡ record { role = Role.unwind; from = From.named; target = entry; number = h; key = 0 } }
 {
     Transfer {
-        role: UNWIND,
+        role: EdgeRole::Unwind,
         from: Origin::Named,
         target: entry,
         number: h as u64,
@@ -92,8 +96,11 @@ fn unwind_transfer(h: usize, entry: u64) -> Transfer
 
 // The edge to block `to` of a transfer of the instruction at p, where that one keeps its exception edge.
 fn add_if_kept(g: &mut Words, s: &[u8], y: Layout, blocks: &[u16], p: usize, to: u64, x: Transfer)
-    requires numbered { Numbered (image_in s.now y) blocks.now × (p < size (image_in s.now y)) × ImageThere s.now y }
-    requires x_value { (resolved (image_in s.now y) (transfer_in x) ≡ true) × (to ≡ block_at (image_in s.now y) x.target) }
+    requires numbered { Numbered (image_in s.now y) blocks.now }
+    requires p_in { p < size (image_in s.now y) }
+    requires there { ImageThere s.now y }
+    requires resolved { resolved (image_in s.now y) (transfer_in x) ≡ true }
+    requires to { to ≡ block_at (image_in s.now y) x.target }
     ensures { Added g.old g.new (cond (instruction_at (image_in s.now y) p).keeps (transfer_edges (image_in s.now y) p (transfer_in x)) []) [] [] }
 {
     let i = instruction_in(s, y.code.instructions, p);

@@ -16,25 +16,20 @@ ghost use Rattle.builder.specs.Cursor.{cursor_at};
 ghost use Rattle.builder.specs.Marks.{Marked, Passed, funclet_end, visit_mark};
 
 use crate::cursor::{Cursor, cursor_after, cursor_start, given_at};
+use crate::flow::{EXCEPTIONAL, JUMP, RETURN};
 use crate::leaders::flows::mark_lead;
 use crate::leaders::routes::mark_routes;
 use crate::lookup::{address_at, find};
 use crate::marks::{mark_at, mark_if, mark_range, mark_target, mark_target_if};
 use crate::ranges::range_check;
-use graph::found::Found;
 use image::access::{handler_in, instruction_in};
 use image::record::Instruction;
 use image::section::Layout;
 
-const RETURN: u64 = 1;
-
-const JUMP: u64 = 6;
-
-const EXCEPTIONAL: u64 = 9;
-
 // The first instruction, and the entry.
 fn mark_entry(marks: &mut [bool; 512], s: &[u8], y: Layout, hints: &[u16])
-    requires { Passed (image_in s.now y) × ImageThere s.now y }
+    requires passed { Passed (image_in s.now y) }
+    requires there { ImageThere s.now y }
     ensures { Marked y.code.instructions.count (entry_mark (image_in s.now y)) marks.old marks.new }
 {
     let header = y.header;
@@ -51,7 +46,9 @@ pub fn mark_leaders(
     hints: &[u16],
     code_end: u64,
 ) -> [bool; 512]
-    requires { Passed (image_in s.now y) × (code_end ≡ code_end_of (table_of (image_in s.now y))) × ImageThere s.now y }
+    requires passed { Passed (image_in s.now y) }
+    requires code_ends { code_end ≡ code_end_of (table_of (image_in s.now y)) }
+    requires there { ImageThere s.now y }
     ensures { Marked y.code.instructions.count (is_leader (image_in s.now y)) marks result }
 {
     mark_entry(&mut marks, s, y, hints);
@@ -61,10 +58,8 @@ pub fn mark_leaders(
     for q in 0..n {
         c = mark_visit(&mut marks, s, y, hints, c, routed);
     }
-    if y.code.handlers.count == 0 {
-        if y.routes.routes.count == 0 {
-            return marks;
-        }
+    if y.code.handlers.count == 0 && y.routes.routes.count == 0 {
+        return marks;
     }
     mark_ranges(marks, s, y, hints, code_end)
 }
@@ -78,8 +73,13 @@ fn mark_visit(
     c: Cursor,
     routed: bool,
 ) -> Cursor
-    requires { Passed (image_in s.now y) × (c ≡ cursor_at (image_in s.now y) c.at) × (c.at < y.code.instructions.count) × (routed ≡ ltb 0 (length (routes (image_in s.now y)))) × ImageThere s.now y }
-    ensures { (result ≡ cursor_at (image_in s.now y) (c.at + 1)) × Marked y.code.instructions.count (visit_mark (image_in s.now y) c.at) marks.old marks.new }
+    requires passed { Passed (image_in s.now y) }
+    requires cursor { c ≡ cursor_at (image_in s.now y) c.at }
+    requires at_in { c.at < y.code.instructions.count }
+    requires routed { routed ≡ ltb 0 (length (routes (image_in s.now y))) }
+    requires there { ImageThere s.now y }
+    ensures next { result ≡ cursor_at (image_in s.now y) (c.at + 1) }
+    ensures marked { Marked y.code.instructions.count (visit_mark (image_in s.now y) c.at) marks.old marks.new }
 {
     let table = y.code.instructions;
     let sources = y.code.sources;
@@ -95,7 +95,10 @@ fn mark_visit(
 
 // An instruction after a gap or an overlap, and the start at that end.
 fn mark_gap(marks: &mut [bool; 512], s: &[u8], y: Layout, hints: &[u16], q: usize, i: Instruction)
-    requires { Passed (image_in s.now y) × (q < y.code.instructions.count) × (i ≡ instruction_at (image_in s.now y) q) × ImageThere s.now y }
+    requires passed { Passed (image_in s.now y) }
+    requires q_in { q < y.code.instructions.count }
+    requires instruction { i ≡ instruction_at (image_in s.now y) q }
+    requires there { ImageThere s.now y }
     ensures { Marked y.code.instructions.count (gap_mark (image_in s.now y) q) marks.old marks.new }
 {
     if goes_on(s, y, q, i) {
@@ -107,16 +110,15 @@ fn mark_gap(marks: &mut [bool; 512], s: &[u8], y: Layout, hints: &[u16], q: usiz
 }
 
 // Whether the next instruction starts where the one at q ends.
+#[tactic(auto, using(crate::proofs::Sizes::sizes, graph::proofs::TableLaws::entry_address), unfolding(graph::specs::Leaders::goes_on))]
 fn goes_on(s: &[u8], y: Layout, q: usize, i: Instruction) -> bool
-    requires { (q < y.code.instructions.count) × (i ≡ instruction_at (image_in s.now y) q) × ImageThere s.now y }
+    requires q_in { q < y.code.instructions.count }
+    requires instruction { i ≡ instruction_at (image_in s.now y) q }
+    requires there { ImageThere s.now y }
     ensures { result ≡ goes_on (image_in s.now y) q }
 {
     let table = y.code.instructions;
-    let n = table.count as usize;
-    if q + 1 < n {
-        return i.end == address_at(s, table, q + 1);
-    }
-    false
+    q + 1 < table.count as usize && i.end == address_at(s, table, q + 1)
 }
 
 // With any route, each Return and each Jump to no start.
@@ -129,7 +131,10 @@ fn mark_funclet_end(
     i: Instruction,
     routed: bool,
 )
-    requires { Passed (image_in s.now y) × (i ≡ instruction_at (image_in s.now y) q) × (routed ≡ ltb 0 (length (routes (image_in s.now y)))) × ImageThere s.now y }
+    requires passed { Passed (image_in s.now y) }
+    requires instruction { i ≡ instruction_at (image_in s.now y) q }
+    requires routed { routed ≡ ltb 0 (length (routes (image_in s.now y))) }
+    requires there { ImageThere s.now y }
     ensures { Marked y.code.instructions.count (λ p. funclet_end (image_in s.now y) q && eqb p q) marks.old marks.new }
 {
     if routed {
@@ -139,8 +144,11 @@ fn mark_funclet_end(
 }
 
 // Whether a funclet may end at q: by a Return, or by a Jump to no start.
+#[tactic(auto, unfolding(graph::specs::Leaders::ends_funclet))]
 fn ends_funclet(s: &[u8], y: Layout, hints: &[u16], q: usize, i: Instruction) -> bool
-    requires { Rising (table_of (image_in s.now y)) × (i ≡ instruction_at (image_in s.now y) q) × ImageThere s.now y }
+    requires rising { Rising (table_of (image_in s.now y)) }
+    requires instruction { i ≡ instruction_at (image_in s.now y) q }
+    requires there { ImageThere s.now y }
     ensures { result ≡ ends_funclet (image_in s.now y) q }
 {
     if i.flow == RETURN {
@@ -148,10 +156,7 @@ fn ends_funclet(s: &[u8], y: Layout, hints: &[u16], q: usize, i: Instruction) ->
     }
     if i.flow == JUMP {
         let table = y.code.instructions;
-        return match find(s, table, hints, i.target) {
-            Found::At(_) => false,
-            Found::Nothing => true,
-        };
+        return find(s, table, hints, i.target).is_none();
     }
     false
 }
@@ -164,7 +169,9 @@ fn mark_ranges(
     hints: &[u16],
     code_end: u64,
 ) -> [bool; 512]
-    requires { Passed (image_in s.now y) × (code_end ≡ code_end_of (table_of (image_in s.now y))) × ImageThere s.now y }
+    requires passed { Passed (image_in s.now y) }
+    requires code_ends { code_end ≡ code_end_of (table_of (image_in s.now y)) }
+    requires there { ImageThere s.now y }
     ensures { Marked y.code.instructions.count (λ p. handler_mark (image_in s.now y) p || route_mark (image_in s.now y) p) marks result }
 {
     mark_handlers(&mut marks, s, y, hints, code_end);
@@ -173,7 +180,9 @@ fn mark_ranges(
 }
 
 fn mark_handlers(marks: &mut [bool; 512], s: &[u8], y: Layout, hints: &[u16], code_end: u64)
-    requires { Passed (image_in s.now y) × (code_end ≡ code_end_of (table_of (image_in s.now y))) × ImageThere s.now y }
+    requires passed { Passed (image_in s.now y) }
+    requires code_ends { code_end ≡ code_end_of (table_of (image_in s.now y)) }
+    requires there { ImageThere s.now y }
     ensures { Marked y.code.instructions.count (handler_mark (image_in s.now y)) marks.old marks.new }
 {
     let n = y.code.handlers.count as usize;
@@ -190,7 +199,10 @@ fn mark_handler(
     code_end: u64,
     h: usize,
 )
-    requires { Passed (image_in s.now y) × (code_end ≡ code_end_of (table_of (image_in s.now y))) × (h < y.code.handlers.count) × ImageThere s.now y }
+    requires passed { Passed (image_in s.now y) }
+    requires code_ends { code_end ≡ code_end_of (table_of (image_in s.now y)) }
+    requires h_in { h < y.code.handlers.count }
+    requires there { ImageThere s.now y }
     ensures { Marked y.code.instructions.count (protect_mark (image_in s.now y) h) marks.old marks.new }
 {
     let table = y.code.instructions;

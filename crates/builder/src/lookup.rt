@@ -1,11 +1,9 @@
 // Address look-up: the position of the instruction that starts at an address.
-ghost use Rattle.std.specs.Prelude.{◌≡◌, true, ◌<◌};
+ghost use Rattle.std.specs.Prelude.{◌≡◌, true, ◌<◌, Some};
 ghost use Rattle.image.specs.There.{Holds};
 ghost use Rattle.graph.specs.Table.{entry_at};
 ghost use Rattle.graph.specs.Lookup.{entries_in, Rising, Finds};
-ghost use Rattle.graph.specs.declared.found.Found.TheVariants.{At};
 
-use graph::found::Found;
 use image::little::octet;
 use image::section::{Section, place};
 
@@ -13,8 +11,8 @@ use image::section::{Section, place};
 // believed. This one is that address a stands at position p.
 pub fn put_hint(hints: &mut [u16], a: u64, p: usize) {
     let slot = slot_of(a, hints.len());
-    if slot < hints.len() {
-        hints[slot] = (p % 65536) as u16;
+    if let Some(hint) = hints.get_mut(slot) {
+        *hint = (p % 65536) as u16;
     }
 }
 
@@ -26,23 +24,21 @@ fn slot_of(a: u64, slots: usize) -> usize {
 }
 
 // In a table whose addresses rise: by its hint, or else by halving.
-pub fn find(s: &[u8], y: Section, hints: &[u16], a: u64) -> Found
-    requires { Rising (entries_in s.now y) × Holds s.now y 31 }
+pub fn find(s: &[u8], y: Section, hints: &[u16], a: u64) -> Option<usize>
+    requires rising { Rising (entries_in s.now y) }
+    requires there { Holds s.now y 31 }
     ensures { Finds (entries_in s.now y) a result }
 {
-    let slot = slot_of(a, hints.len());
-    if slot < hints.len() {
-        let near = hints[slot] as usize;
-        if stands_at(s, y, near, a) {
-            return Found::At(near);
-        }
+    match hints.get(slot_of(a, hints.len())) {
+        Some(&near) => find_near(s, y, near as usize, a),
+        None => search(s, y, a),
     }
-    search(s, y, a)
 }
 
 // By halving.
-fn search(s: &[u8], y: Section, a: u64) -> Found
-    requires { Rising (entries_in s.now y) × Holds s.now y 31 }
+fn search(s: &[u8], y: Section, a: u64) -> Option<usize>
+    requires rising { Rising (entries_in s.now y) }
+    requires there { Holds s.now y 31 }
     ensures { Finds (entries_in s.now y) a result }
 {
     let mut lo = 0;
@@ -51,7 +47,7 @@ fn search(s: &[u8], y: Section, a: u64) -> Found
         let mid = lo + (hi - lo) / 2;
         let x = address_at(s, y, mid);
         if x == a {
-            return Found::At(mid);
+            return Some(mid);
         }
         if x < a {
             lo = mid + 1;
@@ -59,24 +55,26 @@ fn search(s: &[u8], y: Section, a: u64) -> Found
             hi = mid;
         }
     }
-    Found::Nothing
+    None
 }
 
 // Where the position is likely to be `near`.
-pub fn find_near(s: &[u8], y: Section, near: usize, a: u64) -> Found
-    requires { Rising (entries_in s.now y) × Holds s.now y 31 }
+pub fn find_near(s: &[u8], y: Section, near: usize, a: u64) -> Option<usize>
+    requires rising { Rising (entries_in s.now y) }
+    requires there { Holds s.now y 31 }
     ensures { Finds (entries_in s.now y) a result }
 {
     if stands_at(s, y, near, a) {
-        return Found::At(near);
+        return Some(near);
     }
     search(s, y, a)
 }
 
 // Whether the instruction at position i starts at address a.
 fn stands_at(s: &[u8], y: Section, i: usize, a: u64) -> bool
-    requires { Rising (entries_in s.now y) × Holds s.now y 31 }
-    ensures { result ≡ true → Finds (entries_in s.now y) a (At i) }
+    requires rising { Rising (entries_in s.now y) }
+    requires there { Holds s.now y 31 }
+    ensures { result ≡ true → Finds (entries_in s.now y) a (Some i) }
 {
     let n = y.count as usize;
     if n <= i {
@@ -88,14 +86,16 @@ fn stands_at(s: &[u8], y: Section, i: usize, a: u64) -> bool
 
 // Where the instruction at position i starts, and where it ends: of its record that alone is read.
 pub fn address_at(s: &[u8], y: Section, i: usize) -> u64
-    requires { i < y.count × Holds s.now y 31 }
+    requires i_in { i < y.count }
+    requires there { Holds s.now y 31 }
     ensures { result ≡ (entry_at (entries_in s.now y) i).address }
 {
     octet(s, place(y, i))
 }
 
 pub fn end_at(s: &[u8], y: Section, i: usize) -> u64
-    requires { i < y.count × Holds s.now y 31 }
+    requires i_in { i < y.count }
+    requires there { Holds s.now y 31 }
     ensures { result ≡ (entry_at (entries_in s.now y) i).end }
 {
     octet(s, place(y, i) + 8)

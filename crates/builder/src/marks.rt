@@ -11,21 +11,20 @@ ghost use Rattle.builder.specs.Marks.{Marked, start_mark};
 ghost use Rattle.builder.specs.Ranges.{Ranges};
 
 use crate::lookup::find;
-use crate::ranges::Ranged;
-use graph::found::Found;
+use crate::ranges::{Positions, RangeError};
 use image::section::Section;
 
 // The positions of a range that no check refused, and the one behind them.
-pub fn mark_range(marks: &mut [bool; 512], range: Ranged)
-    ensures { (m : Image) (start end : ℕ) → range_check (table_of m) start end ≡ clear → Ranges (table_of m) start end range → Marked 512 (range_mark m start end) marks.old marks.new }
+pub fn mark_range(marks: &mut [bool; 512], found: Result<Positions, RangeError>)
+    ensures { (m : Image) (start end : ℕ) → range_check (table_of m) start end ≡ clear → Ranges (table_of m) start end found → Marked 512 (range_mark m start end) marks.old marks.new }
 {
-    let Ranged::Positions { first, past } = range else {
+    let Ok(range) = found else {
         return;
     };
-    for p in first..past {
+    for p in range.first..range.past {
         mark_at(marks, p);
     }
-    mark_at(marks, past);
+    mark_at(marks, range.past);
 }
 
 // The start at a, where `leads` holds.
@@ -37,8 +36,9 @@ pub fn mark_target_if(
     leads: bool,
     a: u64,
 )
-    requires rising { Rising (entries_in s.now y) × Holds s.now y 31 }
-    requires count_bound { y.count ≤ 512 }
+    requires rising { Rising (entries_in s.now y) }
+    requires there { Holds s.now y 31 }
+    requires count_most { y.count ≤ 512 }
     ensures { Marked y.count (λ p. leads && start_mark (entries_in s.now y) a p) marks.old marks.new }
 {
     if leads {
@@ -57,11 +57,12 @@ pub fn mark_if(marks: &mut [bool; 512], leads: bool, p: usize)
 
 // The start at a, if there is one.
 pub fn mark_target(marks: &mut [bool; 512], s: &[u8], y: Section, hints: &[u16], a: u64)
-    requires rising { Rising (entries_in s.now y) × Holds s.now y 31 }
-    requires count_bound { y.count ≤ 512 }
+    requires rising { Rising (entries_in s.now y) }
+    requires there { Holds s.now y 31 }
+    requires count_most { y.count ≤ 512 }
     ensures { Marked y.count (start_mark (entries_in s.now y) a) marks.old marks.new }
 {
-    let Found::At(k) = find(s, y, hints, a) else {
+    let Some(k) = find(s, y, hints, a) else {
         return;
     };
     mark_at(marks, k);

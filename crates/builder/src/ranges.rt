@@ -10,15 +10,20 @@ ghost use Rattle.graph.specs.Build.{handler_check};
 ghost use Rattle.builder.specs.Ranges.{Ended, Ranges, handlers_check};
 
 use crate::lookup::find;
-use graph::error::{AddressBuildError, Checked};
-use graph::found::Found;
+use graph::error::AddressBuildError;
 use image::access::handler_in;
 use image::section::{Layout, Section};
 
-// The positions of a range's instructions, from `first` up to `past`; or what is wrong with it (10, 11, 12).
+// The positions of a range's instructions, from `first` up to `past`.
 #[derive(Clone, Copy)]
-pub enum Ranged {
-    Positions { first: usize, past: usize },
+pub struct Positions {
+    pub first: usize,
+    pub past: usize,
+}
+
+// What is wrong with a range (10, 11, 12).
+#[derive(Clone, Copy)]
+pub enum RangeError {
     Empty,
     NoStart,
     NoEnd,
@@ -26,6 +31,7 @@ pub enum Ranged {
 
 // The range from `start` to `end`, in a table that ends at `code_end`. It is asked for at six places and kept so short that the
 // compiler copies it into each of them: a call would hand over two slices and a section in memory.
+#[tactic(auto, using(graph::proofs::RangeLaws::rising), unfolding(graph::specs::Table::range_check))]
 pub fn range_check(
     s: &[u8],
     y: Section,
@@ -33,24 +39,25 @@ pub fn range_check(
     code_end: u64,
     start: u64,
     end: u64,
-) -> Ranged
-    requires { Ended (entries_in s.now y) code_end × Holds s.now y 31 }
+) -> Result<Positions, RangeError>
+    requires ended { Ended (entries_in s.now y) code_end }
+    requires there { Holds s.now y 31 }
     ensures { Ranges (entries_in s.now y) start end result }
 {
     if end <= start {
-        return Ranged::Empty;
+        return Err(RangeError::Empty);
     }
-    let Found::At(first) = find(s, y, hints, start) else {
-        return Ranged::NoStart;
+    let Some(first) = find(s, y, hints, start) else {
+        return Err(RangeError::NoStart);
     };
     if end == code_end {
         let past = y.count as usize;
-        return Ranged::Positions { first, past };
+        return Ok(Positions { first, past });
     }
-    let Found::At(past) = find(s, y, hints, end) else {
-        return Ranged::NoEnd;
+    let Some(past) = find(s, y, hints, end) else {
+        return Err(RangeError::NoEnd);
     };
-    Ranged::Positions { first, past }
+    Ok(Positions { first, past })
 }
 
 // The refusal of a range.
@@ -61,50 +68,57 @@ pub fn check_range(
     code_end: u64,
     start: u64,
     end: u64,
-) -> Checked
-    requires { Ended (entries_in s.now y) code_end × Holds s.now y 31 }
+) -> Result<(), AddressBuildError>
+    requires ended { Ended (entries_in s.now y) code_end }
+    requires there { Holds s.now y 31 }
     ensures { check_of result ≡ range_check (entries_in s.now y) start end }
 {
     match range_check(s, y, hints, code_end, start, end) {
-        Ranged::Positions { .. } => Checked::Clear,
-        Ranged::Empty => Checked::Refused(AddressBuildError::EmptyProtectedRange { start, end }),
-        Ranged::NoStart => Checked::Refused(AddressBuildError::MissingRangeStart {
-            address: start,
-        }),
-        Ranged::NoEnd => Checked::Refused(AddressBuildError::MissingRangeEnd { address: end }),
+        Ok(_) => Ok(()),
+        Err(RangeError::Empty) => Err(AddressBuildError::EmptyProtectedRange { start, end }),
+        Err(RangeError::NoStart) => Err(AddressBuildError::MissingRangeStart { address: start }),
+        Err(RangeError::NoEnd) => Err(AddressBuildError::MissingRangeEnd { address: end }),
     }
 }
 
 // The first refusal among those of the handlers.
-pub fn check_handlers(s: &[u8], y: Layout, hints: &[u16], code_end: u64) -> Checked
-    requires { Ended (table_of (image_in s.now y)) code_end × ImageThere s.now y }
+#[tactic(auto, using(crate::proofs::Row::rows))]
+pub fn check_handlers(
+    s: &[u8],
+    y: Layout,
+    hints: &[u16],
+    code_end: u64,
+) -> Result<(), AddressBuildError>
+    requires ended { Ended (table_of (image_in s.now y)) code_end }
+    requires there { ImageThere s.now y }
     ensures { check_of result ≡ handlers_check (image_in s.now y) }
 {
-    let n = y.code.handlers.count as usize;
-    for h in 0..n {
-        let found = check_handler(s, y, hints, code_end, h);
-        let Checked::Clear = found else {
-            return found;
-        };
+    for h in 0..y.code.handlers.count as usize {
+        check_handler(s, y, hints, code_end, h)?;
     }
-    Checked::Clear
+    Ok(())
 }
 
-fn check_handler(s: &[u8], y: Layout, hints: &[u16], code_end: u64, h: usize) -> Checked
-    requires { Ended (table_of (image_in s.now y)) code_end × ImageThere s.now y × (h < y.code.handlers.count) }
+#[tactic(auto, using(graph::proofs::RangeLaws::rising), unfolding(graph::specs::Build::handler_check, graph::specs::Leaders::handler_at))]
+fn check_handler(
+    s: &[u8],
+    y: Layout,
+    hints: &[u16],
+    code_end: u64,
+    h: usize,
+) -> Result<(), AddressBuildError>
+    requires ended { Ended (table_of (image_in s.now y)) code_end }
+    requires there { ImageThere s.now y }
+    requires h_in { h < y.code.handlers.count }
     ensures { check_of result ≡ handler_check (image_in s.now y) h }
 {
     let code = y.code;
     let instructions = code.instructions;
     let handler = handler_in(s, code.handlers, h);
-    let start = handler.start;
-    let end = handler.end;
-    if let Checked::Refused(e) = check_range(s, instructions, hints, code_end, start, end) {
-        return Checked::Refused(e);
-    }
+    check_range(s, instructions, hints, code_end, handler.start, handler.end)?;
     let entry = handler.entry;
-    let Found::At(_) = find(s, instructions, hints, entry) else {
-        return Checked::Refused(AddressBuildError::MissingHandlerEntry { address: entry });
+    let Some(_) = find(s, instructions, hints, entry) else {
+        return Err(AddressBuildError::MissingHandlerEntry { address: entry });
     };
-    Checked::Clear
+    Ok(())
 }

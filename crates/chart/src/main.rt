@@ -7,5 +7,5 @@ use print::print_chart;
 fn main() {
     let mut buffer = [0u8; 42701];
     let n = io::read_full(0, &mut buffer);
-    print_chart(&buffer[0..n]);
+    print_chart(&buffer[..n]);
 }

@@ -8,10 +8,10 @@ use Rattle.graph.specs.Answers.{Laid}
 use Rattle.addition.specs.Add.{Outcome, added, refused}
 use Rattle.unwind.specs.HopWords.{HopsLaid}
 use Rattle.unwind.specs.Answers.{image_of}
-use Rattle.export.specs.declared.build.Answer.{Answer}
+use Rattle.text.specs.declared.refusal.Numbers.{Numbers}
 use Rattle.export.specs.Answers.{refusal_answer}
 
-abbrev pub told_addition : Outcome → Answer
+abbrev pub told_addition : Outcome → Numbers
 told_addition (added a) = refusal_answer (refusal 0 0 0)
 told_addition (refused r) = refusal_answer r
 

@@ -1,19 +1,22 @@
 -- The answers on a graph: number 0 where nothing is refused, else document 01's number and values.
-use Rattle.std.specs.Prelude.{true, cond, ◌≡◌, List, ℕ, length}
+use Rattle.std.specs.Prelude.{true, ◌≡◌, List, ℕ, Result, Ok, Err}
 use Rattle.image.specs.Refusal.{Refusal, refusal}
-use Rattle.graph.specs.Graph.{Held}
 use Rattle.graph.specs.Words.{held_in}
+use Rattle.graph.specs.Error.{refusal_of}
 use Rattle.graph.specs.Build.{Outcome, built, refused}
 use Rattle.graph.specs.Answers.{Laid}
 use Rattle.graph.specs.WellFormed.{well_formed}
-use Rattle.graph.specs.Reached.{reached_blocks}
-use Rattle.export.specs.declared.build.Answer.{Answer}
-use Rattle.export.specs.declared.build.ReachedCount.{ReachedCount}
+use Rattle.graph.specs.declared.error.AddressBuildError.{AddressBuildError}
+use Rattle.text.specs.declared.refusal.Numbers.{Numbers}
 
-abbrev pub refusal_answer : Refusal → Answer
+abbrev pub refusal_answer : Refusal → Numbers
 refusal_answer r = record { number = r.number; first = r.first; second = r.second }
 
-abbrev pub told_build : Outcome → Answer
+abbrev pub told : Result Unit AddressBuildError → Numbers
+told (Ok _) = refusal_answer (refusal 0 0 0)
+told (Err e) = refusal_answer (refusal_of e)
+
+abbrev pub told_build : Outcome → Numbers
 told_build (built g) = refusal_answer (refusal 0 0 0)
 told_build (refused r) = refusal_answer r
 
@@ -21,7 +24,3 @@ told_build (refused r) = refusal_answer r
 abbrev pub Leaves : Outcome → List ℕ → List ℕ → Type 0
 Leaves (built g) w w' = Laid w w' g × (well_formed (held_in w') ≡ true)
 Leaves (refused r) w w' = w' ≡ w
-
--- how many blocks are reached, or 21
-abbrev pub told_reached : Held → ReachedCount
-told_reached h = cond (well_formed h) (record { number = 0; count = length (reached_blocks h.graph) }) (record { number = 21; count = 0 })

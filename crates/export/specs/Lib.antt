@@ -2,4 +2,4 @@ pub mod Told
 pub mod Answers
 pub mod Additions
 pub mod Sequences
-pub mod Charts
+pub mod Count

@@ -1,19 +1,28 @@
 -- The answers on a sequence with its own routes, and what is left of it: number 0 where nothing is refused, else document 01's
 -- number and values, and 1 before them where the graph was built.
-use Rattle.std.specs.Prelude.{true, ◌≡◌, List, ℕ}
+use Rattle.std.specs.Prelude.{true, ◌≡◌, List, ℕ, Result, Ok, Err}
 use Rattle.image.specs.Refusal.{Refusal, refusal}
 use Rattle.image.specs.Read.{read_routes}
 use Rattle.graph.specs.Words.{held_in}
+use Rattle.graph.specs.Error.{refusal_of}
 use Rattle.graph.specs.WellFormed.{well_formed}
 use Rattle.graph.specs.Answers.{Laid}
 use Rattle.unwind.specs.HopWords.{HopsLaid}
 use Rattle.unwind.specs.Answers.{image_of}
 use Rattle.text.specs.Chart.{route_bytes}
 use Rattle.sequence.specs.Sequences.{Outcome, whole, unrouted, refused}
+use Rattle.sequence.specs.declared.SequenceError.{SequenceError}
+use Rattle.sequence.specs.declared.SequenceError.TheVariants.{Unrouted, Refused}
 use Rattle.export.specs.declared.whole.SequenceAnswer.{SequenceAnswer}
+use Rattle.export.specs.Answers.{refusal_answer}
 
 abbrev pub sequence_answer : ℕ → Refusal → SequenceAnswer
-sequence_answer built r = record { built = built; number = r.number; first = r.first; second = r.second }
+sequence_answer built r = record { built = built; refusal = refusal_answer r }
+
+abbrev pub told_whole : Result Unit SequenceError → SequenceAnswer
+told_whole (Ok _) = sequence_answer 1 (refusal 0 0 0)
+told_whole (Err (Unrouted e)) = sequence_answer 1 (refusal_of e)
+told_whole (Err (Refused e)) = sequence_answer 0 (refusal_of e)
 
 abbrev pub told_sequence : Outcome → SequenceAnswer
 told_sequence (whole a) = sequence_answer 1 (refusal 0 0 0)

@@ -1,80 +1,47 @@
 // The build of a graph, and its reached blocks: a refusal in document 01's numbers, and number 0 where there is none.
 ghost use Rattle.std.specs.Prelude.{◌≡◌};
-ghost use Rattle.image.specs.Refusal.{refusal};
 ghost use Rattle.graph.specs.Words.{held_in};
-ghost use Rattle.graph.specs.Error.{refusal_of};
 ghost use Rattle.graph.specs.Build.{build_from};
-ghost use Rattle.export.specs.Answers.{refusal_answer, told_build, Leaves, told_reached};
+ghost use Rattle.export.specs.Answers.{told, told_build, Leaves};
+ghost use Rattle.export.specs.Count.{told_reached};
 
-use builder::build::{Built, build};
-use graph::error::{AddressBuildError, Checked};
+use crate::count::{Count, counted};
+use builder::build::build;
+use graph::error::AddressBuildError;
 use graph::reach::reached;
 use graph::store::Words;
-use text::refusal::numbers_of;
+use text::refusal::Numbers;
 
 // The number where nothing is refused.
 const NOTHING: u64 = 0;
 
-#[repr(C)]
-#[derive(Clone, Copy)]
-pub struct Answer {
-    pub number: u64,
-    pub first: u64,
-    pub second: u64,
-}
-
-#[repr(C)]
-#[derive(Clone, Copy)]
-pub struct ReachedCount {
-    pub number: u64,
-    pub count: u64,
-}
-
-#[unsafe(no_mangle)]
-pub extern "C" fn foldzine_build(s: &[u8], g: &mut Words) -> Answer
-    ensures { (result ≡ told_build (build_from s.now)) × Leaves (build_from s.now) g.old g.new }
+pub fn told(r: Result<(), AddressBuildError>) -> Numbers
+    ensures { result ≡ told r }
 {
-    match build(s, g) {
-        Built::Stored => nothing_refused(),
-        Built::Refused(e) => answer_of(e),
+    match r {
+        Ok(()) => Numbers {
+            number: NOTHING,
+            first: 0,
+            second: 0,
+        },
+        Err(e) => Numbers::from(e),
     }
 }
 
+#[tactic(auto, using(crate::proofs::AnswerLaws::builds))]
 #[unsafe(no_mangle)]
-pub extern "C" fn foldzine_reached(g: &Words) -> ReachedCount
+pub extern "C" fn foldzine_build(s: &[u8], g: &mut Words) -> Numbers
+    ensures answer { result ≡ told_build (build_from s.now) }
+    ensures leaves { Leaves (build_from s.now) g.old g.new }
+{
+    told(build(s, g))
+}
+
+#[tactic(auto, using(crate::proofs::AnswerLaws::reached_told))]
+#[unsafe(no_mangle)]
+pub extern "C" fn foldzine_reached(g: &Words) -> Count
     ensures { result ≡ told_reached (held_in g.now) }
 {
     let r = reached(g);
-    let found = r.found;
-    match found {
-        Checked::Clear => ReachedCount {
-            number: NOTHING,
-            count: r.count as u64,
-        },
-        Checked::Refused(_) => ReachedCount {
-            number: 21,
-            count: 0,
-        },
-    }
-}
-
-pub fn nothing_refused() -> Answer
-    ensures { result ≡ refusal_answer (refusal 0 0 0) }
-{
-    Answer {
-        number: NOTHING,
-        first: 0,
-        second: 0,
-    }
-}
-
-pub fn answer_of(e: AddressBuildError) -> Answer
-    ensures { result ≡ refusal_answer (refusal_of e) }
-{
-    let n = numbers_of(e);
-    Answer {
-        number: n.number,
-        first: n.first,
-        second: n.second,
-    }
+    counted(r.found.is_ok(), r.count)
 }

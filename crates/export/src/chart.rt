@@ -9,8 +9,9 @@ ghost use Rattle.unwind.specs.Answers.{image_of};
 ghost use Rattle.text.specs.Chart.{graph_lines};
 ghost use Rattle.text.specs.Put.{Told};
 ghost use Rattle.text.specs.HopText.{hop_in, told_at};
-ghost use Rattle.export.specs.Charts.{told_lines};
+ghost use Rattle.export.specs.Count.{told_lines};
 
+use crate::count::{Count, counted};
 use graph::rule::is_graph;
 use graph::store::Words;
 use text::chart::{line_at, line_count};
@@ -18,28 +19,12 @@ use text::hops::{HopText, hop_line, lists_of};
 use text::routes::route_layout;
 use unwind::hops::Hops;
 
-#[repr(C)]
-#[derive(Clone, Copy)]
-pub struct LineCount {
-    pub number: u64,
-    pub count: u64,
-}
-
 // How many lines a graph has up to its hops, or 21.
 #[unsafe(no_mangle)]
-pub extern "C" fn foldzine_line_count(g: &Words) -> LineCount
+pub extern "C" fn foldzine_line_count(g: &Words) -> Count
     ensures { result ≡ told_lines (held_in g.now) }
 {
-    if is_graph(g) {
-        return LineCount {
-            number: 0,
-            count: line_count(g) as u64,
-        };
-    }
-    LineCount {
-        number: 21,
-        count: 0,
-    }
+    counted(is_graph(g), line_count(g))
 }
 
 // Line k of a graph; past the last there is none.
@@ -69,6 +54,5 @@ pub extern "C" fn foldzine_hop_line(
 ) -> usize
     ensures { Told (told_at (hops_in (image_of (read_routes s.now)) h.now) i k) out.old out.new result }
 {
-    let y = route_layout(s);
-    hop_line(h, s, y, i, k, out)
+    hop_line(h, s, route_layout(s), i, k, out)
 }

@@ -4,5 +4,6 @@
 pub mod add;
 pub mod build;
 pub mod chart;
+pub mod count;
 pub mod read;
 pub mod whole;

@@ -24,7 +24,7 @@ use lib.ListN.{length, get_or, set, length-set, get_or-replicate, get_or-eq_defa
 use lib.Seq.{get_or-set_same, get_or-set_other, set_out}
 use Rattle.graph.specs.Fold.{count}
 use Rattle.graph.specs.BlockSet.{member, none, including, excluding, Common, size_of, LowestOf, LowestFrom}
-use Rattle.graph.specs.declared.blockset.Lowest.TheVariants.{At}
+use Rattle.std.proofs.Common.{Some}
 use Rattle.graph.proofs.FoldLaws.{count_same, count_none, count_add, count_one, count_le}
 use Rattle.graph.proofs.Bit.{bit, bit_shift, bit_lt, bit_zero, bit_or_law, bit_xor_law, bit_power_same, bit_power_other, ones_bits, ones_low, trailing_bit}
 
@@ -203,7 +203,7 @@ module _ (w : List ℕ) (i : ℕ) where
         let here = count_same (λ (k : ℕ). member w (64 * i + k)) (λ (k : ℕ). eqb (bit (get_or w i 0) k) 1) 64 (λ k h. member_at w i k h) in
         rw next (count_add (member w) (64 * i) 64 ∙ ap (λ (n : ℕ). count (member w) (64 * i) + n) (here ∙ sym (ones_bits 64 (get_or w i 0) fits)))
 
-    pub lowest_from : (n : ℕ) → n ≤ 64 * i → i < 16 → (get_or w i 0 ≡ 0 → ⊥) → ((c : ℕ) → n ≤ c → c < 64 * i → member w c ≡ false) → LowestFrom w n (At (64 * i + count_trailing_zeros 64 (get_or w i 0)))
+    pub lowest_from : (n : ℕ) → n ≤ 64 * i → i < 16 → (get_or w i 0 ≡ 0 → ⊥) → ((c : ℕ) → n ≤ c → c < 64 * i → member w c ≡ false) → LowestFrom w n (Some (64 * i + count_trailing_zeros 64 (get_or w i 0)))
     lowest_from n le h ne below =
         let low = trailing_bit 64 (get_or w i 0) fits ne in (
           omega (arith, low.within),
@@ -214,7 +214,7 @@ module _ (w : List ℕ) (i : ℕ) where
           omega arith,
         )
 
-    pub lowest_is : i < 16 → (get_or w i 0 ≡ 0 → ⊥) → ((c : ℕ) → 0 ≤ c → c < 64 * i → member w c ≡ false) → LowestOf w (At (64 * i + count_trailing_zeros 64 (get_or w i 0)))
+    pub lowest_is : i < 16 → (get_or w i 0 ≡ 0 → ⊥) → ((c : ℕ) → 0 ≤ c → c < 64 * i → member w c ≡ false) → LowestOf w (Some (64 * i + count_trailing_zeros 64 (get_or w i 0)))
     lowest_is h ne below = let low = lowest_from 0 (omega arith) h ne below in (low.0, low.1, λ c lt. low.2 c (omega arith) lt)
 
 -- the blocks below the one of digit k of a word
@@ -234,10 +234,6 @@ rank-all w long b =
           let rest : b ≡ 1024 + (b - 1024) = omega arith in
           omega (arith, ap (count (member w)) m, ap (count (member w)) rest, count_add (member w) 1024 (b - 1024), count_none (λ (j : ℕ). member w (1024 + j)) (b - 1024) (λ j h. member_past w (1024 + j) long (omega arith)))
     ]
-
--- nothing in sixteen words is nothing at all
-pub none_at_all : (w : List ℕ) → length w ≡ 16 → ((c : ℕ) → c < 1024 → member w c ≡ false) → (c : ℕ) → member w c ≡ false
-none_at_all w long below c = elim (dec_lt c 1024) [ yes lt ↦ below c lt | no ge ↦ member_past w c long (omega arith) ]
 
 -- ---- the blocks of both
 

@@ -2,6 +2,7 @@
 --     length-table, get_or_table      f 0, f 1, .. below n: how many, and which stands at i
 --     table_same                   the list hangs on f below n alone
 --     all_at, all_more, all_fails  what holds of each number holds of one; one number more; one of which it does not hold
+--     all_below, some_below        what the methods `all` and `any` answer of the numbers below n
 --     some_same, some_more         it hangs on f below n alone; one number more
 --     some_front, some_or          the first number apart, and two tests
 --     some_at, some_where, some-none     it holds of some number if of one, of which one, and of none
@@ -14,7 +15,7 @@
 --     count_le                     there are n at most
 -- Assumes nothing.
 use mathlib.Core.Path.{◌≡◌, refl, sym, ap, ◌∙◌}
-use mathlib.Core.Bool.{Bool, true, false, ◌&&◌, ◌||◌, and-false, or-true, or-false, or_assoc, false≢true}
+use mathlib.Core.Bool.{Bool, true, false, ◌&&◌, ◌||◌, and-false, and-true, and_assoc, or-true, or-false, or_assoc, false≢true}
 use mathlib.Core.Logic.{◌⊎◌, inl, inr, ⊎_elim}
 use mathlib.Core.List.{List, [], ◌∷◌, ◌++◌, append-nil, append_assoc}
 use Prim.Native.Nat.{ℕ, zero, suc, ◌+◌, ◌≤◌, ◌<◌}
@@ -26,6 +27,16 @@ use lib.ListN.{length, get_or, length-append, get_or-append}
 use lib.Seq.{get_or_at}
 use Rattle.graph.specs.Fold.{flat, some, all, count, among}
 use Rattle.image.specs.Image.{table}
+use Rattle.std.specs.Fn.{Called}
+use Rattle.std.specs.Iterator.{YieldsThen}
+use Rattle.std.specs.List.{FoldsTo, list_all, list_any, range_with_len}
+use Rattle.std.specs.Option.{MatchOption}
+use Rattle.std.proofs.Common.{Option}
+use Rattle.std.proofs.lemmas.Iterator.{YieldsList-from_range}
+use Rattle.std.proofs.lemmas.Iterator.Search.{all_from_yields_List, any_from_yields_List}
+use denote.Param.Members.{Mut}
+use Rattle.std.specs.declared.ops.Range.{Range}
+use Rattle.std.proofs.iter.Yields.{nat_range_steps}
 
 module _ {A : Type 0} where
   pub length-table : (f : ℕ → A) (n : ℕ) → length (table f n) ≡ n
@@ -79,6 +90,36 @@ all_fails f (suc n) i h out =
     (λ lt. rw (all_fails f n i lt out))
     (eq-or-lt_of_le (le_of_suc-le-suc h))
 
+all_same : (f g : ℕ → Bool) (n : ℕ) → ((i : ℕ) → f i ≡ g i) → all f n ≡ all g n
+unfolding all
+all_same f g zero same = refl
+all_same f g (suc n) same = rw (all_same f g n same, same n)
+
+all_front : (f : ℕ → Bool) (n : ℕ) → all f (suc n) ≡ (f 0 && all (λ k. f (suc k)) n)
+unfolding all
+all_front f zero = sym (and-true (f 0))
+all_front f (suc n) = ap (λ (b : Bool). b && f (suc n)) (all_front f n) ∙ and_assoc (f 0) (all (λ k. f (suc k)) n) (f (suc n))
+
+all_listed : (f : ℕ → Bool) (a n : ℕ) → list_all f (range_with_len a n) ≡ all (λ i. f (a + i)) n
+unfolding all
+all_listed f a zero = refl
+all_listed f a (suc n) =
+    let here : a ≡ a + 0 = omega arith in
+    ap (λ (b : Bool). f a && b) (all_listed f (a + 1) n ∙ all_same (λ i. f (a + 1 + i)) (λ i. f (a + suc i)) n (λ i. ap f (omega arith)))
+    ∙ ap (λ (k : ℕ). f k && all (λ i. f (a + suc i)) n) here
+    ∙ sym (all_front (λ i. f (a + i)) n)
+
+-- what the method `all` answers of the numbers below n
+pub all_below : {F : Type 0} {g : Mut F (ℕ × Unit {0}) Bool} (f : ℕ → Bool) (n : ℕ) {s : Range ℕ} (u : Range ℕ) (h : F) (r : Bool)
+    → (xs : List ℕ) × (o : Option ℕ) × (j : F) × YieldsThen nat_range_steps s xs o u × FoldsTo (λ p x q. Called g p (x, tt) true q) h xs j × MatchOption o (r ≡ true) (λ x. (r ≡ false) × ((k : F) × Called g j (x, tt) false k))
+    → s ≡ record { start = 0; end = n }
+    → ((x : ℕ) (b : Bool) (q : F) → Called g h (x, tt) b q → (q ≡ h) × (b ≡ f x))
+    → r ≡ all f n
+all_below f n u h r ran is each =
+    all_from_yields_List f u h r ran (YieldsList-from_range 0 n n is (omega arith)) each
+    ∙ all_listed f 0 n
+    ∙ all_same (λ i. f (0 + i)) f n (λ i. ap f (omega arith))
+
 -- ---- some
 
 pub some_same : (f g : ℕ → Bool) (n : ℕ) → ((i : ℕ) → i < n → f i ≡ g i) → some f n ≡ some g n
@@ -90,6 +131,26 @@ pub some_front : (f : ℕ → Bool) (n : ℕ) → some f (suc n) ≡ (f 0 || som
 unfolding some
 some_front f zero = sym (or-false (f 0))
 some_front f (suc n) = ap (λ (b : Bool). b || f (suc n)) (some_front f n) ∙ or_assoc (f 0) (some (λ k. f (suc k)) n) (f (suc n))
+
+some_listed : (f : ℕ → Bool) (a n : ℕ) → list_any f (range_with_len a n) ≡ some (λ i. f (a + i)) n
+unfolding some
+some_listed f a zero = refl
+some_listed f a (suc n) =
+    let here : a ≡ a + 0 = omega arith in
+    ap (λ (b : Bool). f a || b) (some_listed f (a + 1) n ∙ some_same (λ i. f (a + 1 + i)) (λ i. f (a + suc i)) n (λ i h. ap f (omega arith)))
+    ∙ ap (λ (k : ℕ). f k || some (λ i. f (a + suc i)) n) here
+    ∙ sym (some_front (λ i. f (a + i)) n)
+
+-- what the method `any` answers of the numbers below n
+pub some_below : {F : Type 0} {g : Mut F (ℕ × Unit {0}) Bool} (f : ℕ → Bool) (n : ℕ) {s : Range ℕ} (u : Range ℕ) (h : F) (r : Bool)
+    → (xs : List ℕ) × (o : Option ℕ) × (j : F) × YieldsThen nat_range_steps s xs o u × FoldsTo (λ p x q. Called g p (x, tt) false q) h xs j × MatchOption o (r ≡ false) (λ x. (r ≡ true) × ((k : F) × Called g j (x, tt) true k))
+    → s ≡ record { start = 0; end = n }
+    → ((x : ℕ) (b : Bool) (q : F) → Called g h (x, tt) b q → (q ≡ h) × (b ≡ f x))
+    → r ≡ some f n
+some_below f n u h r ran is each =
+    any_from_yields_List f u h r ran (YieldsList-from_range 0 n n is (omega arith)) each
+    ∙ some_listed f 0 n
+    ∙ some_same (λ i. f (0 + i)) f n (λ i lt. ap f (omega arith))
 
 pub some_or : (f g : ℕ → Bool) (n : ℕ) → some (λ k. f k || g k) n ≡ (some f n || some g n)
 unfolding some

@@ -17,7 +17,7 @@ use lib.Dec.{eqb}
 use lib.ListN.{length, get_or}
 use lib.Pow.{shr-shr}
 use Rattle.graph.specs.BlockSet.{member, excluding, size_of, LowestOf, LowestFrom}
-use Rattle.graph.specs.declared.blockset.Lowest.TheVariants.{At, Nothing}
+use Rattle.std.proofs.Common.{Some, None}
 use Rattle.graph.proofs.Bit.{bit, bit_shift, bit_zero, bit_below, trailing_bit}
 use Rattle.graph.proofs.BlockLaws.{member_at, excluding-none, member-excluding, length-excluding, size-excluding}
 
@@ -47,7 +47,7 @@ module _ (w : List ℕ) (n : ℕ) where
       rw (← e) (rest_at (c - n) (omega arith) ∙ ap (λ (v : ℕ). eqb (bit v (c - n)) 1) z ∙ ap (λ (d : ℕ). eqb d 1) (bit_zero (c - n)))
 
   module _ (fits : get_or w (n / 64) 0 < 2 ^ 64) where
-    pub next_here : n < 1024 → (get_or w (n / 64) 0 / 2 ^ (n % 64) ≡ 0 → ⊥) → get_or w (n / 64) 0 / 2 ^ (n % 64) < 2 ^ 64 → LowestFrom w n (At (n + count_trailing_zeros 64 (get_or w (n / 64) 0 / 2 ^ (n % 64))))
+    pub next_here : n < 1024 → (get_or w (n / 64) 0 / 2 ^ (n % 64) ≡ 0 → ⊥) → get_or w (n / 64) 0 / 2 ^ (n % 64) < 2 ^ 64 → LowestFrom w n (Some (n + count_trailing_zeros 64 (get_or w (n / 64) 0 / 2 ^ (n % 64))))
     next_here h ne small =
         let low = trailing_bit 64 (get_or w (n / 64) 0 / 2 ^ (n % 64)) small ne in
         let t : ℕ = count_trailing_zeros 64 (get_or w (n / 64) 0 / 2 ^ (n % 64)) in
@@ -95,16 +95,16 @@ module _ (w : List ℕ) (long : length w ≡ 16) where
         | no ne ↦ rw (ne_eqb n c ne) (left_out n c (omega arith))
       ]
 
-  pub left_lowest : (n b : ℕ) → LowestFrom w n (At b) → LowestOf (left_from w n) (At b)
+  pub left_lowest : (n b : ℕ) → LowestFrom w n (Some b) → LowestOf (left_from w n) (Some b)
   left_lowest n b low = (low.0, left_in n b low.3 ∙ low.1, below)
     where
       below : (c : ℕ) → c < b → member (left_from w n) c ≡ false
       below c lt = elim (dec_lt c n) [ yes out ↦ left_out n c out | no ge ↦ left_in n c (omega arith) ∙ low.2 c (omega arith) lt ]
 
-  pub left-none : (n : ℕ) → LowestFrom w n Nothing → LowestOf (left_from w n) Nothing
+  pub left-none : (n : ℕ) → LowestFrom w n None → LowestOf (left_from w n) None
   left-none n low c = elim (dec_lt c n) [ yes out ↦ left_out n c out | no ge ↦ left_in n c (omega arith) ∙ low c (omega arith) ]
 
-  pub left_next : (n b : ℕ) → LowestFrom w n (At b) → left_from w (b + 1) ≡ excluding (left_from w n) b
+  pub left_next : (n b : ℕ) → LowestFrom w n (Some b) → left_from w (b + 1) ≡ excluding (left_from w n) b
   unfolding left_from
   left_next n b low =
       let more : b + 1 ≡ suc b = omega arith in
@@ -117,5 +117,5 @@ module _ (w : List ℕ) (long : length w ≡ 16) where
           let more : n + suc d ≡ suc (n + d) = omega arith in
           rw more (excluding-none (left_from w (n + d)) (n + d) (left_in (n + d) (n + d) (omega arith) ∙ low.2 (n + d) (omega arith) (omega arith)) ∙ same d (omega arith))
 
-  pub left_less : (n b : ℕ) → LowestFrom w n (At b) → size_of (left_from w (b + 1)) < size_of (left_from w n)
+  pub left_less : (n b : ℕ) → LowestFrom w n (Some b) → size_of (left_from w (b + 1)) < size_of (left_from w n)
   left_less n b low = let at = left_lowest n b low in rw (left_next n b low) (omega (arith, size-excluding (left_from w n) (left_long n) b at.0 at.1))

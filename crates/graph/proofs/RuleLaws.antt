@@ -181,6 +181,13 @@ module _ (g : Graph) where
   pub place_fits : (b : ℕ) → is_built g b ≡ true → in_place b ≡ true → filled g (b + 1) ≤ length g.table
   place_fits b is h = rw add-one (leb-true (filled g (suc b)) (length g.table) (both_true (eqb (block g b).first (filled g b)) _ (rw is at h)).1)
 
+  -- the block is in place, and what is filled then
+  pub place_stays : (b : ℕ) (x : Block) (run n : ℕ) → x ≡ block g b → run ≡ filled g b → n ≡ length g.table → is_built g b ≡ true → run ≤ n
+      → (not (eqb x.first run) || ltb (n - run) x.count) ≡ false → (in_place b ≡ true) × (run + x.count ≡ filled g (b + 1)) × (filled g (b + 1) ≤ length g.table)
+  place_stays b x run n is so_far whole built h e =
+      let stays = place_test b x run n false is so_far whole built h e in
+      (stays, rw (is, so_far) (sym (filled_more b)), place_fits b built stays)
+
   pub covers_not : (b : ℕ) → b < length g.blocks → in_place b ≡ false → covers_table g ≡ false
   unfolding covers_table
   covers_not b h out = rw (all_fails in_place (length g.blocks) b h out)

@@ -1,9 +1,7 @@
 -- A set of blocks, of which there are 1,024, as sixteen words: block b is bit b % 64 of word b / 64.
-use Rattle.std.specs.Prelude.{◌≡◌, Bool, true, false, cond, ◌&&◌, List, ℕ, ◌/◌, ◌%◌, ◌^◌, ◌≤◌, ◌<◌, eqb, get_or, set, replicate}
+use Rattle.std.specs.Prelude.{◌≡◌, Bool, true, false, cond, ◌&&◌, List, ℕ, ◌/◌, ◌%◌, ◌^◌, ◌≤◌, ◌<◌, eqb, get_or, set, replicate, Option, Some, None}
 use Rattle.std.specs.Int.Bits.{bit_or, bit_xor}
 use Rattle.graph.specs.Fold.{count}
-use Rattle.graph.specs.declared.blockset.Lowest.{Lowest}
-use Rattle.graph.specs.declared.blockset.Lowest.TheVariants.{At, Nothing}
 
 unfoldable pub member : List ℕ → ℕ → Bool
 member w b = eqb (get_or w (b / 64) 0 / 2 ^ (b % 64) % 2) 1
@@ -27,11 +25,11 @@ abbrev pub size_of : List ℕ → ℕ
 size_of w = count (member w) 1024
 
 -- the lowest block, if there is one
-abbrev pub LowestOf : List ℕ → Lowest → Type 0
-LowestOf w (At b) = (b < 1024) × (member w b ≡ true) × ((c : ℕ) → c < b → member w c ≡ false)
-LowestOf w Nothing = (c : ℕ) → member w c ≡ false
+abbrev pub LowestOf : List ℕ → Option ℕ → Type 0
+LowestOf w (Some b) = (b < 1024) × (member w b ≡ true) × ((c : ℕ) → c < b → member w c ≡ false)
+LowestOf w None = (c : ℕ) → member w c ≡ false
 
 -- the lowest block from n on, if there is one
-abbrev pub LowestFrom : List ℕ → ℕ → Lowest → Type 0
-LowestFrom w n (At b) = (b < 1024) × (member w b ≡ true) × ((c : ℕ) → n ≤ c → c < b → member w c ≡ false) × (n ≤ b)
-LowestFrom w n Nothing = (c : ℕ) → n ≤ c → member w c ≡ false
+abbrev pub LowestFrom : List ℕ → ℕ → Option ℕ → Type 0
+LowestFrom w n (Some b) = (b < 1024) × (member w b ≡ true) × ((c : ℕ) → n ≤ c → c < b → member w c ≡ false) × (n ≤ b)
+LowestFrom w n None = (c : ℕ) → n ≤ c → member w c ≡ false

@@ -1,9 +1,8 @@
 -- Document 01's number and values for each error, and what the code's checks find.
+use Rattle.std.specs.Prelude.{Result, Ok, Err}
 use Rattle.image.specs.Refusal.{Refusal, refusal, Check, clear, refused}
 use Rattle.graph.specs.declared.error.AddressBuildError.{AddressBuildError}
 use Rattle.graph.specs.declared.error.AddressBuildError.TheVariants.{BadForm, OverLimit, AddressOverflow, ZeroSizeInstruction, UnorderedInstruction, MissingEntry, MissingGivenSource, MissingGivenTarget, TransferWithoutGivenEdges, EmptyProtectedRange, MissingRangeStart, MissingRangeEnd, MissingHandlerEntry, MissingRouteEntry, ResumeAfterFunclet, MissingContinuation, RouteAddressNotBlockStart, TooManyBlocks, TooManyEdges, TooManyHops, NoGraph}
-use Rattle.graph.specs.declared.error.Checked.{Checked}
-use Rattle.graph.specs.declared.error.Checked.TheVariants.{Clear, Refused}
 
 -- '3 to 17 carry the fields of the Rust error of that name, in its order; 18 to 21 carry none.'
 abbrev pub refusal_of : AddressBuildError → Refusal
@@ -29,6 +28,6 @@ refusal_of TooManyEdges = refusal 19 0 0
 refusal_of TooManyHops = refusal 20 0 0
 refusal_of NoGraph = refusal 21 0 0
 
-abbrev pub check_of : Checked → Check
-check_of Clear = clear
-check_of (Refused e) = refused (refusal_of e)
+abbrev pub check_of : {A : Type 0} → Result A AddressBuildError → Check
+check_of (Ok _) = clear
+check_of (Err e) = refused (refusal_of e)

@@ -1,11 +1,9 @@
 -- What address look-up answers in a table whose addresses rise.
-use Rattle.std.specs.Prelude.{true, false, ◌≡◌, List, ℕ, ◌<◌, length}
+use Rattle.std.specs.Prelude.{true, false, ◌≡◌, List, ℕ, ◌<◌, length, Option, Some, None}
 use Rattle.image.specs.Record.{instruction_from}
 use Rattle.image.specs.Image.{records_in}
 use Rattle.image.specs.declared.section.Section.{Section}
 use Rattle.graph.specs.declared.record.TableEntry.{TableEntry}
-use Rattle.graph.specs.declared.found.Found.{Found}
-use Rattle.graph.specs.declared.found.Found.TheVariants.{At, Nothing}
 use Rattle.graph.specs.Table.{entry_at, is_start, below}
 use Rattle.graph.specs.Transfer.{entries_of}
 
@@ -16,6 +14,6 @@ entries_in l y = entries_of (records_in instruction_from l y)
 abbrev pub Rising : List TableEntry → Type 0
 Rising t = (i j : ℕ) → i < j → j < length t → (entry_at t i).address < (entry_at t j).address
 
-abbrev pub Finds : List TableEntry → ℕ → Found → Type 0
-Finds t a (At k) = (is_start t a ≡ true) × (below t a ≡ k) × (k < length t)
-Finds t a Nothing = is_start t a ≡ false
+abbrev pub Finds : List TableEntry → ℕ → Option ℕ → Type 0
+Finds t a (Some k) = (is_start t a ≡ true) × (below t a ≡ k) × (k < length t)
+Finds t a None = is_start t a ≡ false

@@ -10,12 +10,6 @@ pub struct BlockSet {
     pub words: [u64; 16],
 }
 
-#[derive(Clone, Copy)]
-pub enum Lowest {
-    At(usize),
-    Nothing,
-}
-
 impl BlockSet {
     pub fn empty() -> Self
         ensures { result.words ≡ none }
@@ -35,10 +29,11 @@ impl BlockSet {
         size_of(&self.words)
     }
 
-    pub fn lowest(self) -> Lowest
+    pub fn lowest(self) -> Option<usize>
         ensures { LowestOf self.words result }
     {
-        lowest_in(&self.words)
+        sixteen(&self.words);
+        lowest_below(&self.words, 1024)
     }
 }
 
@@ -49,6 +44,7 @@ pub fn sixteen(w: &[u64; 16])
     let _all: &[u64] = w;
 }
 
+#[tactic(auto, unfolding(crate::specs::BlockSet::member), using(crate::proofs::BlockLaws::member_past))]
 pub fn has_in(w: &[u64; 16], b: usize) -> bool
     ensures { result ≡ member w.now b }
 {
@@ -60,6 +56,7 @@ pub fn has_in(w: &[u64; 16], b: usize) -> bool
     false
 }
 
+#[tactic(auto, unfolding(crate::specs::BlockSet::including), using(crate::proofs::BlockLaws::including_past, crate::proofs::Bit::one_shifted))]
 pub fn put_in(w: &mut [u64; 16], b: usize)
     ensures { w.new ≡ including w.old b }
 {
@@ -85,8 +82,8 @@ pub fn size_of(w: &[u64; 16]) -> usize
     ensures { result ≡ size_of w.now }
 {
     let mut n = 0;
-    for i in 0..16 {
-        n += ones_of(w[i]);
+    for word in w {
+        n += ones_of(*word);
     }
     n
 }
@@ -97,70 +94,55 @@ pub fn rank_in(w: &[u64; 16], b: usize) -> usize
 {
     sixteen(w);
     let mut n = 0;
-    for i in 0..16 {
-        let word = w[i];
+    for (i, word) in w.iter().enumerate() {
         if b / 64 == i {
-            return n + ones_below(word, b % 64);
+            return n + ones_below(*word, b % 64);
         }
-        if word != 0 {
-            n += ones_of(word);
+        if *word != 0 {
+            n += ones_of(*word);
         }
     }
     n
 }
 
-// The lowest block, by trailing zeros.
-pub fn lowest_in(w: &[u64; 16]) -> Lowest
-    ensures { LowestOf w.now result }
-{
-    sixteen(w);
-    for i in 0..16 {
-        let word = w[i];
-        if word != 0 {
-            return Lowest::At(64 * i + zeros_of(word));
-        }
-    }
-    Lowest::Nothing
-}
-
-// The lowest block; there is none from `past` on.
-pub fn lowest_below(w: &[u64; 16], past: usize) -> Lowest
+// The lowest block, by trailing zeros; there is none from `past` on.
+pub fn lowest_below(w: &[u64; 16], past: usize) -> Option<usize>
     requires { (past ≤ 1024) × ((b : ℕ) → member w.now b ≡ true → b < past) }
     ensures { LowestOf w.now result }
 {
     sixteen(w);
     let words = (past + 63) / 64;
-    for i in 0..words {
-        let word = w[i];
-        if word != 0 {
-            return Lowest::At(64 * i + zeros_of(word));
+    for (i, word) in w[..words].iter().enumerate() {
+        if *word != 0 {
+            return Some(64 * i + zeros_of(*word));
         }
     }
-    Lowest::Nothing
+    None
 }
 
 // The lowest block from `from` on; there is none from `past` on.
-pub fn next_in(w: &[u64; 16], from: usize, past: usize) -> Lowest
+pub fn next_in(w: &[u64; 16], from: usize, past: usize) -> Option<usize>
     requires { (past ≤ 1024) × ((b : ℕ) → member w.now b ≡ true → b < past) }
     ensures { LowestFrom w.now from result }
 {
     sixteen(w);
     if past <= from {
-        return Lowest::Nothing;
+        return None;
     }
     let k = from / 64;
     let rest = digits_from(w[k], from % 64);
     if rest != 0 {
-        return Lowest::At(from + zeros_of(rest));
+        return Some(from + zeros_of(rest));
     }
     let words = (past + 63) / 64;
+    // Numbered over all words: `iter().enumerate().skip(..)` is no plainer.
     for i in k + 1..words {
         let word = w[i];
         if word != 0 {
-            return Lowest::At(64 * i + zeros_of(word));
+            return Some(64 * i + zeros_of(word));
         }
     }
-    Lowest::Nothing
+    None
 }
 
 fn ones_of(word: u64) -> usize
@@ -211,10 +193,5 @@ fn word_below(word: u64, i: usize, n: usize) -> bool
 pub fn all_below(w: &[u64; 16], n: usize) -> bool
     ensures { result ≡ within n w.now }
 {
-    for i in 0..16 {
-        if !word_below(w[i], i, n) {
-            return false;
-        }
-    }
-    true
+    (0..16).all(|i| word_below(w[i], i, n))
 }

@@ -5,7 +5,7 @@ ghost use Rattle.graph.specs.Error.{refusal_of};
 
 use image::form::ImageError;
 
-#[derive(Clone, Copy)]
+#[derive(Clone, Copy, Debug, PartialEq, Eq)]
 pub enum AddressBuildError {
     BadForm { offset: usize },
     OverLimit { offset: usize },
@@ -30,19 +30,14 @@ pub enum AddressBuildError {
     NoGraph,
 }
 
-// What checks find first.
-#[derive(Clone, Copy)]
-pub enum Checked {
-    Clear,
-    Refused(AddressBuildError),
-}
-
 // 1 or 2 of a reader.
-pub fn form_error(e: ImageError) -> AddressBuildError
-    ensures { refusal_of result ≡ form_refusal e }
-{
-    match e {
-        ImageError::BadForm { offset } => AddressBuildError::BadForm { offset },
-        ImageError::OverLimit { offset } => AddressBuildError::OverLimit { offset },
+impl From<ImageError> for AddressBuildError {
+    ghost from_gives = { λ e r. refusal_of r ≡ form_refusal e };
+
+    fn from(e: ImageError) -> AddressBuildError {
+        match e {
+            ImageError::BadForm { offset } => AddressBuildError::BadForm { offset },
+            ImageError::OverLimit { offset } => AddressBuildError::OverLimit { offset },
+        }
     }
 }

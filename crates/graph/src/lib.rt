@@ -3,7 +3,6 @@
 
 pub mod blockset;
 pub mod error;
-pub mod found;
 pub mod reach;
 pub mod record;
 pub mod resume;

@@ -1,11 +1,11 @@
 // The search for the reached blocks: a worklist over two sets, along edges that are linked by their source once.
-ghost use Rattle.std.specs.Prelude.{◌≡◌, ◌<◌, length, replicate};
+ghost use Rattle.std.specs.Prelude.{◌≡◌, ◌+◌, ◌≤◌, ◌<◌, length, replicate};
 ghost use Rattle.graph.specs.Words.{held_in};
 ghost use Rattle.graph.specs.Answers.{ReachedIn};
 ghost use Rattle.graph.specs.Search.{Finds, Ends, Linked, Roomy, Follows, seeing};
 
-use crate::blockset::{BlockSet, Lowest, has_in, lowest_below, put_in, take_from};
-use crate::error::{AddressBuildError, Checked};
+use crate::blockset::{BlockSet, has_in, lowest_below, put_in, take_from};
+use crate::error::AddressBuildError;
 use crate::rule::is_graph;
 use crate::store::blocks::block_count;
 use crate::store::edges::{edge_at, edge_count};
@@ -14,7 +14,7 @@ use crate::store::{Words, entry};
 // Which blocks are reached, and how many; where the words hold no graph (21), none.
 #[derive(Clone, Copy)]
 pub struct ReachedSet {
-    pub found: Checked,
+    pub found: Result<(), AddressBuildError>,
     pub blocks: BlockSet,
     pub count: usize,
 }
@@ -24,43 +24,44 @@ pub fn reached(g: &Words) -> ReachedSet
 {
     if !is_graph(g) {
         return ReachedSet {
-            found: Checked::Refused(AddressBuildError::NoGraph),
+            found: Err(AddressBuildError::NoGraph),
             blocks: BlockSet::empty(),
             count: 0,
         };
     }
     let blocks = reach(g);
     ReachedSet {
-        found: Checked::Clear,
+        found: Ok(()),
         blocks,
         count: blocks.size(),
     }
 }
 
 // The blocks that are reached in a graph whose ends exist.
+#[tactic(auto, using(crate::proofs::RecordLaws::block_most, crate::proofs::RecordLaws::edge_most))]
 fn reach(g: &Words) -> BlockSet
     requires { Ends (held_in g.now).graph }
     ensures { Finds (held_in g.now).graph result.words }
 {
-    if block_count(g) <= 64 {
-        if edge_count(g) <= 256 {
-            let mut head = [0u16; 64];
-            let mut next = [0u16; 256];
-            return reach_in(g, &mut head, &mut next);
-        }
+    if block_count(g) <= 64 && edge_count(g) <= 256 {
+        reach_within::<64, 256>(g)
+    } else {
+        reach_within::<1024, 4096>(g)
     }
-    let mut head = [0u16; 1024];
-    let mut next = [0u16; 4096];
-    reach_in(g, &mut head, &mut next)
 }
 
-// The same with room for the links.
-fn reach_in(g: &Words, head: &mut [u16], next: &mut [u16]) -> BlockSet
-    requires { Ends (held_in g.now).graph × Roomy (held_in g.now).graph head.old next.old × (head.old ≡ replicate (length head.old) 0) }
+// The same with room for the links of so many blocks and edges.
+fn reach_within<const BLOCKS: usize, const EDGES: usize>(g: &Words) -> BlockSet
+    requires ends { Ends (held_in g.now).graph }
+    requires blocks { length (held_in g.now).graph.blocks ≤ BLOCKS }
+    requires edges { length (held_in g.now).graph.edges ≤ EDGES }
+    requires small { BLOCKS + EDGES ≤ 65536 }
     ensures { Finds (held_in g.now).graph result.words }
 {
-    link(g, head, next);
-    walk(g, head, next)
+    let mut head = [0u16; BLOCKS];
+    let mut next = [0u16; EDGES];
+    link(g, &mut head, &mut next);
+    walk(g, &head, &next)
 }
 
 // Links the edges by their source, the last first, so that a block's edges are met in their order.
@@ -68,9 +69,7 @@ pub fn link(g: &Words, head: &mut [u16], next: &mut [u16])
     requires { Ends (held_in g.now).graph × Roomy (held_in g.now).graph head.old next.old × (head.old ≡ replicate (length head.old) 0) }
     ensures { Linked (held_in g.now).graph head.new next.new 0 × Roomy (held_in g.now).graph head.new next.new }
 {
-    let mut i = edge_count(g);
-    while 0 < i {
-        i -= 1;
+    for i in (0..edge_count(g)).rev() {
         let b = edge_at(g, i).source as usize;
         next[i] = head[b];
         head[b] = (i + 1) as u16;
@@ -79,7 +78,9 @@ pub fn link(g: &Words, head: &mut [u16], next: &mut [u16])
 
 // From the entry on: the lowest pending block is followed, until none is pending.
 fn walk(g: &Words, head: &[u16], next: &[u16]) -> BlockSet
-    requires { Ends (held_in g.now).graph × Roomy (held_in g.now).graph head.now next.now × Linked (held_in g.now).graph head.now next.now 0 }
+    requires ends { Ends (held_in g.now).graph }
+    requires room { Roomy (held_in g.now).graph head.now next.now }
+    requires links { Linked (held_in g.now).graph head.now next.now 0 }
     ensures { Finds (held_in g.now).graph result.words }
 {
     let blocks = block_count(g);
@@ -88,16 +89,14 @@ fn walk(g: &Words, head: &[u16], next: &[u16]) -> BlockSet
     let mut pending = [0u64; 16];
     put_in(&mut seen, start);
     put_in(&mut pending, start);
-    loop {
-        let Lowest::At(b) = lowest_below(&pending, blocks) else {
-            return BlockSet { words: seen };
-        };
+    while let Some(b) = lowest_below(&pending, blocks) {
         take_from(&mut pending, b);
         follow(g, head, next, b, &mut seen, &mut pending);
     }
+    BlockSet { words: seen }
 }
 
-// Follows the edges from b.
+// Follows the edges from b. There is no slice to go over: each link says where the next one stands.
 fn follow(
     g: &Words,
     head: &[u16],
@@ -106,7 +105,10 @@ fn follow(
     seen: &mut [u64; 16],
     pending: &mut [u64; 16],
 )
-    requires { Ends (held_in g.now).graph × Roomy (held_in g.now).graph head.now next.now × Linked (held_in g.now).graph head.now next.now 0 × (b < length (held_in g.now).graph.blocks) }
+    requires ends { Ends (held_in g.now).graph }
+    requires room { Roomy (held_in g.now).graph head.now next.now }
+    requires links { Linked (held_in g.now).graph head.now next.now 0 }
+    requires there { b < length (held_in g.now).graph.blocks }
     ensures { Follows (held_in g.now).graph b (length (held_in g.now).graph.edges) seen.old pending.old seen.new pending.new }
 {
     let mut at = head[b] as usize;
@@ -119,7 +121,8 @@ fn follow(
 
 // A block that an edge leads to: it is pending unless it was seen before.
 fn see(seen: &mut [u64; 16], pending: &mut [u64; 16], t: usize)
-    ensures { (seen.new ≡ seeing seen.old t seen.old) × (pending.new ≡ seeing seen.old t pending.old) }
+    ensures seen { seen.new ≡ seeing seen.old t seen.old }
+    ensures pending { pending.new ≡ seeing seen.old t pending.old }
 {
     if has_in(seen, t) {
         return;

@@ -18,53 +18,28 @@ use crate::store::unresolved::{unresolved_at, unresolved_count};
 use crate::store::{Words, entry, within_limits};
 
 // Whether the words hold a graph: all of rule 21.
+#[tactic(auto, unfolding(crate::specs::WellFormed::well_formed))]
 pub fn is_graph(g: &Words) -> bool
     ensures { result ≡ well_formed (held_in g.now) }
 {
-    if !within_limits(g) {
-        return false;
-    }
-    if !table_passes(g) {
-        return false;
-    }
-    if !is_block(g, entry(g)) {
-        return false;
-    }
-    if !edge_ends_exist(g) {
-        return false;
-    }
-    if !region_blocks_exist(g) {
-        return false;
-    }
-    if !parents_exist(g) {
-        return false;
-    }
-    if !references_match(g) {
-        return false;
-    }
-    if !in_sets(g) {
-        return false;
-    }
-    if !covers_table(g) {
-        return false;
-    }
-    if !none_empty(g) {
-        return false;
-    }
-    copies_repeat(g)
+    within_limits(g)
+        && table_passes(g)
+        && is_block(g, entry(g))
+        && edge_ends_exist(g)
+        && region_blocks_exist(g)
+        && parents_exist(g)
+        && references_match(g)
+        && in_sets(g)
+        && covers_table(g)
+        && none_empty(g)
+        && copies_repeat(g)
 }
 
 // 'an instruction table .. that passes 3 to 5'
 fn table_passes(g: &Words) -> bool
     ensures { result ≡ passes (table_check (held_in g.now).graph.table) }
 {
-    let n = table_count(g);
-    for i in 0..n {
-        if !entry_passes(g, i) {
-            return false;
-        }
-    }
-    true
+    (0..table_count(g)).all(|i| entry_passes(g, i))
 }
 
 fn entry_passes(g: &Words, i: usize) -> bool
@@ -79,6 +54,7 @@ fn entry_passes(g: &Words, i: usize) -> bool
 }
 
 // 'entry, edge ends and the blocks and parents of regions exist'
+#[tactic(auto, unfolding(crate::specs::WellFormed::is_block))]
 fn is_block(g: &Words, b: u64) -> bool
     ensures { result ≡ is_block (held_in g.now).graph b }
 {
@@ -88,13 +64,7 @@ fn is_block(g: &Words, b: u64) -> bool
 fn edge_ends_exist(g: &Words) -> bool
     ensures { result ≡ edge_ends_exist (held_in g.now).graph }
 {
-    let n = edge_count(g);
-    for i in 0..n {
-        if !ends_exist(g, i) {
-            return false;
-        }
-    }
-    true
+    (0..edge_count(g)).all(|i| ends_exist(g, i))
 }
 
 fn ends_exist(g: &Words, i: usize) -> bool
@@ -104,6 +74,7 @@ fn ends_exist(g: &Words, i: usize) -> bool
     is_block(g, e.source) & is_block(g, e.target)
 }
 
+#[tactic(auto, unfolding(crate::specs::WellFormed::region_blocks_exist))]
 fn region_blocks_exist(g: &Words) -> bool
     ensures { result ≡ region_blocks_exist (held_in g.now).graph }
 {
@@ -113,13 +84,7 @@ fn region_blocks_exist(g: &Words) -> bool
 fn protected_exist(g: &Words) -> bool
     ensures { result ≡ all (λ i. within (length (held_in g.now).graph.blocks) (region (held_in g.now).graph i).protected) (length (held_in g.now).graph.regions) }
 {
-    let n = region_count(g);
-    for i in 0..n {
-        if !protects_blocks(g, i) {
-            return false;
-        }
-    }
-    true
+    (0..region_count(g)).all(|i| protects_blocks(g, i))
 }
 
 fn protects_blocks(g: &Words, i: usize) -> bool
@@ -132,25 +97,13 @@ fn protects_blocks(g: &Words, i: usize) -> bool
 fn entries_exist(g: &Words) -> bool
     ensures { result ≡ all (λ i. is_block (held_in g.now).graph (handler (held_in g.now).graph i).entry) (length (held_in g.now).graph.handlers) }
 {
-    let n = handler_count(g);
-    for i in 0..n {
-        if !is_block(g, handler_at(g, i).entry) {
-            return false;
-        }
-    }
-    true
+    (0..handler_count(g)).all(|i| is_block(g, handler_at(g, i).entry))
 }
 
 fn parents_exist(g: &Words) -> bool
     ensures { result ≡ parents_exist (held_in g.now).graph }
 {
-    let n = region_count(g);
-    for i in 0..n {
-        if !parent_exists(g, i) {
-            return false;
-        }
-    }
-    true
+    (0..region_count(g)).all(|i| parent_exists(g, i))
 }
 
 fn parent_exists(g: &Words, i: usize) -> bool
@@ -161,6 +114,7 @@ fn parent_exists(g: &Words, i: usize) -> bool
 }
 
 // 'each handler reference names a region's handler, and each such handler has exactly one'
+#[tactic(auto, unfolding(crate::specs::WellFormed::references_match))]
 fn references_match(g: &Words) -> bool
     ensures { result ≡ references_match (held_in g.now).graph }
 {
@@ -170,15 +124,10 @@ fn references_match(g: &Words) -> bool
 fn all_name(g: &Words) -> bool
     ensures { result ≡ all (names_handler (held_in g.now).graph) (length (held_in g.now).graph.handlers) }
 {
-    let n = handler_count(g);
-    for i in 0..n {
-        if !names_handler(g, i) {
-            return false;
-        }
-    }
-    true
+    (0..handler_count(g)).all(|i| names_handler(g, i))
 }
 
+#[tactic(auto, unfolding(crate::specs::WellFormed::names_handler))]
 fn names_handler(g: &Words, i: usize) -> bool
     ensures { result ≡ names_handler (held_in g.now).graph i }
 {
@@ -190,26 +139,16 @@ fn names_handler(g: &Words, i: usize) -> bool
 fn all_differ(g: &Words) -> bool
     ensures { result ≡ all (λ h. not (some (λ i. same_reference (held_in g.now).graph i h) h)) (length (held_in g.now).graph.handlers) }
 {
-    let n = handler_count(g);
-    for i in 0..n {
-        if named_before(g, i) {
-            return false;
-        }
-    }
-    true
+    (0..handler_count(g)).all(|i| !named_before(g, i))
 }
 
 fn named_before(g: &Words, h: usize) -> bool
     ensures { result ≡ some (λ i. same_reference (held_in g.now).graph i h) h }
 {
-    for i in 0..h {
-        if same_reference(g, i, h) {
-            return true;
-        }
-    }
-    false
+    (0..h).any(|i| same_reference(g, i, h))
 }
 
+#[tactic(auto, unfolding(crate::specs::WellFormed::same_reference))]
 fn same_reference(g: &Words, i: usize, h: usize) -> bool
     ensures { result ≡ same_reference (held_in g.now).graph i h }
 {
@@ -235,6 +174,7 @@ fn all_counted(g: &Words) -> bool
 }
 
 // 'flows, kinds and roles are in their sets', and flags are 0 or 1
+#[tactic(auto, unfolding(crate::specs::WellFormed::in_sets))]
 fn in_sets(g: &Words) -> bool
     ensures { result ≡ in_sets (held_in g.now).graph }
 {
@@ -249,13 +189,7 @@ fn in_sets(g: &Words) -> bool
 fn table_in_sets(g: &Words) -> bool
     ensures { result ≡ all (λ i. leb (entry_at (held_in g.now).graph.table i).flow 12 && leb (entry_at (held_in g.now).graph.table i).keeps 1) (length (held_in g.now).graph.table) }
 {
-    let n = table_count(g);
-    for i in 0..n {
-        if !entry_in_sets(g, i) {
-            return false;
-        }
-    }
-    true
+    (0..table_count(g)).all(|i| entry_in_sets(g, i))
 }
 
 fn entry_in_sets(g: &Words, i: usize) -> bool
@@ -268,13 +202,7 @@ fn entry_in_sets(g: &Words, i: usize) -> bool
 fn edges_in_sets(g: &Words) -> bool
     ensures { result ≡ all (λ i. leb (edge (held_in g.now).graph i).kind 7 && leb (edge (held_in g.now).graph i).role 11) (length (held_in g.now).graph.edges) }
 {
-    let n = edge_count(g);
-    for i in 0..n {
-        if !edge_in_sets(g, i) {
-            return false;
-        }
-    }
-    true
+    (0..edge_count(g)).all(|i| edge_in_sets(g, i))
 }
 
 fn edge_in_sets(g: &Words, i: usize) -> bool
@@ -287,49 +215,25 @@ fn edge_in_sets(g: &Words, i: usize) -> bool
 fn regions_in_sets(g: &Words) -> bool
     ensures { result ≡ all (λ i. leb (region (held_in g.now).graph i).has_parent 1) (length (held_in g.now).graph.regions) }
 {
-    let n = region_count(g);
-    for i in 0..n {
-        if 1 < region_at(g, i).has_parent {
-            return false;
-        }
-    }
-    true
+    (0..region_count(g)).all(|i| region_at(g, i).has_parent <= 1)
 }
 
 fn handlers_in_sets(g: &Words) -> bool
     ensures { result ≡ all (λ i. leb (handler (held_in g.now).graph i).kind 4) (length (held_in g.now).graph.handlers) }
 {
-    let n = handler_count(g);
-    for i in 0..n {
-        if 4 < handler_at(g, i).kind {
-            return false;
-        }
-    }
-    true
+    (0..handler_count(g)).all(|i| handler_at(g, i).kind <= 4)
 }
 
 fn unresolved_in_sets(g: &Words) -> bool
     ensures { result ≡ all (λ i. leb (unresolved_transfer (held_in g.now).graph i).role 9) (length (held_in g.now).graph.unresolved) }
 {
-    let n = unresolved_count(g);
-    for i in 0..n {
-        if 9 < unresolved_at(g, i).role {
-            return false;
-        }
-    }
-    true
+    (0..unresolved_count(g)).all(|i| unresolved_at(g, i).role <= 9)
 }
 
 fn calls_in_sets(g: &Words) -> bool
     ensures { result ≡ all (λ i. leb (call_site (held_in g.now).graph i).has_target 1) (length (held_in g.now).graph.calls) }
 {
-    let n = call_count(g);
-    for i in 0..n {
-        if 1 < call_at(g, i).has_target {
-            return false;
-        }
-    }
-    true
+    (0..call_count(g)).all(|i| call_at(g, i).has_target <= 1)
 }
 
 // 'built blocks cover the table in order'
@@ -370,7 +274,8 @@ pub fn built_count(g: &Words) -> usize
 
 // 'copies follow and repeat a built run', asked when the built blocks cover the table and none is empty
 fn copies_repeat(g: &Words) -> bool
-    requires { (covers_table (held_in g.now).graph ≡ true) × (none_empty (held_in g.now).graph ≡ true) }
+    requires covers { covers_table (held_in g.now).graph ≡ true }
+    requires none { none_empty (held_in g.now).graph ≡ true }
     ensures { result ≡ copies_repeat (held_in g.now).graph }
 {
     let built = built_count(g);
@@ -385,7 +290,9 @@ fn copies_repeat(g: &Words) -> bool
 
 // Whether block b repeats a built one: found by halving, since the built ones rise.
 fn repeats_built(g: &Words, b: usize, built: usize) -> bool
-    requires { (covers_table (held_in g.now).graph ≡ true) × (none_empty (held_in g.now).graph ≡ true) × Built (held_in g.now).graph built }
+    requires covers { covers_table (held_in g.now).graph ≡ true }
+    requires none { none_empty (held_in g.now).graph ≡ true }
+    requires built { Built (held_in g.now).graph built }
     ensures { result ≡ some (repeats (held_in g.now).graph b) (length (held_in g.now).graph.blocks) }
 {
     let copy = block_at(g, b);
@@ -407,6 +314,7 @@ fn repeats_built(g: &Words, b: usize, built: usize) -> bool
 }
 
 // 'only an empty table's block is empty'
+#[tactic(auto, unfolding(crate::specs::WellFormed::none_empty))]
 fn none_empty(g: &Words) -> bool
     ensures { result ≡ none_empty (held_in g.now).graph }
 {
@@ -419,11 +327,5 @@ fn none_empty(g: &Words) -> bool
 fn all_run(g: &Words) -> bool
     ensures { result ≡ all (λ i. ltb 0 (block (held_in g.now).graph i).count) (length (held_in g.now).graph.blocks) }
 {
-    let n = block_count(g);
-    for i in 0..n {
-        if block_at(g, i).count == 0 {
-            return false;
-        }
-    }
-    true
+    (0..block_count(g)).all(|i| 0 < block_at(g, i).count)
 }

@@ -4,6 +4,7 @@
 use mathlib.Core.Bool.{Bool, true, false, not, ◌||◌}
 use mathlib.Core.Path.{◌≡◌, refl, sym, ap, ap₂, ◌∙◌}
 use mathlib.Core.List.{List, []}
+use Rattle.std.specs.Prelude.{Option, None, Some}
 use Prim.Native.Nat.{ℕ, zero, suc, ◌+◌, ◌-◌, ◌*◌, ◌≤◌, ◌<◌}
 use native.Mathlib.Nat.{min-le_right, min-eq_left, add-sub_cancel}
 use native.Mathlib.Omega.{arith}
@@ -18,17 +19,14 @@ use Rattle.image.specs.Image.{Image, RouteImage, place_in, records_in, image_in,
 use Rattle.image.specs.Read.{limit_of, children_at, children_in, children_of, record_form, adds, count_form, section_form, section_at, end_of, end_form, pair_form, routes_form, route_layout_at, code_form, code_layout_of, layout_of, image_form, read_image, read_routes, read, reading}
 use Rattle.image.specs.Deal.{total}
 use Rattle.image.specs.Accepted.{Accepted, AcceptedRoutes}
-use Rattle.image.specs.declared.form.Kind.{Kind}
-use Rattle.image.specs.declared.form.Kind.TheVariants.{Instructions, Cases, Sources, Edges, Handlers, Routes, Paths, Steps}
-use Rattle.image.specs.declared.scan.Sum.{Sum}
-use Rattle.image.specs.declared.scan.Sum.TheVariants.{Free, Exactly}
+use Rattle.image.specs.Kind.{Kind, Instructions, Cases, Sources, Edges, Handlers, Routes, Paths, Steps}
 use Rattle.image.proofs.Checks.{then_left, then_right, unless_clear, field_clear, byte_clear, checks_each}
 use Rattle.image.proofs.Sections.{count-within}
 use Rattle.image.proofs.Tables.{length-records, records-none, records_in_law, records-all}
 
 -- ---- a section that is clear
 
-module _ (k : Kind) (l : List ℕ) (at : ℕ) (used : Bool) (sum : Sum) (h : section_form k l at used sum ≡ clear) where
+module _ (k : Kind) (l : List ℕ) (at : ℕ) (used : Bool) (sum : Option ℕ) (h : section_form k l at used sum ≡ clear) where
   there : Check
   there = used4 l at used then unless (leb (le4 l at) (limit_of k)) (refusal 2 at 0)
 
@@ -61,7 +59,7 @@ module _ {A : Type 0} (from : List ℕ → ℕ → A) (k : Kind) (l : List ℕ) 
   few : length (records_at from k l at) ≤ limit_of k
   few = rw (length-records from l (section_at k l at)) (min-le_right (le4 l at) (limit_of k))
 
-  module _ (used : Bool) (sum : Sum) (h : section_form k l at used sum ≡ clear) where
+  module _ (used : Bool) (sum : Option ℕ) (h : section_form k l at used sum ≡ clear) where
     none : used ≡ false → records_at from k l at ≡ []
     none e = records-none from l (section_at k l at) (unused_none k l at used sum h e)
 
@@ -79,13 +77,13 @@ module _ {A : Type 0} (from : List ℕ → ℕ → A) (k : Kind) (l : List ℕ) 
         ap₂ ◌+◌ (total_to n (omega arith))
         (ap children (records_in_law from l (section_at k l at) n h) ∙ same (place_in (section_at k l at) n))
 
-    dealt : {B : Type 0} (to : List ℕ → ℕ → B) (c : Kind) (used : Bool) → section_form c l (end_of (section_at k l at)) used (Exactly (children_of k l (section_at k l at))) ≡ clear → total (λ i. children (get_or (records_at from k l at) i (from [] 0))) (length (records_at from k l at)) ≡ length (records_at to c l (end_of (section_at k l at)))
+    dealt : {B : Type 0} (to : List ℕ → ℕ → B) (c : Kind) (used : Bool) → section_form c l (end_of (section_at k l at)) used (Some (children_of k l (section_at k l at))) ≡ clear → total (λ i. children (get_or (records_at from k l at) i (from [] 0))) (length (records_at from k l at)) ≡ length (records_at to c l (end_of (section_at k l at)))
     dealt to c used h =
         let y = section_at k l at in
         let z = section_at c l (end_of y) in
         rw (length-records from l y)
         (total_to y.count (omega arith)
-        ∙ eqb-true (children_of k l y) z.count (adds_up c l (end_of y) used (Exactly (children_of k l y)) h)
+        ∙ eqb-true (children_of k l y) z.count (adds_up c l (end_of y) used (Some (children_of k l y)) h)
         ∙ sym (length-records to l z))
 
 -- ---- the values of a record that is clear
@@ -129,7 +127,7 @@ module _ (l : List ℕ) where
     step_clear : step_form l at ≡ clear → le1 l at ≤ 1
     step_clear h = byte_clear l at 1 (then_left (byte l at 1) _ h)
 
-sources_clear : (l : List ℕ) (at : ℕ) (used : Bool) (sum : Sum) → section_form Sources l at used sum ≡ clear → (s : ℕ) → suc s < length (records_at source_from Sources l at) → (get_or (records_at source_from Sources l at) s (source_from [] 0)).address < (get_or (records_at source_from Sources l at) (suc s) (source_from [] 0)).address
+sources_clear : (l : List ℕ) (at : ℕ) (used : Bool) (sum : Option ℕ) → section_form Sources l at used sum ≡ clear → (s : ℕ) → suc s < length (records_at source_from Sources l at) → (get_or (records_at source_from Sources l at) s (source_from [] 0)).address < (get_or (records_at source_from Sources l at) (suc s) (source_from [] 0)).address
 sources_clear l at used sum h s lt =
     let y = section_at Sources l at in
     let inside : suc s < y.count = rw (length-records source_from l y) at lt in
@@ -151,7 +149,7 @@ routes_clear l at used h =
     let r = section_at Routes l at in
     let p = section_at Paths l (end_of r) in
     let pair = pair_form Routes Paths l at used in
-    let paths = then_right (section_form Routes l at used Free) _ (then_left pair _ h) in
+    let paths = then_right (section_form Routes l at used None) _ (then_left pair _ h) in
     let steps = then_right pair _ h in
     record {
       routes_most = few route_from Routes l at;
@@ -159,8 +157,8 @@ routes_clear l at used h =
       steps_most = few step_from Steps l (end_of p);
       paths_add = dealt route_from Routes l at (λ i. i.paths) (λ x. refl) path_from Paths used paths;
       steps_add = dealt path_from Paths l (end_of r) (λ i. i.steps) (λ x. refl) step_from Steps used steps;
-      ends = each path_from Paths l (end_of r) used (Exactly (children_of Routes l r)) paths (λ i. i.end) 2 (omega arith) (λ x first. path_clear l x);
-      codes = each step_from Steps l (end_of p) used (Exactly (children_of Paths l p)) steps (λ i. i.code) 1 (omega arith) (λ x first. step_clear l x);
+      ends = each path_from Paths l (end_of r) used (Some (children_of Routes l r)) paths (λ i. i.end) 2 (omega arith) (λ x first. path_clear l x);
+      codes = each step_from Steps l (end_of p) used (Some (children_of Paths l p)) steps (λ i. i.code) 1 (omega arith) (λ x first. step_clear l x);
     }
 
 image_clear : (l : List ℕ) → image_form l ≡ clear → Accepted (image_in l (layout_of l))
@@ -182,13 +180,13 @@ image_clear l h =
     let first = pair_form Instructions Cases l 12 true in
     let second = pair_form Sources Edges l s given in
     let pairs = then_left (first then second) _ code in
-    let instructions = then_left (section_form Instructions l 12 true Free) _ (then_left first second pairs) in
-    let cases = then_right (section_form Instructions l 12 true Free) _ (then_left first second pairs) in
-    let sources = then_left (section_form Sources l s given Free) _ (then_right first second pairs) in
-    let edges = then_right (section_form Sources l s given Free) _ (then_right first second pairs) in
+    let instructions = then_left (section_form Instructions l 12 true None) _ (then_left first second pairs) in
+    let cases = then_right (section_form Instructions l 12 true None) _ (then_left first second pairs) in
+    let sources = then_left (section_form Sources l s given None) _ (then_right first second pairs) in
+    let edges = then_right (section_form Sources l s given None) _ (then_right first second pairs) in
     let handlers = then_right (first then second) _ code in
-    let sum = Exactly (children_of Sources l (section_at Sources l s)) in
-    let parents = then_left (section_form Routes l r used Free) _ (then_left (pair_form Routes Paths l r used) _ routes) in
+    let sum = Some (children_of Sources l (section_at Sources l s)) in
+    let parents = then_left (section_form Routes l r used None) _ (then_left (pair_form Routes Paths l r used) _ routes) in
     record {
       instructions_most = few instruction_from Instructions l 12;
       cases_most = few case_from Cases l c;
@@ -197,14 +195,14 @@ image_clear l h =
       handlers_most = few handler_from Handlers l b;
       cases_add = dealt instruction_from Instructions l 12 (λ i. i.cases) (λ x. refl) case_from Cases true cases;
       edges_add = dealt source_from Sources l s (λ i. i.edges) (λ x. refl) edge_from Edges given edges;
-      sources_rise = sources_clear l s given Free sources;
+      sources_rise = sources_clear l s given None sources;
       modes = header.0;
       policies = header.1;
-      flows = each instruction_from Instructions l 12 true Free instructions (λ i. i.flow) 12 (omega arith) (λ x first. instruction_clear l x);
+      flows = each instruction_from Instructions l 12 true None instructions (λ i. i.flow) 12 (omega arith) (λ x first. instruction_clear l x);
       edge_kinds = each edge_from Edges l e given sum edges (λ i. i.kind) 7 (omega arith) (λ x first. edge_clear l x);
-      handler_kinds = each handler_from Handlers l b true Free handlers (λ i. i.kind) 4 (omega arith) (λ x first. handler_clear l x);
-      not_given = λ lt. none source_from Sources l s given Free sources (ne_eqb mode 2 (λ same. omega arith));
-      not_routed = λ same. none route_from Routes l r used Free parents (ap not (eq-eqb mode 0 same));
+      handler_kinds = each handler_from Handlers l b true None handlers (λ i. i.kind) 4 (omega arith) (λ x first. handler_clear l x);
+      not_given = λ lt. none source_from Sources l s given None sources (ne_eqb mode 2 (λ same. omega arith));
+      not_routed = λ same. none route_from Routes l r used None parents (ap not (eq-eqb mode 0 same));
       routed = routes_clear l r used routes;
     }
 

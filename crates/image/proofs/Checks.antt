@@ -4,20 +4,18 @@
 --     checks_each                  so is each of n checks
 --     not_clear                    what is refused is not clear
 --     field_there                  the bytes of a field that is clear are there
---     there_fits                   the bytes of a field that may hold anything are there,
---     there_good, there_not        and a field that must be good is bad alone, or refused likewise
 --     place_next                   the place of the next record
 --     product                      a product of two numbers of 32 bits
 -- Assumes nothing.
 use mathlib.Core.Bool.{Bool, true, false, cond}
-use mathlib.Core.Path.{◌≡◌, refl, sym, ◌∙◌}
+use mathlib.Core.Path.{◌≡◌, refl}
 use mathlib.Core.Logic.{⊎_elim}
 use mathlib.Core.List.{List}
 use Prim.Native.Nat.{ℕ, zero, suc, ◌+◌, ◌*◌, ◌<◌, ◌≤◌}
 use native.Mathlib.Nat.{le_trans, mul-le-mul_left, mul-le-mul_right, mul-suc, eq-or-lt_of_le, le_of_suc-le-suc}
 use native.Mathlib.Numerals.{add-one}
 use native.Mathlib.Omega.{arith}
-use borrow.Author.Tests.{leb-true, le-leb}
+use borrow.Author.Tests.{leb-true}
 use lib.Dec.{leb}
 use lib.ListN.{length}
 use Rattle.image.specs.Little.{le1}
@@ -75,25 +73,6 @@ field_there l at w good h = leb-true (at + w) (length l) (go (leb (at + w) (leng
 
 pub byte_clear : (l : List ℕ) (at most : ℕ) → byte l at most ≡ clear → le1 l at ≤ most
 byte_clear l at most h = leb-true (le1 l at) most (field_clear l at 1 (leb (le1 l at) most) h)
-
--- v is what was found up to a field that may hold anything, itself among it
-module _ (v c : Check) (l : List ℕ) (at w : ℕ) (e : v ≡ (c then field l at w true)) where
-  pub there_fits : v ≡ clear → at + w ≤ length l
-  there_fits h = field_there l at w true (then_right c _ (sym e ∙ h))
-
-  module _ (good : Bool) where
-    pub there_good : v ≡ clear → bad at good ≡ (c then field l at w good)
-    unfolding field
-    there_good h = rw (then_left c (field l at w true) (sym e ∙ h), le-leb _ _ (there_fits h))
-
-    pub there_not : (r : Refusal) → v ≡ refused r → v ≡ (c then field l at w good)
-    unfolding field
-    there_not r h = h ∙ go c (leb (at + w) (length l)) (sym h ∙ e)
-      where
-        go : (c : Check) (there : Bool) → refused r ≡ (c then cond there (bad at true) (refused (refusal 1 (length l) 0))) → refused r ≡ (c then cond there (bad at good) (refused (refusal 1 (length l) 0)))
-        go clear true e = absurd (let z : ◌≡◌ {A = ℕ} 0 1 = cc in omega arith)
-        go clear false e = e
-        go (refused q) there e = e
 
 pub place_next : (base w i at : ℕ) → at ≡ base + w * i → at + w ≡ base + w * (i + 1)
 place_next base w i at e = rw (add-one i, mul-suc w i) (omega arith)

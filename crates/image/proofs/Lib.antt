@@ -1,5 +1,3 @@
-pub mod Past
-pub mod Padded
 pub mod Checks
 pub mod Tables
 pub mod Sections

@@ -2,11 +2,10 @@
 --     length-table, table_in_law, table_past
 --     length-records, records_in_law, records_past
 --     record_there                a record of a section that is there ends within the bytes
---     placed_there, placed_in     the same by its place in a local, and what is read there is that record
 --     records-none                a section that counts no record has none
 --     records-all                 what holds of the record of zeros and of each in the section holds at every i
 -- Assumes nothing.
-use mathlib.Core.Path.{◌≡◌, refl, sym, ap, ◌∙◌}
+use mathlib.Core.Path.{◌≡◌, refl, ◌∙◌}
 use mathlib.Core.Logic.{⊎_elim}
 use mathlib.Core.List.{List, [], ◌∷◌}
 use Prim.Native.Nat.{ℕ, zero, suc, ◌+◌, ◌<◌, ◌≤◌}
@@ -61,9 +60,4 @@ module _ {A : Type 0} (from : List ℕ → ℕ → A) (l : List ℕ) (y : Sectio
 pub record_there : (l : List ℕ) (y : Section) (i w : ℕ) → Holds l y w → i < y.count → place_in y i + w ≤ length l
 record_there l y i w h less = omega (arith, h.0, h.1, rw mul-suc at (mul-le-mul_left y.width less))
 
-module _ (l : List ℕ) (y : Section) (i : ℕ) {at : ℕ} (placed : at ≡ place_in y i) (less : i < y.count) where
-  pub placed_there : {w : ℕ} → Holds l y w → at + w ≤ length l
-  placed_there there = rw placed (record_there l y i _ there less)
-
-  pub placed_in : {A : Type 0} (from : List ℕ → ℕ → A) {r : A} → r ≡ from l at → r ≡ get_or (records_in from l y) i (from [] 0)
-  placed_in from read = read ∙ ap (from l) placed ∙ sym (records_in_law from l y i less)
+pub ruleset records = (records_in_law, records_past, record_there)

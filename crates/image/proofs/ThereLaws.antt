@@ -7,6 +7,7 @@
 use mathlib.Core.Bool.{Bool, true, ◌||◌}
 use mathlib.Core.Path.{◌≡◌, refl}
 use mathlib.Core.List.{List}
+use Rattle.std.specs.Prelude.{Option, None, Some}
 use Prim.Native.Nat.{ℕ, zero, suc, ◌+◌, ◌-◌, ◌*◌, ◌≤◌}
 use native.Mathlib.Nat.{mul-suc}
 use native.Mathlib.Omega.{arith}
@@ -18,10 +19,7 @@ use Rattle.image.specs.Refusal.{Check, clear, refusal, ◌then◌, unless, check
 use Rattle.image.specs.Form.{bad, field, byte, used4, used8, names_target, form_of}
 use Rattle.image.specs.Read.{width_of, limit_of, count_form, record_form, records_form, section_form, pair_form, routes_form, code_form, section_at, route_layout_at, code_layout_of, layout_of, end_of, children_of}
 use Rattle.image.specs.There.{Holds, RoutesThere, ImageThere}
-use Rattle.image.specs.declared.form.Kind.{Kind}
-use Rattle.image.specs.declared.form.Kind.TheVariants.{Instructions, Cases, Sources, Edges, Handlers, Routes, Paths, Steps}
-use Rattle.image.specs.declared.scan.Sum.{Sum}
-use Rattle.image.specs.declared.scan.Sum.TheVariants.{Free, Exactly}
+use Rattle.image.specs.Kind.{Kind, Instructions, Cases, Sources, Edges, Handlers, Routes, Paths, Steps}
 use Rattle.image.specs.declared.section.CodeLayout.{CodeLayout}
 use Rattle.image.proofs.Checks.{then_left, then_right, field_there}
 
@@ -54,7 +52,7 @@ module _ (k : Kind) (l : List ℕ) where
       let last = then_right (records_form k l base n) (record_form k l base n) c in
       rw (mul-suc (width_of k) n) (omega (arith, record_ends k l (base + width_of k * n) (eqb n 0) last))
 
-  pub section_there : (at : ℕ) (used : Bool) (sum : Sum) → section_form k l at used sum ≡ clear → Holds l (section_at k l at) (width_of k)
+  pub section_there : (at : ℕ) (used : Bool) (sum : Option ℕ) → section_form k l at used sum ≡ clear → Holds l (section_at k l at) (width_of k)
   section_there at used sum h =
       let count = then_left (count_form k l at used sum) _ h in
       let limited = used4 l at used then unless (leb (le4 l at) (limit_of k)) (refusal 2 at 0) in
@@ -68,11 +66,11 @@ routes_there l at used h =
     let p = section_at Paths l (end_of r) in
     let pair = pair_form Routes Paths l at used in
     let both = then_left pair _ h in
-    let routes = section_form Routes l at used Free in
+    let routes = section_form Routes l at used None in
     record {
-      routes_there = section_there Routes l at used Free (then_left routes _ both);
-      paths_there = section_there Paths l (end_of r) used (Exactly (children_of Routes l r)) (then_right routes _ both);
-      steps_there = section_there Steps l (end_of p) used (Exactly (children_of Paths l p)) (then_right pair _ h);
+      routes_there = section_there Routes l at used None (then_left routes _ both);
+      paths_there = section_there Paths l (end_of r) used (Some (children_of Routes l r)) (then_right routes _ both);
+      steps_there = section_there Steps l (end_of p) used (Some (children_of Paths l p)) (then_right pair _ h);
     }
 
 -- all of the five sections before the routes
@@ -91,13 +89,13 @@ code_there l given h =
     let pairs = then_left (first then second) _ h in
     let one = then_left first _ pairs in
     let two = then_right first second pairs in
-    let instructions = section_form Instructions l 12 true Free in
-    let sources = section_form Sources l (end_of c) given Free in (
-      section_there Instructions l 12 true Free (then_left instructions _ one),
-      section_there Cases l (end_of i) true (Exactly (children_of Instructions l i)) (then_right instructions _ one),
-      section_there Sources l (end_of c) given Free (then_left sources _ two),
-      section_there Edges l (end_of s) given (Exactly (children_of Sources l s)) (then_right sources _ two),
-      section_there Handlers l (end_of e) true Free (then_right (first then second) _ h),
+    let instructions = section_form Instructions l 12 true None in
+    let sources = section_form Sources l (end_of c) given None in (
+      section_there Instructions l 12 true None (then_left instructions _ one),
+      section_there Cases l (end_of i) true (Some (children_of Instructions l i)) (then_right instructions _ one),
+      section_there Sources l (end_of c) given None (then_left sources _ two),
+      section_there Edges l (end_of s) given (Some (children_of Sources l s)) (then_right sources _ two),
+      section_there Handlers l (end_of e) true None (then_right (first then second) _ h),
     )
 
 pub image_there : (l : List ℕ) (given used : Bool) → code_form l given ≡ clear → routes_form l (end_of (code_layout_of l).handlers) used ≡ clear → ImageThere l (layout_of l)
@@ -112,3 +110,5 @@ image_there l given used code routes =
       handlers_there = there.4;
       routes_there = routes_there l (end_of (code_layout_of l).handlers) used routes;
     }
+
+pub ruleset there = (routes_there, image_there)

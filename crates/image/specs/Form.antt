@@ -3,8 +3,7 @@ use Rattle.std.specs.Prelude.{Bool, true, cond, ◌&&◌, ◌||◌, List, ℕ, �
 use Rattle.image.specs.Little.{le1, le4, le8}
 use Rattle.image.specs.Record.{flag}
 use Rattle.image.specs.Refusal.{Check, refused, refusal, ◌then◌, unless}
-use Rattle.image.specs.declared.form.Kind.{Kind}
-use Rattle.image.specs.declared.form.Kind.TheVariants.{Instructions, Cases, Sources, Edges, Handlers, Routes, Paths, Steps}
+use Rattle.image.specs.Kind.{Kind, Instructions, Cases, Sources, Edges, Handlers, Routes, Paths, Steps}
 
 -- '1 bad form, byte offset'
 abbrev pub bad : ℕ → Bool → Check

@@ -1,6 +1,7 @@
 pub mod Little
 pub mod Record
 pub mod Refusal
+pub mod Kind
 pub mod Form
 pub mod Verdict
 pub mod Image

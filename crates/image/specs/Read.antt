@@ -1,14 +1,11 @@
 -- The reading of an image: its sections in file order, refused where the first of them is bad (1, 2), and else its layout.
-use Rattle.std.specs.Prelude.{Bool, true, not, List, ℕ, zero, suc, ◌+◌, ◌*◌, min, eqb, leb, length}
+use Rattle.std.specs.Prelude.{Bool, true, not, Option, None, Some, List, ℕ, zero, suc, ◌+◌, ◌*◌, min, eqb, leb, length}
 use Rattle.image.specs.Little.{le4}
 use Rattle.image.specs.Record.{header_from}
 use Rattle.image.specs.Refusal.{Refusal, refusal, Check, clear, refused, ◌then◌, unless, checks}
 use Rattle.image.specs.Form.{bad, used4, header_form, form_of}
 use Rattle.image.specs.Image.{Image, RouteImage, place_in, image_in, routes_in}
-use Rattle.image.specs.declared.form.Kind.{Kind}
-use Rattle.image.specs.declared.form.Kind.TheVariants.{Instructions, Cases, Sources, Edges, Handlers, Routes, Paths, Steps}
-use Rattle.image.specs.declared.scan.Sum.{Sum}
-use Rattle.image.specs.declared.scan.Sum.TheVariants.{Free, Exactly}
+use Rattle.image.specs.Kind.{Kind, Instructions, Cases, Sources, Edges, Handlers, Routes, Paths, Steps}
 use Rattle.image.specs.declared.section.Section.{Section}
 use Rattle.image.specs.declared.section.RouteLayout.{RouteLayout}
 use Rattle.image.specs.declared.section.CodeLayout.{CodeLayout}
@@ -68,18 +65,18 @@ abbrev pub children_of : Kind → List ℕ → Section → ℕ
 children_of k l s = children_in k l s.at s.count
 
 -- 'child counts that do not add up to the child section's count'
-abbrev pub adds : Sum → ℕ → Bool
-adds Free n = true
-adds (Exactly sum) n = eqb sum n
+abbrev pub adds : Option ℕ → ℕ → Bool
+adds None n = true
+adds (Some sum) n = eqb sum n
 
 -- 'at one field 1 for an unused section, then 2, then sums'; then the records
-abbrev pub count_form : Kind → List ℕ → ℕ → Bool → Sum → Check
+abbrev pub count_form : Kind → List ℕ → ℕ → Bool → Option ℕ → Check
 count_form k l at used sum =
     used4 l at used
     then unless (leb (le4 l at) (limit_of k)) (refusal 2 at 0)
     then bad at (adds sum (le4 l at))
 
-abbrev pub section_form : Kind → List ℕ → ℕ → Bool → Sum → Check
+abbrev pub section_form : Kind → List ℕ → ℕ → Bool → Option ℕ → Check
 section_form k l at used sum = count_form k l at used sum then records_form k l (at + 4) (min (le4 l at) (limit_of k))
 
 -- 'too many (first extra)'
@@ -90,7 +87,7 @@ end_form l at = bad at (leb (length l) at)
 abbrev pub pair_form : Kind → Kind → List ℕ → ℕ → Bool → Check
 pair_form parent child l at used =
     let y = section_at parent l at in
-    section_form parent l at used Free then section_form child l (end_of y) used (Exactly (children_of parent l y))
+    section_form parent l at used None then section_form child l (end_of y) used (Some (children_of parent l y))
 
 -- the three sections of routes from a place on
 unfoldable pub route_layout_at : List ℕ → ℕ → RouteLayout
@@ -102,7 +99,7 @@ route_layout_at l at =
 unfoldable pub routes_form : List ℕ → ℕ → Bool → Check
 routes_form l at used =
     let p = section_at Paths l (end_of (section_at Routes l at)) in
-    pair_form Routes Paths l at used then section_form Steps l (end_of p) used (Exactly (children_of Paths l p))
+    pair_form Routes Paths l at used then section_form Steps l (end_of p) used (Some (children_of Paths l p))
 
 -- the five sections before them, of which the given ones may be left at 0
 unfoldable pub code_layout_of : List ℕ → CodeLayout
@@ -118,7 +115,7 @@ code_form l given =
     let y = code_layout_of l in
     pair_form Instructions Cases l 12 true
     then pair_form Sources Edges l (end_of y.cases) given
-    then section_form Handlers l (end_of y.edges) true Free
+    then section_form Handlers l (end_of y.edges) true None
 
 -- 'Mode 0 leaves the given and route sections at 0, mode 1 the given ones.'
 unfoldable pub layout_of : List ℕ → Layout

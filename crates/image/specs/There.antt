@@ -1,13 +1,10 @@
 -- Records that are there: each byte of them is one of the bytes that were read.
-use Rattle.std.specs.Prelude.{◌≡◌, List, ℕ, ◌≤◌, length}
+use Rattle.std.specs.Prelude.{◌≡◌, List, ℕ, ◌≤◌, length, Result, Ok, Err}
 use Rattle.image.specs.Image.{place_in}
 use Rattle.image.specs.declared.section.Section.{Section}
 use Rattle.image.specs.declared.section.RouteLayout.{RouteLayout}
 use Rattle.image.specs.declared.section.Layout.{Layout}
-use Rattle.image.specs.declared.read.ReadRoutes.{ReadRoutes}
-use Rattle.image.specs.declared.read.ReadRoutes.TheVariants.{Read as Routed, Refused as NotRouted}
-use Rattle.image.specs.declared.read.ReadImage.{ReadImage}
-use Rattle.image.specs.declared.read.ReadImage.TheVariants.{Read as Accepted, Refused as NotAccepted}
+use Rattle.image.specs.declared.form.ImageError.{ImageError}
 
 -- all records of a section, w bytes each
 abbrev pub Holds : List ℕ → Section → ℕ → Type 0
@@ -20,9 +17,9 @@ pub record RoutesThere (l : List ℕ) (y : RouteLayout) : Type 0 where
   pub steps_there : Holds l y.steps 9
 
 -- those of routes that were read
-abbrev pub RoutesReadThere : List ℕ → ReadRoutes → Type 0
-RoutesReadThere l (Routed y) = RoutesThere l y
-RoutesReadThere l (NotRouted e) = Unit {0}
+abbrev pub RoutesReadThere : List ℕ → Result RouteLayout ImageError → Type 0
+RoutesReadThere l (Ok y) = RoutesThere l y
+RoutesReadThere l (Err e) = Unit {0}
 
 -- all of the eight sections of an image
 pub record ImageThere (l : List ℕ) (y : Layout) : Type 0 where
@@ -33,6 +30,6 @@ pub record ImageThere (l : List ℕ) (y : Layout) : Type 0 where
   pub handlers_there : Holds l y.code.handlers 29
   pub routes_there : RoutesThere l y.routes
 
-abbrev pub ImageReadThere : List ℕ → ReadImage → Type 0
-ImageReadThere l (Accepted y) = ImageThere l y
-ImageReadThere l (NotAccepted e) = Unit {0}
+abbrev pub ImageReadThere : List ℕ → Result Layout ImageError → Type 0
+ImageReadThere l (Ok y) = ImageThere l y
+ImageReadThere l (Err e) = Unit {0}

@@ -2,7 +2,9 @@
 #![tactic(auto)]
 
 pub mod access;
+mod check;
 pub mod form;
+pub mod kinds;
 pub mod little;
 pub mod read;
 pub mod record;

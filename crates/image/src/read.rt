@@ -1,168 +1,115 @@
 // The readers: a sequence image, or the routes for a later call.
 //
 // Nothing is copied: the answer is where the sections stand, or the refusal.
-ghost use Rattle.std.specs.Prelude.{◌≡◌, ◌<◌};
-ghost use Rattle.image.specs.Read.{read_image, read_routes};
-ghost use Rattle.image.specs.Scanned.{PairRead, CodeRead, RoutesRead, image_answer, routes_answer};
+ghost use Rattle.std.specs.Prelude.{◌≡◌, ◌<◌, IfOk, Some, None};
+ghost use Rattle.image.specs.Verdict.{check_of};
+ghost use Rattle.image.specs.Read.{read_image, read_routes, section_at, end_of, children_of, pair_form, code_form, code_layout_of, routes_form, route_layout_at, end_form};
+ghost use Rattle.image.specs.Scanned.{image_answer, routes_answer};
 ghost use Rattle.image.specs.There.{RoutesReadThere, ImageReadThere};
 
-use crate::form::{ImageError, Kind, Verdict, header_form};
-use crate::record::header_from;
-use crate::scan::{ReadSection, Sum, read_section, section_of};
+use crate::form::{ImageError, header_form};
+use crate::kinds::Record;
+use crate::record::{
+    Case, GivenEdge, GivenSource, Handler, Instruction, Path, Route, Step, header_from,
+};
+use crate::scan::read_section;
 use crate::section::{CodeLayout, Layout, RouteLayout, Section, end_of};
 
 // A section and that of its children, where this one ends, and how many children it has in turn.
 #[derive(Clone, Copy)]
-pub enum ReadPair {
-    Read {
-        parents: Section,
-        children: Section,
-        end: usize,
-        grandchildren: u64,
-    },
-    Refused(ImageError),
+pub struct PairRead {
+    pub parents: Section,
+    pub children: Section,
+    pub end: usize,
+    pub grandchildren: u64,
 }
 
-#[derive(Clone, Copy)]
-pub enum ReadCode {
-    Read(CodeLayout),
-    Refused(ImageError),
-}
-
-#[derive(Clone, Copy)]
-pub enum ReadRoutes {
-    Read(RouteLayout),
-    Refused(ImageError),
-}
-
-#[derive(Clone, Copy)]
-pub enum ReadImage {
-    Read(Layout),
-    Refused(ImageError),
-}
-
-pub fn read_image(s: &[u8]) -> ReadImage
-    ensures { (image_answer s.now result ≡ read_image s.now) × ImageReadThere s.now result }
+#[tactic(auto, using(crate::proofs::ThereLaws::there, crate::proofs::Sections::ends), unfolding(crate::specs::Read::read_image, crate::specs::Read::image_form, crate::specs::Read::layout_of))]
+pub fn read_image(s: &[u8]) -> Result<Layout, ImageError>
+    ensures answer { image_answer s.now result ≡ read_image s.now }
+    ensures there { ImageReadThere s.now result }
 {
-    if let Verdict::Refused(e) = header_form(s) {
-        return ReadImage::Refused(e);
-    }
+    header_form(s)?;
     let header = header_from(s);
-    let mode = header.mode;
-    let code = match read_code(s, mode == 2) {
-        ReadCode::Refused(e) => return ReadImage::Refused(e),
-        ReadCode::Read(layout) => layout,
-    };
-    let routes = match read_route_sections(s, end_of(code.handlers), mode != 0) {
-        ReadRoutes::Refused(e) => return ReadImage::Refused(e),
-        ReadRoutes::Read(layout) => layout,
-    };
-    let end = end_of(routes.steps);
-    if end < s.len() {
-        return ReadImage::Refused(ImageError::BadForm { offset: end });
-    }
-    ReadImage::Read(Layout {
+    let code = read_code(s, header.mode == 2)?;
+    let routes = read_route_sections(s, end_of(code.handlers), header.mode != 0)?;
+    check_end(s, end_of(routes.steps))?;
+    Ok(Layout {
         header,
         code,
         routes,
     })
 }
 
-pub fn read_routes(s: &[u8]) -> ReadRoutes
-    ensures { (routes_answer s.now result ≡ read_routes s.now) × RoutesReadThere s.now result }
+#[tactic(auto, using(crate::proofs::ThereLaws::there), unfolding(crate::specs::Read::read_routes))]
+pub fn read_routes(s: &[u8]) -> Result<RouteLayout, ImageError>
+    ensures answer { routes_answer s.now result ≡ read_routes s.now }
+    ensures there { RoutesReadThere s.now result }
 {
-    let routes = match read_route_sections(s, 0, true) {
-        ReadRoutes::Refused(e) => return ReadRoutes::Refused(e),
-        ReadRoutes::Read(layout) => layout,
-    };
-    let end = end_of(routes.steps);
+    let routes = read_route_sections(s, 0, true)?;
+    check_end(s, end_of(routes.steps))?;
+    Ok(routes)
+}
+
+// No byte behind the last section.
+fn check_end(s: &[u8], end: usize) -> Result<(), ImageError>
+    ensures { check_of result ≡ end_form s.now end }
+{
     if end < s.len() {
-        return ReadRoutes::Refused(ImageError::BadForm { offset: end });
+        return Err(ImageError::BadForm { offset: end });
     }
-    ReadRoutes::Read(routes)
+    Ok(())
 }
 
 // The sections from the instructions to the handlers.
-fn read_code(s: &[u8], given: bool) -> ReadCode
-    ensures { CodeRead s.now given result }
+#[tactic(auto, using(crate::proofs::Sections::ends), unfolding(crate::specs::Read::code_form, crate::specs::Read::code_layout_of))]
+fn read_code(s: &[u8], given: bool) -> Result<CodeLayout, ImageError>
+    ensures check { check_of result ≡ code_form s.now given }
+    ensures layout { IfOk result (λ y. y ≡ code_layout_of s.now) }
 {
-    match read_pair(Kind::Instructions, Kind::Cases, s, 12, true) {
-        ReadPair::Refused(e) => ReadCode::Refused(e),
-        ReadPair::Read {
-            parents: instructions,
-            children: cases,
-            end: given_at,
-            ..
-        } => match read_pair(Kind::Sources, Kind::Edges, s, given_at, given) {
-            ReadPair::Refused(e) => ReadCode::Refused(e),
-            ReadPair::Read {
-                parents: sources,
-                children: edges,
-                end: at,
-                ..
-            } => match read_section(Kind::Handlers, s, at, true, Sum::Free) {
-                ReadSection::Refused(e) => ReadCode::Refused(e),
-                ReadSection::Read { count, .. } => ReadCode::Read(CodeLayout {
-                    instructions,
-                    cases,
-                    sources,
-                    edges,
-                    handlers: section_of(Kind::Handlers, at, count),
-                }),
-            },
-        },
-    }
+    let instructions = read_pair::<Instruction, Case>(s, 12, true)?;
+    let sources = read_pair::<GivenSource, GivenEdge>(s, instructions.end, given)?;
+    let handlers = read_section::<Handler>(s, sources.end, true, None)?;
+    Ok(CodeLayout {
+        instructions: instructions.parents,
+        cases: instructions.children,
+        sources: sources.parents,
+        edges: sources.children,
+        handlers: handlers.section,
+    })
 }
 
 // The three sections of routes, the last of an image.
-fn read_route_sections(s: &[u8], at: usize, used: bool) -> ReadRoutes
+#[tactic(auto, using(crate::proofs::Sections::ends), unfolding(crate::specs::Read::routes_form, crate::specs::Read::route_layout_at))]
+fn read_route_sections(s: &[u8], at: usize, used: bool) -> Result<RouteLayout, ImageError>
     requires { at < 8388608 }
-    ensures { RoutesRead s.now at used result }
+    ensures check { check_of result ≡ routes_form s.now at used }
+    ensures layout { IfOk result (λ y. y ≡ route_layout_at s.now at) }
 {
-    match read_pair(Kind::Routes, Kind::Paths, s, at, used) {
-        ReadPair::Refused(e) => ReadRoutes::Refused(e),
-        ReadPair::Read {
-            parents: routes,
-            children: paths,
-            end: behind,
-            grandchildren,
-        } => match read_section(Kind::Steps, s, behind, used, Sum::Exactly(grandchildren)) {
-            ReadSection::Refused(e) => ReadRoutes::Refused(e),
-            ReadSection::Read { count, .. } => ReadRoutes::Read(RouteLayout {
-                routes,
-                paths,
-                steps: section_of(Kind::Steps, behind, count),
-            }),
-        },
-    }
+    let routes = read_pair::<Route, Path>(s, at, used)?;
+    let steps = read_section::<Step>(s, routes.end, used, Some(routes.grandchildren))?;
+    Ok(RouteLayout {
+        routes: routes.parents,
+        paths: routes.children,
+        steps: steps.section,
+    })
 }
 
 // A section and, behind it, that of its children.
-fn read_pair(parent: Kind, child: Kind, s: &[u8], at: usize, used: bool) -> ReadPair
+fn read_pair<P: Record, C: Record>(s: &[u8], at: usize, used: bool) -> Result<PairRead, ImageError>
     requires { at < 12582912 }
-    ensures { PairRead parent child s.now at used result }
+    ensures check { check_of result ≡ pair_form P.kind C.kind s.now at used }
+    ensures parents { IfOk result (λ r. r.parents ≡ section_at P.kind s.now at) }
+    ensures children { IfOk result (λ r. r.children ≡ section_at C.kind s.now (end_of (section_at P.kind s.now at))) }
+    ensures end { IfOk result (λ r. r.end ≡ end_of (section_at C.kind s.now (end_of (section_at P.kind s.now at)))) }
+    ensures grandchildren { IfOk result (λ r. r.grandchildren ≡ children_of C.kind s.now (section_at C.kind s.now (end_of (section_at P.kind s.now at)))) }
 {
-    match read_section(parent, s, at, used, Sum::Free) {
-        ReadSection::Refused(e) => ReadPair::Refused(e),
-        ReadSection::Read {
-            count,
-            end: behind,
-            children: sum,
-        } => {
-            let parents = section_of(parent, at, count);
-            match read_section(child, s, behind, used, Sum::Exactly(sum)) {
-                ReadSection::Refused(e) => ReadPair::Refused(e),
-                ReadSection::Read {
-                    count: inner,
-                    end,
-                    children: grandchildren,
-                } => ReadPair::Read {
-                    parents,
-                    children: section_of(child, behind, inner),
-                    end,
-                    grandchildren,
-                },
-            }
-        }
-    }
+    let parents = read_section::<P>(s, at, used, None)?;
+    let children = read_section::<C>(s, parents.end, used, Some(parents.children))?;
+    Ok(PairRead {
+        parents: parents.section,
+        children: children.section,
+        end: children.end,
+        grandchildren: children.children,
+    })
 }

@@ -6,7 +6,7 @@ ghost use Rattle.image.specs.Record.{header_from};
 use crate::little::{byte_at, u64_at};
 
 // The first twelve bytes: how the sequence is built, and where it is entered.
-#[derive(Clone, Copy)]
+#[derive(Clone, Copy, Debug, PartialEq, Eq)]
 pub struct Header {
     pub mode: u64,
     pub calls: u64,
@@ -14,7 +14,7 @@ pub struct Header {
     pub entry: u64,
 }
 
-#[derive(Clone, Copy)]
+#[derive(Clone, Copy, Debug, PartialEq, Eq)]
 pub struct Instruction {
     pub address: u64,
     pub end: u64,
@@ -25,26 +25,26 @@ pub struct Instruction {
     pub cases: usize,
 }
 
-#[derive(Clone, Copy)]
+#[derive(Clone, Copy, Debug, PartialEq, Eq)]
 pub struct Case {
     pub key: u64,
     pub target: u64,
 }
 
-#[derive(Clone, Copy)]
+#[derive(Clone, Copy, Debug, PartialEq, Eq)]
 pub struct GivenSource {
     pub address: u64,
     pub edges: usize,
 }
 
-#[derive(Clone, Copy)]
+#[derive(Clone, Copy, Debug, PartialEq, Eq)]
 pub struct GivenEdge {
     pub target: u64,
     pub kind: u64,
     pub payload: u64,
 }
 
-#[derive(Clone, Copy)]
+#[derive(Clone, Copy, Debug, PartialEq, Eq)]
 pub struct Handler {
     pub start: u64,
     pub end: u64,
@@ -53,21 +53,21 @@ pub struct Handler {
     pub filter: u64,
 }
 
-#[derive(Clone, Copy)]
+#[derive(Clone, Copy, Debug, PartialEq, Eq)]
 pub struct Route {
     pub start: u64,
     pub end: u64,
     pub paths: usize,
 }
 
-#[derive(Clone, Copy)]
+#[derive(Clone, Copy, Debug, PartialEq, Eq)]
 pub struct Path {
     pub end: u64,
     pub handler: u64,
     pub steps: usize,
 }
 
-#[derive(Clone, Copy)]
+#[derive(Clone, Copy, Debug, PartialEq, Eq)]
 pub struct Step {
     pub code: u64,
     pub value: u64,

@@ -1,168 +1,102 @@
 // The sections: a count, then the records, each of which is looked at once.
-ghost use Rattle.std.specs.Prelude.{List, ◌≡◌, ℕ, ◌≤◌, ◌<◌};
-ghost use Rattle.image.specs.Read.{width_of, limit_of, children_at, adds, section_at};
-ghost use Rattle.image.specs.Scanned.{Scanned, CountRead, SectionRead};
+ghost use Rattle.std.specs.Prelude.{◌≡◌, ◌+◌, ◌*◌, ◌≤◌, ◌<◌, length, IfOk};
+ghost use Rattle.image.specs.Little.{le4};
+ghost use Rattle.image.specs.Verdict.{check_of};
+ghost use Rattle.image.specs.Read.{children_in, children_of, records_form, count_form, section_form, adds, section_at, end_of};
 
-use crate::form::{ImageError, Kind, Verdict, allowed, record_form};
-use crate::little::{quad, u32_at};
+use crate::check::{check_good, check_used4};
+use crate::form::ImageError;
+use crate::kinds::Record;
+use crate::little::quad;
 use crate::section::Section;
 
-// What a section's count has to be: as many as its parents' children are, or free.
+// Where the records that were scanned end, and how many children they have in all.
 #[derive(Clone, Copy)]
-pub enum Sum {
-    Free,
-    Exactly(u64),
+pub struct Scanned {
+    pub end: usize,
+    pub children: u64,
 }
 
-// Where the records that were scanned end, and how many children they have in all, or the first refusal.
+// A section, where it ends, and how many children its records have in all.
 #[derive(Clone, Copy)]
-pub enum Scan {
-    Done { end: usize, children: u64 },
-    Refused(ImageError),
+pub struct SectionRead {
+    pub section: Section,
+    pub end: usize,
+    pub children: u64,
 }
 
-// The count of a section, or why it is refused.
-#[derive(Clone, Copy)]
-pub enum Counted {
-    Count(u64),
-    Refused(ImageError),
-}
-
-// How many records a section has, where they end, and how many children they have in all.
-#[derive(Clone, Copy)]
-pub enum ReadSection {
-    Read {
-        count: u32,
-        end: usize,
-        children: u64,
-    },
-    Refused(ImageError),
-}
-
-fn width_of(kind: Kind) -> usize
-    ensures { (result ≡ width_of kind) × (9 ≤ result) × (result ≤ 31) }
-{
-    match kind {
-        Kind::Instructions => 31,
-        Kind::Cases => 12,
-        Kind::Sources => 12,
-        Kind::Edges => 13,
-        Kind::Handlers => 29,
-        Kind::Routes => 20,
-        Kind::Paths => 13,
-        Kind::Steps => 9,
-    }
-}
-
-fn limit_of(kind: Kind) -> u64
-    ensures { (result ≡ limit_of kind) × (result ≤ 512) }
-{
-    match kind {
-        Kind::Instructions => 512,
-        Kind::Cases => 512,
-        Kind::Sources => 512,
-        Kind::Edges => 512,
-        Kind::Handlers => 32,
-        Kind::Routes => 32,
-        Kind::Paths => 128,
-        Kind::Steps => 512,
-    }
-}
-
-fn children_at(kind: Kind, s: &[u8], at: usize) -> u64
-    requires { at < 2147483648 }
-    ensures { (result ≡ children_at kind s.now at) × (result < 4294967296) }
-{
-    match kind {
-        Kind::Instructions => u32_at(s, at + 27),
-        Kind::Cases => 0,
-        Kind::Sources => u32_at(s, at + 8),
-        Kind::Edges => 0,
-        Kind::Handlers => 0,
-        Kind::Routes => u32_at(s, at + 16),
-        Kind::Paths => u32_at(s, at + 9),
-        Kind::Steps => 0,
-    }
-}
-
-fn adds_up(sum: Sum, count: u64) -> bool
+// Whether a section's count is as it has to be: as many as its parents have children, where it has parents.
+fn adds_up(sum: Option<u64>, count: u64) -> bool
     ensures { result ≡ adds sum count }
 {
     match sum {
-        Sum::Free => true,
-        Sum::Exactly(children) => children == count,
+        None => true,
+        Some(children) => children == count,
     }
 }
 
 // The count of a section: there, 0 where the section is not used, within its limit, what the sum says.
-fn read_count(kind: Kind, s: &[u8], at: usize, used: bool, sum: Sum) -> Counted
+fn read_count<R: Record>(
+    s: &[u8],
+    at: usize,
+    used: bool,
+    sum: Option<u64>,
+) -> Result<u64, ImageError>
     requires { at < 16777216 }
-    ensures { CountRead kind s.now at used sum result }
+    ensures check { check_of result ≡ count_form R.kind s.now at used sum }
+    ensures value { IfOk result (λ n. n ≡ le4 s.now at) }
 {
-    if s.len() < at + 4 {
-        return Counted::Refused(ImageError::BadForm { offset: s.len() });
-    }
+    check_used4(s, at, used)?;
     let count = quad(s, at);
-    let limit = limit_of(kind);
-    let unused = !allowed(used, count);
-    if unused {
-        return Counted::Refused(ImageError::BadForm { offset: at });
+    if R::LIMIT < count {
+        return Err(ImageError::OverLimit { offset: at });
     }
-    if limit < count {
-        return Counted::Refused(ImageError::OverLimit { offset: at });
-    }
-    if adds_up(sum, count) {
-        Counted::Count(count)
-    } else {
-        Counted::Refused(ImageError::BadForm { offset: at })
-    }
+    check_good(at, adds_up(sum, count))?;
+    Ok(count)
 }
 
 // The n records from `base` on.
-fn scan_records(kind: Kind, s: &[u8], base: usize, n: usize) -> Scan
-    requires { (4 ≤ base) × (base < 1073741824) × (n ≤ 512) }
-    ensures { Scanned kind s.now base n result }
+fn scan_records<R: Record>(s: &[u8], base: usize, n: usize) -> Result<Scanned, ImageError>
+    requires behind { 4 ≤ base }
+    requires low { base < 1073741824 }
+    requires few { n ≤ 512 }
+    ensures check { check_of result ≡ records_form R.kind s.now base n }
+    ensures end { IfOk result (λ r. r.end ≡ base + R.WIDTH * n) }
+    ensures children { IfOk result (λ r. r.children ≡ children_in R.kind s.now base n) }
 {
-    let width = width_of(kind);
     let mut at = base;
     let mut children: u64 = 0;
     for i in 0..n {
-        if let Verdict::Refused(e) = record_form(kind, s, at, i == 0) {
-            return Scan::Refused(e);
-        }
-        children += children_at(kind, s, at);
-        at += width;
+        R::check(s, at, i == 0)?;
+        children += R::children(s, at);
+        at += R::WIDTH;
     }
-    Scan::Done { end: at, children }
+    Ok(Scanned { end: at, children })
 }
 
 // The section whose count stands at `at`, if it is used, with as many records as the sum says.
-pub fn read_section(kind: Kind, s: &[u8], at: usize, used: bool, sum: Sum) -> ReadSection
+pub fn read_section<R: Record>(
+    s: &[u8],
+    at: usize,
+    used: bool,
+    sum: Option<u64>,
+) -> Result<SectionRead, ImageError>
     requires { at < 16777216 }
-    ensures { SectionRead kind s.now at used sum result }
+    ensures check { check_of result ≡ section_form R.kind s.now at used sum }
+    ensures section { IfOk result (λ r. r.section ≡ section_at R.kind s.now at) }
+    ensures end { IfOk result (λ r. r.end ≡ end_of (section_at R.kind s.now at)) }
+    ensures children { IfOk result (λ r. r.children ≡ children_of R.kind s.now (section_at R.kind s.now at)) }
 {
-    let count = match read_count(kind, s, at, used, sum) {
-        Counted::Refused(e) => return ReadSection::Refused(e),
-        Counted::Count(count) => count,
-    };
-    match scan_records(kind, s, at + 4, count as usize) {
-        Scan::Refused(e) => ReadSection::Refused(e),
-        Scan::Done { end, children } => ReadSection::Read {
-            count: count as u32,
-            end,
-            children,
-        },
-    }
-}
-
-// Where the records of that section stand.
-pub fn section_of(kind: Kind, at: usize, count: u32) -> Section
-    requires { at < 16777216 }
-    ensures { (l : List ℕ) → count ≡ (section_at kind l at).count → result ≡ section_at kind l at }
-{
-    Section {
+    let count = read_count::<R>(s, at, used, sum)?;
+    let scanned = scan_records::<R>(s, at + 4, count as usize)?;
+    let section = Section {
         at: (at + 4) as u32,
-        width: width_of(kind) as u32,
-        count,
-    }
+        width: R::WIDTH as u32,
+        count: count as u32,
+    };
+    Ok(SectionRead {
+        section,
+        end: scanned.end,
+        children: scanned.children,
+    })
 }

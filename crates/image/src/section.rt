@@ -5,7 +5,7 @@ ghost use Rattle.image.specs.Read.{end_of};
 
 use crate::record::Header;
 
-#[derive(Clone, Copy)]
+#[derive(Clone, Copy, Debug, PartialEq, Eq)]
 pub struct Section {
     pub at: u32,
     pub width: u32,
@@ -13,7 +13,7 @@ pub struct Section {
 }
 
 // The last three sections of an image, or the whole of a route image.
-#[derive(Clone, Copy)]
+#[derive(Clone, Copy, Debug, PartialEq, Eq)]
 pub struct RouteLayout {
     pub routes: Section,
     pub paths: Section,
@@ -21,7 +21,7 @@ pub struct RouteLayout {
 }
 
 // The sections before them.
-#[derive(Clone, Copy)]
+#[derive(Clone, Copy, Debug, PartialEq, Eq)]
 pub struct CodeLayout {
     pub instructions: Section,
     pub cases: Section,
@@ -30,7 +30,7 @@ pub struct CodeLayout {
     pub handlers: Section,
 }
 
-#[derive(Clone, Copy)]
+#[derive(Clone, Copy, Debug, PartialEq, Eq)]
 pub struct Layout {
     pub header: Header,
     pub code: CodeLayout,
@@ -42,24 +42,20 @@ pub fn place(y: Section, i: usize) -> usize
     requires { i ≤ y.count }
     ensures { (result ≡ place_in y i) × (result ≤ 18446744069414584320) }
 {
-    let at = y.at as usize;
-    let width = y.width as usize;
-    at + width * i
+    y.at as usize + y.width as usize * i
 }
 
-// The same by a width that the caller knows: a number in the code costs less than one that is read. Not so for 31, which takes
-// two operations in the place of one.
+// The same by a width that the caller knows: a number in the code costs less than one that is read.
 pub fn place_by(y: Section, width: usize, i: usize) -> usize
-    requires { (y.width ≡ width) × (i ≤ y.count) }
+    requires width { y.width ≡ width }
+    requires within { i ≤ y.count }
     ensures { result ≡ place_in y i }
 {
-    let at = y.at as usize;
-    at + width * i
+    y.at as usize + width * i
 }
 
 pub fn end_of(y: Section) -> usize
     ensures { result ≡ end_of y }
 {
-    let count = y.count as usize;
-    place(y, count)
+    place(y, y.count as usize)
 }

@@ -5,21 +5,15 @@ ghost use Rattle.print.specs.Drawn.{drawn_lines};
 
 use graph::error::AddressBuildError;
 use graph::store::Words;
-use sequence::{Sequence, build_sequence};
+use sequence::{SequenceError, build_sequence};
 use unwind::hops::Hops;
 
-#[derive(Clone, Copy)]
-pub enum Drawn {
-    Whole,
-    Refused(AddressBuildError),
-}
-
-pub fn draw(s: &[u8], g: &mut Words, h: &mut Hops) -> Drawn
+pub fn draw(s: &[u8], g: &mut Words, h: &mut Hops) -> Result<(), AddressBuildError>
     ensures { drawn_lines s.now g.new h.new result ≡ chart_from s.now }
 {
     match build_sequence(s, g, h) {
-        Sequence::Whole => Drawn::Whole,
-        Sequence::Unrouted(e) => Drawn::Refused(e),
-        Sequence::Refused(e) => Drawn::Refused(e),
+        Ok(()) => Ok(()),
+        Err(SequenceError::Unrouted(e)) => Err(e),
+        Err(SequenceError::Refused(e)) => Err(e),
     }
 }

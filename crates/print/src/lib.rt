@@ -4,7 +4,7 @@
 
 mod draw;
 
-use crate::draw::{Drawn, draw};
+use crate::draw::draw;
 use graph::error::AddressBuildError;
 use graph::reach::reached;
 use graph::store::Words;
@@ -19,8 +19,8 @@ pub fn print_chart(s: &[u8]) {
     let mut g = [0u64; 43872];
     let mut h = [0u64; 18440];
     match draw(s, &mut g, &mut h) {
-        Drawn::Refused(e) => print_refusal(e),
-        Drawn::Whole => {
+        Err(e) => print_refusal(e),
+        Ok(()) => {
             print_graph(&g);
             let at = routes_at(s);
             print_hops(&h, &s[at..]);
@@ -34,7 +34,7 @@ fn print_graph(g: &Words) {
     let mut line = [0u8; 256];
     for k in 0..line_count(g) {
         let n = line_at(g, k, &mut line);
-        io::write_all(1, &line[0..n]);
+        io::write_all(1, &line[..n]);
     }
 }
 
@@ -51,8 +51,7 @@ fn print_hops(h: &Hops, s: &[u8]) {
 fn print_lists(h: &Hops, s: &[u8], y: RouteLayout, i: usize, line: &mut HopText) {
     for k in 0..lists_of(h, i) {
         let n = hop_line(h, s, y, i, k, line);
-        let text = &line[..];
-        io::write_all(1, &text[0..n]);
+        io::write_all(1, &line[..n]);
     }
 }
 
@@ -60,11 +59,11 @@ fn print_lists(h: &Hops, s: &[u8], y: RouteLayout, i: usize, line: &mut HopText)
 fn print_reached(g: &Words) {
     let mut line = [0u8; 256];
     let n = reached_line(reached(g).count, &mut line);
-    io::write_all(1, &line[0..n]);
+    io::write_all(1, &line[..n]);
 }
 
 fn print_refusal(e: AddressBuildError) {
     let mut line = [0u8; 256];
     let n = refused_line(e, &mut line);
-    io::write_all(1, &line[0..n]);
+    io::write_all(1, &line[..n]);
 }

@@ -1,47 +1,33 @@
-// Says of each stored image what the reader finds: how many records its sections have, or the refusal.
+// Says of each stored image what the reader finds: how many records its sections have, or the refusal. A byte before an
+// image's length tells an image (0) from routes (1).
 //
-// Standard input holds images and route images, each after a byte (0 an image, 1 routes) and its length in 4 bytes.
+// Not by `println!`, which assumes errno and its text besides the C library's read and write.
 #![tactic(auto)]
 
 use image::form::ImageError;
-use image::little::{byte_at, u32_at};
-use image::read::{ReadImage, ReadRoutes, read_image, read_routes};
+use image::read::{read_image, read_routes};
 use image::section::{RouteLayout, Section};
+use stored::next_stored;
 
 fn main() {
+    let mut head = [0u8; 5];
     let mut buffer = io::large_buffer();
     for _ in 0..1000000usize {
-        if !tell_next(&mut buffer) {
+        let Some(n) = next_stored(&mut head, &mut buffer) else {
             return;
+        };
+        if head[0] == 0 {
+            tell_image(&buffer[..n]);
+        } else {
+            tell_routes(&buffer[..n]);
         }
     }
 }
 
-// The next stored image; false where there is none.
-fn tell_next(buffer: &mut [u8]) -> bool {
-    let mut head = [0u8; 5];
-    if io::read_full(0, &mut head) < 5 {
-        return false;
-    }
-    let n = u32_at(&head, 1) as usize;
-    if buffer.len() < n {
-        return false;
-    }
-    if io::read_full(0, &mut buffer[0..n]) < n {
-        return false;
-    }
-    if byte_at(&head, 0) == 0 {
-        tell_image(&buffer[0..n]);
-    } else {
-        tell_routes(&buffer[0..n]);
-    }
-    true
-}
-
 fn tell_image(s: &[u8]) {
     match read_image(s) {
-        ReadImage::Refused(e) => tell_refusal(e),
-        ReadImage::Read(y) => {
+        Err(e) => tell_refusal(e),
+        Ok(y) => {
             let c = y.code;
             io::write_all(1, b"read");
             tell_count(c.instructions);
@@ -56,8 +42,8 @@ fn tell_image(s: &[u8]) {
 
 fn tell_routes(s: &[u8]) {
     match read_routes(s) {
-        ReadRoutes::Refused(e) => tell_refusal(e),
-        ReadRoutes::Read(y) => {
+        Err(e) => tell_refusal(e),
+        Ok(y) => {
             io::write_all(1, b"read");
             tell_layout(y);
         }

@@ -2,13 +2,19 @@
 --     laid_on                      words that are laid over words that were laid
 --     own_checked                  the checks of an image's own routes, where its graph is built
 --     unrouted_limits              routes that are refused behind a build are so by 18, 19 or 20
+--     Stands, stands               a graph that was built of an image
 --     refused_gives, plain_gives   a build that is refused, and one of mode 0
---     sequence_of, routed_gives     a build of the other modes, and the addition to it
+--     unread_gives, unbuilt_gives  the same as `?` hands it on
+--     checked                      what is asked of the routes of an image that was built
+--     mapped                       an addition that is refused, as it is handed on
+--     sequence_of, routed_gives    a build of the other modes, and the addition to it
 -- Assumes nothing.
 use mathlib.Core.Path.{◌≡◌, refl, sym, ap, subst, ◌∙◌}
 use mathlib.Core.Bool.{Bool, true, false, cond}
 use mathlib.Core.Logic.{inl, inr}
 use mathlib.Core.List.{List, []}
+use Rattle.std.proofs.Common.{Result, Ok, Err}
+use Rattle.std.specs.Result.{IsErrAnd, MatchResult}
 use Prim.Native.Nat.{ℕ, zero, suc, ◌≤◌, ◌<◌}
 use native.Mathlib.Nat.{mul-le-mul_left}
 use native.Mathlib.Omega.{arith}
@@ -17,10 +23,14 @@ use lib.Dec.{eqb}
 use lib.ListN.{length, get_or, length-append}
 use Rattle.image.specs.Little.{le1}
 use Rattle.image.specs.Refusal.{Refusal, Check, clear}
-use Rattle.image.specs.Image.{Image, RouteImage}
+use Rattle.image.specs.Image.{Image, RouteImage, image_in, routes_in}
 use Rattle.image.specs.Read.{Reading, read, refusing, read_image, read_routes}
 use Rattle.image.specs.Deal.{routes_of}
 use Rattle.image.specs.Accepted.{AcceptedRoutes}
+use Rattle.image.specs.declared.section.Layout.{Layout}
+use Rattle.image.specs.Verdict.{refusal_of as form_refusal}
+use Rattle.image.specs.declared.form.ImageError.{ImageError}
+use Rattle.image.proofs.Accepted.{accepted_routes}
 use Rattle.graph.specs.Section.{Section, size, Beside}
 use Rattle.graph.specs.Graph.{Graph, Held, held}
 use Rattle.graph.specs.Words.{section, held_in}
@@ -39,16 +49,15 @@ use Rattle.addition.proofs.Accepted.{accepted}
 use Rattle.addition.proofs.Own.{own_built, own_passed}
 use Rattle.addition.proofs.OwnNodes.{Limit, own_limits}
 use Rattle.addition.proofs.Demand.{demand3}
-use Rattle.builder.proofs.Passes.{build_passes}
-use Rattle.unwind.specs.declared.add.AddedRoutes.{AddedRoutes}
-use Rattle.unwind.specs.declared.add.AddedRoutes.TheVariants.{Stored, Refused as NotAdded}
+use Rattle.builder.proofs.BuildLaws.{read_refused, read_built}
+use Rattle.builder.proofs.Passes.{build_passes, graphed}
 use Rattle.unwind.specs.HopWords.{rows_in, no_rows, row_hops, HopsUnused}
 use Rattle.unwind.specs.Answers.{addition_in, image_of, Adds, RoutesChecked}
-use Rattle.unwind.proofs.AnswerLaws.{add_answers}
+use Rattle.unwind.proofs.AnswerLaws.{added_graphed, read_answer}
 use Rattle.text.specs.Chart.{route_bytes}
 use Rattle.text.proofs.RouteBytesLaws.{routes_alone}
-use Rattle.sequence.specs.declared.Sequence.{Sequence}
-use Rattle.sequence.specs.declared.Sequence.TheVariants.{Whole, Unrouted, Refused}
+use Rattle.sequence.specs.declared.SequenceError.{SequenceError}
+use Rattle.sequence.specs.declared.SequenceError.TheVariants.{Unrouted, Refused}
 use Rattle.sequence.specs.Sequences.{whole, unrouted, routed, with_routes, sequence_from, answer_of, Leaves, Gives}
 
 -- ---- words that are laid twice
@@ -136,8 +145,8 @@ whole_added : (g : Graph) (a : Addition) (o : Adding) → whole a ≡ routed g o
 whole_added g a (added b) e = cc
 whole_added g a (not_added r) e = absurd (let z : ◌≡◌ {A = ℕ} 0 1 = cc in omega arith)
 
-module _ (l w h : List ℕ) (r : Sequence) where
-  spelled : answer_of l w h r ≡ sequence_from l → (g : Graph) (m : RouteImage) → build_from l ≡ built g → (le1 l 1 ≡ 0 → ⊥) → read_routes (route_bytes l) ≡ read m → r ≡ Whole → Conditions g (routes_of m) → Demand3 (routes_of m) (addition_in m w h)
+module _ (l w h : List ℕ) (r : Result Unit SequenceError) where
+  spelled : answer_of l w h r ≡ sequence_from l → (g : Graph) (m : RouteImage) → build_from l ≡ built g → (le1 l 1 ≡ 0 → ⊥) → read_routes (route_bytes l) ≡ read m → r ≡ Ok tt → Conditions g (routes_of m) → Demand3 (routes_of m) (addition_in m w h)
   unfolding held with_routes sequence_from
   spelled answer g m is some found all conditions =
       let told : whole (addition_in m w h) ≡ routed g (add_routes (held g) (route_bytes l)) =
@@ -160,32 +169,70 @@ module _ (l w h : List ℕ) (r : Sequence) where
 -- ---- what is given
 
 -- the answer of an addition to a graph that was built
-abbrev pub sequence_of : AddedRoutes → Sequence
-sequence_of Stored = Whole
-sequence_of (NotAdded e) = Unrouted e
+abbrev pub sequence_of : Result Unit AddressBuildError → Result Unit SequenceError
+sequence_of (Ok _) = Ok tt
+sequence_of (Err e) = Err (Unrouted e)
+
+pub mapped : (r : Result Unit AddressBuildError) (o : Result Unit SequenceError) → MatchResult r (λ x. o ≡ Ok x) (λ e. IsErrAnd o (λ d. d ≡ Unrouted e)) → o ≡ sequence_of r
+mapped (Ok _) o is = is
+mapped (Err e) (Err d) is = ap Err is
+mapped (Err e) (Ok _) is = absurd is
+
+-- a graph that was built of an image, as the words hold it
+pub record Stands (l u v : List ℕ) (y : Layout) : Type 0 where
+  pub of_image : built (held_in v).graph ≡ build_of (image_in l y)
+  pub is : built (held_in v).graph ≡ build_from l
+  pub laid : Laid u v (held_in v).graph
+  pub graph : well_formed (held_in v) ≡ true
 
 module _ (l : List ℕ) where
-  pub refused_gives : (u w h : List ℕ) (e : AddressBuildError) → not_built (refusal_of e) ≡ build_from l → w ≡ u → Gives l u w h h (Refused e)
+  pub refused_gives : (u w h : List ℕ) (e : AddressBuildError) → not_built (refusal_of e) ≡ build_from l → w ≡ u → Gives l u w h h (Err (Refused e))
   unfolding with_routes sequence_from
-  refused_gives u w h e is same = gives l w h (Refused e) (ap (with_routes l) is) (same, refl)
+  refused_gives u w h e is same = gives l w h (Err (Refused e)) (ap (with_routes l) is) (same, refl)
 
-  module _ (u v : List ℕ) (is : built (held_in v).graph ≡ build_from l) (laid : Laid u v (held_in v).graph) (graph : well_formed (held_in v) ≡ true) where
-    pub plain_gives : le1 l 1 ≡ 0 → {h h' : List ℕ} → rows_in h' ≡ no_rows → ((k : ℕ) → HopsUnused h' k → get_or h' k 0 ≡ get_or h k 0) → Gives l u v h h' Whole
-    unfolding with_routes sequence_from row_hops
-    plain_gives mode {h} {h'} none kept = gives l v h' Whole (rw (← is, eq-eqb (le1 l 1) 0 mode, none)) (laid, graph, kept)
+  -- a reading that is refused, and a build, as `?` hands them on
+  pub unread_gives : (u h : List ℕ) (x : ImageError) (r : Result Unit SequenceError) → refusing (form_refusal x) ≡ read_image l → IsErrAnd r (λ e. (a : AddressBuildError) × (e ≡ Refused a) × (refusal_of a ≡ form_refusal x)) → Gives l u u h h r
+  unread_gives u h x (Err e) found is = rw is.1 (refused_gives u u h is.0 (read_refused l {A = Unit} u x (Err is.0) is.2 found) refl)
+  unread_gives u h x (Ok _) found is = absurd is
 
-    module _ (mode : le1 l 1 ≡ 0 → ⊥) (m : RouteImage) (found : read_routes (route_bytes l) ≡ read m) where
-      added_from : (o : Adding) → o ≡ add_routes (held_in v) (route_bytes l) → routed (held_in v).graph o ≡ sequence_from l
-      unfolding with_routes sequence_from
-      added_from o e = rw (← is, ne_eqb (le1 l 1) 0 mode) (ap (routed (held_in v).graph) (e ∙ ap (λ (x : Held). add_routes x (route_bytes l)) laid.holds))
+  pub unbuilt_gives : (u w h : List ℕ) (m : Image) (x : AddressBuildError) (r : Result Unit SequenceError) → read m ≡ read_image l → not_built (refusal_of x) ≡ build_of m → w ≡ u → IsErrAnd r (λ e. e ≡ Refused x) → Gives l u w h h r
+  unbuilt_gives u w h m x (Err e) found is same err = rw err (refused_gives u w h x (is ∙ read_built l m found) same)
+  unbuilt_gives u w h m x (Ok _) found is same err = absurd err
 
-      pub routed_gives : (w h h' : List ℕ) (r : AddedRoutes) → Adds m v w h h' r → Gives l u w h h' (sequence_of r)
-      unfolding addition
-      routed_gives w h h' Stored adds =
-          let all = add_answers (route_bytes l) v w h h' Stored graph m (sym found) adds in
-          let is-addition = (accepted (held_in v).graph (routes_of m) (addition_in m w h') (sym adds.answer)).is in
-          gives l w h' Whole (added_from _ all.0) (laid_on (grown (held_in v).graph _ _ v w refl (sym (ap (λ (a : Addition). a.graph) is-addition))) laid all.1.0, all.3, all.1.1)
-      routed_gives w h h' (NotAdded e) adds =
-          let all = add_answers (route_bytes l) v w h h' (NotAdded e) graph m (sym found) adds in
-          subst (λ (x : List ℕ). Gives l u x h h' (Unrouted e)) (sym all.1.0)
-          (gives l v h' (Unrouted e) (added_from _ all.0) (laid, graph, all.1.1))
+  module _ (u v : List ℕ) (y : Layout) where
+    pub stands : read (image_in l y) ≡ read_image l → built (held_in v).graph ≡ build_of (image_in l y) → Laid u v (held_in v).graph → Stands l u v y
+    stands found of laid =
+        let is : built (held_in v).graph ≡ build_from l = of ∙ read_built l (image_in l y) found in
+        record { of_image = of; is = is; laid = laid; graph = graphed {A = Unit} l u v (Ok tt) is laid }
+
+    module _ (s : Stands l u v y) where
+      pub plain_gives : le1 l 1 ≡ 0 → {h h' : List ℕ} → rows_in h' ≡ no_rows → ((k : ℕ) → HopsUnused h' k → get_or h' k 0 ≡ get_or h k 0) → Gives l u v h h' (Ok tt)
+      unfolding with_routes sequence_from row_hops
+      plain_gives mode {h} {h'} none kept = gives l v h' (Ok tt) (rw (← s.is, eq-eqb (le1 l 1) 0 mode, none)) (s.laid, s.graph, kept)
+
+      pub checked : (n : ℕ) → read (image_in l y) ≡ read_image l → n ≡ length (held_in v).graph.blocks → RoutesChecked (held_in v) n (routes_in l y.routes)
+      checked n found all =
+          let m = image_in l y in
+          own_checked m (held_in v) n s.of_image s.graph (accepted_routes (route_bytes l) m.routes (routes_alone l m (sym found))) all
+
+      module _ (mode : le1 l 1 ≡ 0 → ⊥) (found : read (image_in l y) ≡ read_image l) where
+        abbrev m : RouteImage
+        m = routes_in l y.routes
+
+        alone : read m ≡ read_routes (route_bytes l)
+        alone = sym (routes_alone l (image_in l y) (sym found))
+
+        added_from : (o : Adding) → o ≡ add_routes (held_in v) (route_bytes l) → routed (held_in v).graph o ≡ sequence_from l
+        unfolding with_routes sequence_from
+        added_from o e = rw (← s.is, ne_eqb (le1 l 1) 0 mode) (ap (routed (held_in v).graph) (e ∙ ap (λ (x : Held). add_routes x (route_bytes l)) s.laid.holds))
+
+        pub routed_gives : (w h h' : List ℕ) (r : Result Unit AddressBuildError) → Adds m v w h h' r → Gives l u w h h' (sequence_of r)
+        unfolding addition
+        routed_gives w h h' (Ok _) adds =
+            let answer = read_answer (route_bytes l) v w h h' (Ok tt) s.graph m alone adds in
+            let is-addition = (accepted (held_in v).graph (routes_of m) (addition_in m w h') (sym adds.answer)).is in
+            gives l w h' (Ok tt) (added_from _ answer)
+            (laid_on (grown (held_in v).graph _ _ v w refl (sym (ap (λ (a : Addition). a.graph) is-addition))) s.laid adds.leaves.0, added_graphed (route_bytes l) v w h h' (Ok tt) answer adds.leaves, adds.leaves.1)
+        routed_gives w h h' (Err e) adds =
+            subst (λ (x : List ℕ). Gives l u x h h' (Err (Unrouted e))) (sym adds.leaves.0)
+            (gives l v h' (Err (Unrouted e)) (added_from _ (read_answer (route_bytes l) v w h h' (Err e) s.graph m alone adds)) (s.laid, s.graph, adds.leaves.1))

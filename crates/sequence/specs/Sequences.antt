@@ -1,5 +1,5 @@
 -- A sequence with its own routes: what an image gives, and what is left of it in the words that are lent.
-use Rattle.std.specs.Prelude.{true, cond, ◌≡◌, List, [], ℕ, ◌≤◌, eqb, get_or}
+use Rattle.std.specs.Prelude.{true, cond, ◌≡◌, List, [], ℕ, ◌≤◌, eqb, get_or, Result, Ok, Err}
 use Rattle.image.specs.Little.{le1}
 use Rattle.image.specs.Refusal.{Refusal}
 use Rattle.image.specs.Image.{RouteImage}
@@ -17,8 +17,8 @@ use Rattle.addition.specs.Demand.{Conditions, Demand3}
 use Rattle.unwind.specs.HopWords.{HopsUnused}
 use Rattle.unwind.specs.Answers.{image_of, addition_in}
 use Rattle.text.specs.Chart.{route_bytes}
-use Rattle.sequence.specs.declared.Sequence.{Sequence}
-use Rattle.sequence.specs.declared.Sequence.TheVariants.{Whole, Unrouted, Refused}
+use Rattle.sequence.specs.declared.SequenceError.{SequenceError}
+use Rattle.sequence.specs.declared.SequenceError.TheVariants.{Unrouted, Refused}
 
 -- the graph that its routes were added to, and their hops; the graph alone, with why its routes are refused; or a refusal
 pub data Outcome : Type 0 where
@@ -40,21 +40,21 @@ unfoldable pub sequence_from : List ℕ → Outcome
 sequence_from l = with_routes l (build_from l)
 
 -- as the words hold it
-abbrev pub answer_of : List ℕ → List ℕ → List ℕ → Sequence → Outcome
-answer_of l w h Whole = whole (addition_in (image_of (read_routes (route_bytes l))) w h)
-answer_of l w h (Unrouted e) = unrouted (held_in w).graph (refusal_of e)
-answer_of l w h (Refused e) = refused (refusal_of e)
+abbrev pub answer_of : List ℕ → List ℕ → List ℕ → Result Unit SequenceError → Outcome
+answer_of l w h (Ok _) = whole (addition_in (image_of (read_routes (route_bytes l))) w h)
+answer_of l w h (Err (Unrouted e)) = unrouted (held_in w).graph (refusal_of e)
+answer_of l w h (Err (Refused e)) = refused (refusal_of e)
 
 -- the words hold the graph, which 21 lets pass, and the hops, and each word that they do not use is as it was; refused, every word
-abbrev pub Leaves : List ℕ → List ℕ → List ℕ → List ℕ → Sequence → Type 0
-Leaves w w' h h' Whole = Laid w w' (held_in w').graph × (well_formed (held_in w') ≡ true) × ((k : ℕ) → HopsUnused h' k → get_or h' k 0 ≡ get_or h k 0)
-Leaves w w' h h' (Unrouted e) = Laid w w' (held_in w').graph × (well_formed (held_in w') ≡ true) × (h' ≡ h)
-Leaves w w' h h' (Refused e) = (w' ≡ w) × (h' ≡ h)
+abbrev pub Leaves : List ℕ → List ℕ → List ℕ → List ℕ → Result Unit SequenceError → Type 0
+Leaves w w' h h' (Ok _) = Laid w w' (held_in w').graph × (well_formed (held_in w') ≡ true) × ((k : ℕ) → HopsUnused h' k → get_or h' k 0 ≡ get_or h k 0)
+Leaves w w' h h' (Err (Unrouted e)) = Laid w w' (held_in w').graph × (well_formed (held_in w') ≡ true) × (h' ≡ h)
+Leaves w w' h h' (Err (Refused e)) = (w' ≡ w) × (h' ≡ h)
 
-pub record Gives (l w w' h h' : List ℕ) (r : Sequence) : Type 0 where
+pub record Gives (l w w' h h' : List ℕ) (r : Result Unit SequenceError) : Type 0 where
   pub answer : answer_of l w' h' r ≡ sequence_from l
   pub leaves : Leaves w w' h h' r
   -- DEMAND 3 of the graph that is built and the routes in the image
-  pub spells : (g : Graph) (m : RouteImage) → build_from l ≡ built g → (le1 l 1 ≡ 0 → ⊥) → read_routes (route_bytes l) ≡ read m → r ≡ Whole → Conditions g (routes_of m) → Demand3 (routes_of m) (addition_in m w' h')
+  pub spells : (g : Graph) (m : RouteImage) → build_from l ≡ built g → (le1 l 1 ≡ 0 → ⊥) → read_routes (route_bytes l) ≡ read m → r ≡ Ok tt → Conditions g (routes_of m) → Demand3 (routes_of m) (addition_in m w' h')
   -- routes that the image has itself are refused for want of room alone: 18, 19 or 20
-  pub limits : (e : AddressBuildError) → r ≡ Unrouted e → (18 ≤ (refusal_of e).number) × ((refusal_of e).number ≤ 20)
+  pub limits : (e : AddressBuildError) → r ≡ Err (Unrouted e) → (18 ≤ (refusal_of e).number) × ((refusal_of e).number ≤ 20)

@@ -4,56 +4,55 @@
 #![tactic(auto)]
 
 ghost use Rattle.std.specs.Prelude.{◌≡◌};
-ghost use Rattle.image.specs.Image.{image_in};
-ghost use Rattle.image.specs.Read.{read, read_image};
-ghost use Rattle.image.specs.There.{ImageThere};
+ghost use Rattle.image.specs.Verdict.{refusal_of as form_refusal};
+ghost use Rattle.graph.specs.Error.{refusal_of};
+ghost use Rattle.graph.specs.declared.error.AddressBuildError.{AddressBuildError};
+ghost use Rattle.sequence.specs.declared.SequenceError.TheVariants.{Refused};
 ghost use Rattle.sequence.specs.Sequences.{Gives};
 
-use builder::build::{Built, build_read};
-use graph::error::{AddressBuildError, form_error};
+use builder::build::build_read;
+use graph::error::AddressBuildError;
 use graph::store::Words;
 use graph::store::blocks::block_count;
+use image::form::ImageError;
 use image::little::byte_at;
-use image::read::{ReadImage, read_image};
-use image::section::Layout;
-use unwind::add::AddedRoutes;
+use image::read::read_image;
 use unwind::add::frames::add_checked;
 use unwind::hops::{Hops, empty_hops};
 
-// The graph with its routes and their hops; the graph alone, where its routes are refused; or nothing.
-#[derive(Clone, Copy)]
-pub enum Sequence {
-    Whole,
+// Why there is no graph with its routes: the graph is stored, but its routes are refused; or nothing is.
+#[derive(Clone, Copy, Debug, PartialEq, Eq)]
+pub enum SequenceError {
     Unrouted(AddressBuildError),
     Refused(AddressBuildError),
 }
 
-// Of any bytes.
-pub fn build_sequence(s: &[u8], g: &mut Words, h: &mut Hops) -> Sequence
-    ensures { Gives s.now g.old g.new h.old h.new result }
-{
-    match read_image(s) {
-        ReadImage::Refused(e) => Sequence::Refused(form_error(e)),
-        ReadImage::Read(y) => build_layout(s, y, g, h),
+impl From<AddressBuildError> for SequenceError {
+    ghost from_gives = { λ e r. r ≡ Refused e };
+
+    fn from(e: AddressBuildError) -> SequenceError {
+        SequenceError::Refused(e)
     }
 }
 
-// Of an image that was read.
-fn build_layout(s: &[u8], y: Layout, g: &mut Words, h: &mut Hops) -> Sequence
-    requires { (read (image_in s.now y) ≡ read_image s.now) × ImageThere s.now y }
+impl From<ImageError> for SequenceError {
+    ghost from_gives = { λ e r. (x : AddressBuildError) × (r ≡ Refused x) × (refusal_of x ≡ form_refusal e) };
+
+    fn from(e: ImageError) -> SequenceError {
+        SequenceError::Refused(AddressBuildError::from(e))
+    }
+}
+
+// Of any bytes: the graph with its routes, and their hops.
+pub fn build_sequence(s: &[u8], g: &mut Words, h: &mut Hops) -> Result<(), SequenceError>
     ensures { Gives s.now g.old g.new h.old h.new result }
 {
-    let routes = y.routes;
-    if let Built::Refused(e) = build_read(s, y, g) {
-        return Sequence::Refused(e);
-    }
+    let y = read_image(s)?;
+    build_read(s, y, g)?;
     if byte_at(s, 1) == 0 {
         empty_hops(h);
-        return Sequence::Whole;
+        return Ok(());
     }
     let built = block_count(g);
-    match add_checked(g, built, s, routes, h) {
-        AddedRoutes::Refused(e) => Sequence::Unrouted(e),
-        AddedRoutes::Stored => Sequence::Whole,
-    }
+    add_checked(g, built, s, y.routes, h).map_err(SequenceError::Unrouted)
 }

@@ -1,8 +1,8 @@
 -- The lines of hops.
---     line-fields            what a line began with, its fields, the newline
---     fields-more            a field behind the others
 --     first_tags             the first tags of a list
 --     some_tags              the fields of tags, where there are any
+--     tags_told, none_listed  the fields of the first tags of a list
+--     no_step                past the last step the tag is 0
 --     tags_put               those of one tag more
 --     lists_few              how many lists there are at most
 --     none_past, calls_length     how many lists a hop has; past the last hop there are none
@@ -14,14 +14,19 @@
 use mathlib.Core.Path.{◌≡◌, refl, ap, sym, ◌∙◌}
 use mathlib.Core.Logic.{⊎_elim}
 use mathlib.Core.List.Memᴰ
-use mathlib.Core.List.{List, [], ◌∷◌, ◌++◌, map, append-nil, append_assoc, map-append}
+use mathlib.Core.List.{List, [], ◌∷◌, ◌++◌, map, append-nil, map-append}
 use Prim.Native.Nat.{ℕ, zero, suc, ◌+◌, ◌-◌, ◌≤◌, ◌<◌, min}
 use native.Mathlib.Omega.{arith}
 use borrow.Author.Tests.{ltb-true, ltb-false}
 use lib.Dec.{ltb}
 use lib.ListN.{length, get_or, take, drop, length-map, length-take, length-drop, get_or-eq_default}
 use lib.Seq.{take_all, take-append_seam, get_or-take, get_or-drop}
-use Rattle.image.specs.Image.{RouteImage, table}
+use Rattle.std.proofs.lemmas.List.{get_or-map}
+use Rattle.image.specs.Image.{RouteImage, routes_in, table}
+use Rattle.image.specs.Record.{step_from}
+use Rattle.image.specs.declared.record.Step.{Step}
+use Rattle.image.specs.declared.section.RouteLayout.{RouteLayout}
+use Rattle.image.proofs.Tables.{records_past}
 use Rattle.graph.specs.Fold.{flat}
 use Rattle.graph.proofs.FoldLaws.{decided, flat_front}
 use Rattle.graph.proofs.SectionLaws.{size_most}
@@ -36,23 +41,11 @@ use Rattle.unwind.proofs.EntryLaws.{table_front}
 use Rattle.unwind.proofs.TriePaths.{tags_append, length_tags, tags_more}
 use Rattle.unwind.proofs.HopLaws.{lists_long}
 use Rattle.unwind.proofs.RowLaws.{rows_long}
-use Rattle.text.specs.declared.field.Field.{Field}
-use Rattle.text.specs.declared.field.Field.TheVariants.{Number}
+use Rattle.text.specs.declared.field.Field.TheVariants.{Number, Absent}
 use Rattle.text.specs.Line.{bytes, field, fields, line}
 use Rattle.text.specs.Chart.{end_field, tag_fields, hop_line, hop_lines}
 use Rattle.text.specs.HopText.{hop_in, told_line, told_at}
-
--- ---- fields
-
-pub line-fields : (begun : List ℕ) (fs : List Field) → line begun fs ≡ begun ++ fields fs ++ (10 ∷ [])
-unfolding line fields
-line-fields begun [] = ap (λ (l : List ℕ). l ++ (10 ∷ [])) (sym (append-nil begun))
-line-fields begun (f ∷ fs) = line-fields (begun ++ field f) fs ∙ ap (λ (l : List ℕ). l ++ (10 ∷ [])) (append_assoc begun (field f) (fields fs))
-
-pub fields-more : (fs : List Field) (f : Field) → fields (fs ++ (f ∷ [])) ≡ fields fs ++ field f
-unfolding fields
-fields-more [] f = append-nil (field f)
-fields-more (x ∷ fs) f = ap (λ (l : List ℕ). field x ++ l) (fields-more fs f) ∙ sym (append_assoc (field x) (fields fs) (field f))
+use Rattle.text.proofs.PutLaws.{line-fields, fields-more}
 
 -- ---- tags
 
@@ -85,12 +78,20 @@ tags_put m a j =
     ∙ ap fields (map-append Number (tags_in m a j) ((step_in m (a + j)).value ∷ []))
     ∙ fields-more (map Number (tags_in m a j)) (Number (step_in m (a + j)).value)
 
--- ---- hops by their rows
+-- the first k of a list's tags are those of j steps
+pub tags_told : (m : RouteImage) (a n k j : ℕ) → j ≡ min n k → (j ≡ 0 → ⊥) → fields (tag_fields (take k (tags_in m a n))) ≡ fields (map Number (tags_in m a j))
+tags_told m a n k j e some = rw (first_tags m a n k, ← e) (ap fields (some_tags (tags_in m a j) (omega (arith, length_tags m a j))))
 
-mapped : {A B : Type 0} (f : A → B) (l : List A) (i : ℕ) (d : A) (e : B) → i < length l → get_or (map f l) i e ≡ f (get_or l i d)
-mapped f [] i d e h = absurd (omega arith)
-mapped f (x ∷ l) zero d e h = refl
-mapped f (x ∷ l) (suc i) d e h = mapped f l i d e (omega arith)
+pub none_listed : (m : RouteImage) (a n k j : ℕ) → j ≡ min n k → j ≡ 0 → fields (tag_fields (take k (tags_in m a n))) ≡ field Absent
+unfolding tags_in tag_fields fields
+none_listed m a n k j e none = let no : min n k ≡ 0 = omega arith in rw (first_tags m a n k, no) (append-nil (field Absent))
+
+pub no_step : (l : List ℕ) (y : RouteLayout) (k : ℕ) → y.steps.count ≤ k → (step_in (routes_in l y) k).value ≡ 0
+no_step l y k past = ap (λ (x : Step). x.value) (records_past step_from l y.steps k past)
+
+pub ruleset listed = (tags_told, none_listed)
+
+-- ---- hops by their rows
 
 pub lists_few : (l : List ℕ) → length (rows_in l).lists ≤ 4096
 lists_few l = omega (arith, lists_long l, size_most list_rows l)
@@ -104,7 +105,7 @@ module _ (m : RouteImage) (l : List ℕ) (i : ℕ) where
 
   hop_row_law : i < length (rows_in l).hops → hop_in (hops_in m l) i ≡ row_hop m ts x
   unfolding row_hops
-  hop_row_law h = mapped (row_hop m ts) (rows_in l).hops i _ _ h
+  hop_row_law h = get_or-map (row_hop m ts) (rows_in l).hops i _ _ h
 
   pub none_past : length (rows_in l).hops ≤ i → length (hop_in (hops_in m l) i).calls ≡ 0
   none_past h = rw (get_or-eq_default (row_hops m (rows_in l)) _ {n = i} (omega (arith, rows_long m (rows_in l))))
@@ -138,8 +139,8 @@ module _ (m : RouteImage) (l : List ℕ) (i : ℕ) where
     list_row_law f =
         let those = take x.lists (drop x.first ts) in
         let long : k < length those = omega (arith, length-take x.lists (drop x.first ts), length-drop x.first ts, list_there.0, list_there.1) in
-        mapped f (map (tags_from m) those) k [] [] (omega (arith, length-map those (tags_from m), long))
-        ∙ ap f (mapped (tags_from m) those k (list_row []) [] long)
+        get_or-map f (map (tags_from m) those) k [] [] (omega (arith, length-map those (tags_from m), long))
+        ∙ ap f (get_or-map (tags_from m) those k (list_row []) [] long)
         ∙ ap (λ (r : ListRow). f (tags_from m r)) (get_or-take x.lists (drop x.first ts) k (list_row []) list_there.0 ∙ get_or-drop x.first ts k (list_row []))
 
     pub told_at_law : told_at (hops_in m l) i k ≡ bytes "hop" ++ field (Number x.source) ++ field (end_field (end_from x)) ++ fields (tag_fields (take 512 (tags_from m t))) ++ (10 ∷ [])
@@ -153,6 +154,8 @@ module _ (m : RouteImage) (l : List ℕ) (i : ℕ) where
   none_told k h =
       let hop = hop_in (hops_in m l) i in
       get_or-eq_default (map (told_line hop) hop.calls) [] {n = k} (omega (arith, length-map hop.calls (told_line hop)))
+
+pub ruleset counted = (none_past, calls_length)
 
 -- ---- all lines
 

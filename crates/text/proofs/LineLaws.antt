@@ -1,15 +1,14 @@
 -- The lines of a graph, counted through the kinds.
 --     from_blocks, from_edges, ..   the lines from a kind on
---     line_next                   line k behind the first
---     kind_line, kind_past        line k of the first kind, and behind it
---     lines_length, lines_few     how many lines there are, and at most
+--     here, past                  the lines of the first kind, and those behind it
+--     at_start, at_block, ..      line k
+--     lines_length, records_few   how many lines there are, and how many records at most
 -- Assumes nothing.
-use mathlib.Core.Path.{◌≡◌, refl, ap, ◌∙◌}
+use mathlib.Core.Path.{◌≡◌, sym, ap, ◌∙◌}
 use mathlib.Core.List.{List, [], ◌++◌}
-use Prim.Native.Nat.{ℕ, zero, suc, ◌+◌, ◌-◌, ◌≤◌, ◌<◌}
-use native.Mathlib.Numerals.{sub-one}
+use Prim.Native.Nat.{ℕ, suc, ◌+◌, ◌≤◌, ◌<◌}
 use native.Mathlib.Omega.{arith}
-use lib.ListN.{length, get_or, length-append, get_or-append}
+use lib.ListN.{length, get_or, length-append, get_or-append, get_or-eq_default}
 use lib.Seq.{get_or-append-add}
 use Rattle.image.specs.Image.{table}
 use Rattle.graph.specs.Graph.{Graph}
@@ -17,7 +16,7 @@ use Rattle.graph.specs.Words.{held_in, region_rows, handler_rows, unresolved_row
 use Rattle.graph.proofs.FoldLaws.{length-table, get_or_table}
 use Rattle.graph.proofs.SectionLaws.{size_most}
 use Rattle.graph.proofs.RecordLaws.{block_most, edge_most, region-count, handler-count, unresolved_count, call_count}
-use Rattle.text.specs.Chart.{block_line, edge_line, region_line, handler_line, unresolved_line, call_line, graph_lines}
+use Rattle.text.specs.Chart.{built_line, block_line, edge_line, region_line, handler_line, unresolved_line, call_line, graph_lines}
 
 abbrev pub from_calls : Graph → List (List ℕ)
 from_calls g = table (call_line g) (length g.calls)
@@ -37,25 +36,70 @@ from_edges g = table (edge_line g) (length g.edges) ++ from_regions g
 abbrev pub from_blocks : Graph → List (List ℕ)
 from_blocks g = table (block_line g) (length g.blocks) ++ from_edges g
 
-pub line_next : (g : Graph) (k : ℕ) → (k ≡ 0 → ⊥) → get_or (graph_lines g) k [] ≡ get_or (from_blocks g) (k - 1) []
-unfolding graph_lines
-line_next g zero h = absurd (h refl)
-line_next g (suc k) h = rw sub-one
+module _ (f : ℕ → List ℕ) (n : ℕ) (l : List (List ℕ)) (j : ℕ) where
+  here : j < n → get_or (table f n ++ l) j [] ≡ f j
+  here h = get_or-append (table f n) l [] j (rw length-table h) ∙ get_or_table f n j [] h
 
-module _ (f : ℕ → List ℕ) (n : ℕ) (l : List (List ℕ)) (k : ℕ) {m : ℕ} (count : m ≡ n) where
-  pub kind_line : k < m → get_or (table f n ++ l) k [] ≡ f k
-  kind_line h = get_or-append (table f n) l [] k (rw length-table (omega arith)) ∙ get_or_table f n k [] (omega arith)
+  past : get_or (table f n ++ l) (n + j) [] ≡ get_or l j []
+  past = ap (λ (k : ℕ). get_or (table f n ++ l) (k + j) []) (sym (length-table f n)) ∙ get_or-append-add (table f n) l j []
 
-  pub kind_past : m ≤ k → get_or (table f n ++ l) k [] ≡ get_or l (k - m) []
-  kind_past h =
-      let e : k ≡ length (table f n) + (k - m) = omega (arith, length-table f n) in
-      ap (λ (j : ℕ). get_or (table f n ++ l) j []) e ∙ get_or-append-add (table f n) l (k - m) []
+-- Line k, by what is left of it behind the kinds before.
+module _ (g : Graph) (k : ℕ) where
+  abbrev Is : List (List ℕ) → ℕ → Type 0
+  Is l j = get_or (graph_lines g) k [] ≡ get_or l j []
+
+  to_blocks : (b : ℕ) → k ≡ 1 + b → Is (from_blocks g) b
+  unfolding graph_lines
+  to_blocks b e = let next : k ≡ suc b = omega arith in rw next
+
+  to_edges : (e : ℕ) → k ≡ 1 + length g.blocks + e → Is (from_edges g) e
+  to_edges e is = to_blocks (length g.blocks + e) (omega arith) ∙ past (block_line g) (length g.blocks) (from_edges g) e
+
+  to_regions : (r : ℕ) → k ≡ 1 + length g.blocks + length g.edges + r → Is (from_regions g) r
+  to_regions r is = to_edges (length g.edges + r) (omega arith) ∙ past (edge_line g) (length g.edges) (from_regions g) r
+
+  to_handlers : (h : ℕ) → k ≡ 1 + length g.blocks + length g.edges + length g.regions + h → Is (from_handlers g) h
+  to_handlers h is = to_regions (length g.regions + h) (omega arith) ∙ past (region_line g) (length g.regions) (from_handlers g) h
+
+  to_unresolved : (u : ℕ) → k ≡ 1 + length g.blocks + length g.edges + length g.regions + length g.handlers + u → Is (from_unresolved g) u
+  to_unresolved u is = to_handlers (length g.handlers + u) (omega arith) ∙ past (handler_line g) (length g.handlers) (from_unresolved g) u
+
+  to_calls : (c : ℕ) → k ≡ 1 + length g.blocks + length g.edges + length g.regions + length g.handlers + length g.unresolved + c → Is (from_calls g) c
+  to_calls c is = to_unresolved (length g.unresolved + c) (omega arith) ∙ past (unresolved_line g) (length g.unresolved) (from_calls g) c
+
+  pub at_start : k ≡ 0 → get_or (graph_lines g) k [] ≡ built_line g
+  unfolding graph_lines
+  at_start e = rw e
+
+  pub at_block : (b : ℕ) → k ≡ 1 + b → b < length g.blocks → get_or (graph_lines g) k [] ≡ block_line g b
+  at_block b is h = to_blocks b is ∙ here (block_line g) (length g.blocks) (from_edges g) b h
+
+  pub at_edge : (e : ℕ) → k ≡ 1 + length g.blocks + e → e < length g.edges → get_or (graph_lines g) k [] ≡ edge_line g e
+  at_edge e is h = to_edges e is ∙ here (edge_line g) (length g.edges) (from_regions g) e h
+
+  pub at_region : (r : ℕ) → k ≡ 1 + length g.blocks + length g.edges + r → r < length g.regions → get_or (graph_lines g) k [] ≡ region_line g r
+  at_region r is h = to_regions r is ∙ here (region_line g) (length g.regions) (from_handlers g) r h
+
+  pub at_handler : (h : ℕ) → k ≡ 1 + length g.blocks + length g.edges + length g.regions + h → h < length g.handlers → get_or (graph_lines g) k [] ≡ handler_line g h
+  at_handler h is lt = to_handlers h is ∙ here (handler_line g) (length g.handlers) (from_unresolved g) h lt
+
+  pub at_unresolved : (u : ℕ) → k ≡ 1 + length g.blocks + length g.edges + length g.regions + length g.handlers + u → u < length g.unresolved → get_or (graph_lines g) k [] ≡ unresolved_line g u
+  at_unresolved u is h = to_unresolved u is ∙ here (unresolved_line g) (length g.unresolved) (from_calls g) u h
+
+  pub at_call : (c : ℕ) → k ≡ 1 + length g.blocks + length g.edges + length g.regions + length g.handlers + length g.unresolved + c → c < length g.calls → get_or (graph_lines g) k [] ≡ call_line g c
+  at_call c is h = to_calls c is ∙ get_or_table (call_line g) (length g.calls) c [] h
+
+  pub at_end : length (graph_lines g) ≤ k → get_or (graph_lines g) k [] ≡ []
+  at_end h = get_or-eq_default (graph_lines g) [] h
 
 pub lines_length : (g : Graph) →
     length (graph_lines g) ≡ 1 + length g.blocks + length g.edges + length g.regions + length g.handlers + length g.unresolved + length g.calls
 unfolding graph_lines
 lines_length g = simp (length-append, length-table) (omega arith)
 
-pub lines_few : (l : List ℕ) → length (graph_lines (held_in l).graph) ≤ 6721
-lines_few l =
-    omega (arith, lines_length (held_in l).graph, block_most l, edge_most l, region-count l, size_most region_rows l, handler-count l, size_most handler_rows l, unresolved_count l, size_most unresolved_rows l, call_count l, size_most call_rows l)
+pub records_few : (l : List ℕ) →
+    length (held_in l).graph.blocks + length (held_in l).graph.edges + length (held_in l).graph.regions + length (held_in l).graph.handlers + length (held_in l).graph.unresolved + length (held_in l).graph.calls ≤ 6720
+records_few l =
+    omega (arith, block_most l, edge_most l, region-count l, size_most region_rows l, handler-count l, size_most handler_rows l, unresolved_count l, size_most unresolved_rows l, call_count l, size_most call_rows l)
+
+pub ruleset lines = (at_start, at_block, at_edge, at_region, at_handler, at_unresolved, at_call, at_end, lines_length)

@@ -1,4 +1,5 @@
 -- The last three sections of an image's bytes are a route image, and hold its routes.
+--     limit_most                           how many records a section has at most
 --     byte-same, four_same, eight_same     a number read from the bytes behind a place
 --     section_shift, routes_shift          what is clear there is clear by itself
 --     layout_same                          and holds the same records
@@ -7,6 +8,7 @@
 use mathlib.Core.Path.{◌≡◌, refl, ap, sym, ◌∙◌}
 use mathlib.Core.Bool.{Bool, true, false, cond, not, ◌||◌}
 use mathlib.Core.List.{List}
+use Rattle.std.proofs.Common.{Option, Some, None}
 use Prim.Native.Nat.{ℕ, zero, suc, ◌+◌, ◌*◌, ◌≤◌, ◌<◌, min}
 use native.Mathlib.Omega.{arith}
 use borrow.Author.Tests.{leb-true, le-leb}
@@ -19,14 +21,21 @@ use Rattle.image.specs.Record.{route_from, path_from, step_from}
 use Rattle.image.specs.Form.{bad, field, byte, used4, used8, header_form, form_of}
 use Rattle.image.specs.Image.{Image, table, records_in, routes_in, image_in}
 use Rattle.image.specs.Read.{width_of, limit_of, children_at, record_form, records_form, children_in, section_at, end_of, children_of, adds, count_form, section_form, end_form, route_layout_at, routes_form, code_layout_of, code_form, layout_of, image_form, read, reading, read_image, read_routes}
-use Rattle.image.specs.declared.form.Kind.{Kind}
-use Rattle.image.specs.declared.form.Kind.TheVariants.{Instructions, Cases, Sources, Edges, Handlers, Routes, Paths, Steps}
-use Rattle.image.specs.declared.scan.Sum.{Sum}
-use Rattle.image.specs.declared.scan.Sum.TheVariants.{Free, Exactly}
+use Rattle.image.specs.Kind.{Kind, Instructions, Cases, Sources, Edges, Handlers, Routes, Paths, Steps}
 use Rattle.image.proofs.Checks.{then_left, then_right, unless_clear, checks_each, field_clear}
 use Rattle.image.proofs.Sections.{count-within}
 use Rattle.graph.proofs.FoldLaws.{table_same}
 use Rattle.text.specs.Chart.{route_bytes}
+
+pub limit_most : (k : Kind) → limit_of k ≤ 512
+limit_most Instructions = omega arith
+limit_most Cases = omega arith
+limit_most Sources = omega arith
+limit_most Edges = omega arith
+limit_most Handlers = omega arith
+limit_most Routes = omega arith
+limit_most Paths = omega arith
+limit_most Steps = omega arith
 
 then_both : (a c : Check) → a ≡ clear → c ≡ clear → (a then c) ≡ clear
 then_both a c x y = rw x y
@@ -138,7 +147,7 @@ module _ (l : List ℕ) (b : ℕ) where
     of_same : children_of k behind (section_at k behind j) ≡ children_of k l (section_at k l p)
     of_same = rw count_same (in_same k (p + 4) (j + 4) count (omega arith))
 
-    pub section_shift : Shifts k → (used : Bool) (sum sum' : Sum) → sum' ≡ sum → section_form k l p used sum ≡ clear → section_form k behind j true sum' ≡ clear
+    pub section_shift : Shifts k → (used : Bool) (sum sum' : Option ℕ) → sum' ≡ sum → section_form k l p used sum ≡ clear → section_form k behind j true sum' ≡ clear
     section_shift shifts used sum sum' same h =
         let counted = then_left (count_form k l p used sum) (records_form k l (p + 4) count) h in
         let first = used4 l p used in
@@ -189,15 +198,15 @@ module _ (l : List ℕ) (b : ℕ) where
   pub routes_shift : (used : Bool) → routes_form l b used ≡ clear → routes_form behind 0 true ≡ clear
   unfolding routes_form
   routes_shift used h =
-      let routes = section_form Routes l b used Free in
-      let paths = section_form Paths l paths_at_law used (Exactly (children_of Routes l (section_at Routes l b))) in
-      let steps = section_form Steps l steps_at used (Exactly (children_of Paths l (section_at Paths l paths_at_law))) in
+      let routes = section_form Routes l b used None in
+      let paths = section_form Paths l paths_at_law used (Some (children_of Routes l (section_at Routes l b))) in
+      let steps = section_form Steps l steps_at used (Some (children_of Paths l (section_at Paths l paths_at_law))) in
       let pair = then_left (routes then paths) steps h in
       then_both _ _
       (then_both _ _
-      (section_shift Routes b 0 start route_shift used Free Free refl (then_left routes paths pair))
-      (section_shift Paths paths_at_law paths_in paths_there path_shift used _ _ (ap Exactly (of_same Routes b 0 start)) (then_right routes paths pair)))
-      (section_shift Steps steps_at steps_in_law steps_there step_shift used _ _ (ap Exactly (of_same Paths paths_at_law paths_in paths_there)) (then_right (routes then paths) steps h))
+      (section_shift Routes b 0 start route_shift used None None refl (then_left routes paths pair))
+      (section_shift Paths paths_at_law paths_in paths_there path_shift used _ _ (ap Some (of_same Routes b 0 start)) (then_right routes paths pair)))
+      (section_shift Steps steps_at steps_in_law steps_there step_shift used _ _ (ap Some (of_same Paths paths_at_law paths_in paths_there)) (then_right (routes then paths) steps h))
 
   pub layout_same : routes_in behind (route_layout_at behind 0) ≡ routes_in l (route_layout_at l b)
   unfolding route_layout_at

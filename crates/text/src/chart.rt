@@ -9,8 +9,8 @@ use crate::field::Field;
 use crate::lines::{
     block_line, built_line, call_line, edge_line, handler_line, region_line, unresolved_line,
 };
-use crate::put::{put_end, put_field, put_word};
-use crate::refusal::numbers_of;
+use crate::put::put_line;
+use crate::refusal::Numbers;
 use graph::error::AddressBuildError;
 use graph::store::Words;
 use graph::store::blocks::block_count;
@@ -21,51 +21,41 @@ use graph::store::regions::region_count;
 use graph::store::unresolved::unresolved_count;
 
 // How many lines a graph has.
+#[tactic(auto, using(crate::proofs::LineLaws::lines_length, crate::proofs::LineLaws::records_few))]
 pub fn line_count(g: &Words) -> usize
     ensures { result ≡ length (graph_lines (held_in g.now).graph) }
 {
-    let blocks = block_count(g);
-    let edges = edge_count(g);
-    let regions = region_count(g);
-    let handlers = handler_count(g);
-    let unresolved = unresolved_count(g);
-    let calls = call_count(g);
-    1 + blocks + edges + regions + handlers + unresolved + calls
+    1 + block_count(g)
+        + edge_count(g)
+        + region_count(g)
+        + handler_count(g)
+        + unresolved_count(g)
+        + call_count(g)
 }
 
-// Line k of a graph, counted through the kinds; past the last there is none.
+// Line k of a graph: what is left of k behind the lines of a kind is a line from the next kind on. Past the last there is none.
+#[tactic(auto, using(crate::proofs::LineLaws::lines))]
 pub fn line_at(g: &Words, k: usize, out: &mut [u8; 256]) -> usize
     ensures { Told (get_or (graph_lines (held_in g.now).graph) k []) out.old out.new result }
 {
-    if k == 0 {
+    let Some(b) = k.checked_sub(1) else {
         return built_line(g, out);
-    }
-    let b = k - 1;
-    let blocks = block_count(g);
-    if b < blocks {
+    };
+    let Some(e) = b.checked_sub(block_count(g)) else {
         return block_line(g, b, out);
-    }
-    let e = b - blocks;
-    let edges = edge_count(g);
-    if e < edges {
+    };
+    let Some(r) = e.checked_sub(edge_count(g)) else {
         return edge_line(g, e, out);
-    }
-    let r = e - edges;
-    let regions = region_count(g);
-    if r < regions {
+    };
+    let Some(h) = r.checked_sub(region_count(g)) else {
         return region_line(g, r, out);
-    }
-    let h = r - regions;
-    let handlers = handler_count(g);
-    if h < handlers {
+    };
+    let Some(u) = h.checked_sub(handler_count(g)) else {
         return handler_line(g, h, out);
-    }
-    let u = h - handlers;
-    let unresolved = unresolved_count(g);
-    if u < unresolved {
+    };
+    let Some(c) = u.checked_sub(unresolved_count(g)) else {
         return unresolved_line(g, u, out);
-    }
-    let c = u - unresolved;
+    };
     if c < call_count(g) {
         return call_line(g, c, out);
     }
@@ -73,22 +63,23 @@ pub fn line_at(g: &Words, k: usize, out: &mut [u8; 256]) -> usize
 }
 
 // How many blocks are reached.
+#[tactic(auto, unfolding(crate::specs::Line::bytes, crate::specs::Chart::reached_line))]
 pub fn reached_line(n: usize, out: &mut [u8; 256]) -> usize
     ensures { Told (reached_line n) out.old out.new result }
 {
-    let at = put_word(out, b"reached");
-    let at = put_field(out, at, Field::Number(n as u64));
-    put_end(out, at)
+    put_line(out, b"reached", &[Field::Number(n as u64)])
 }
 
 // A refusal by its three numbers.
+#[tactic(auto, unfolding(crate::specs::Line::bytes, crate::specs::Chart::refused_line))]
 pub fn refused_line(e: AddressBuildError, out: &mut [u8; 256]) -> usize
     ensures { Told (refused_line (refusal_of e)) out.old out.new result }
 {
-    let r = numbers_of(e);
-    let at = put_word(out, b"refused");
-    let at = put_field(out, at, Field::Number(r.number));
-    let at = put_field(out, at, Field::Number(r.first));
-    let at = put_field(out, at, Field::Number(r.second));
-    put_end(out, at)
+    let r = Numbers::from(e);
+    let fields = [
+        Field::Number(r.number),
+        Field::Number(r.first),
+        Field::Number(r.second),
+    ];
+    put_line(out, b"refused", &fields)
 }

@@ -3,7 +3,7 @@ ghost use Rattle.std.specs.Prelude.{◌≡◌};
 ghost use Rattle.text.specs.Line.{present_if};
 
 // A number, the way out of the function, or what is absent.
-#[derive(Clone, Copy)]
+#[derive(Clone, Copy, Debug, PartialEq, Eq, Hash)]
 pub enum Field {
     Number(u64),
     Leave,
@@ -14,7 +14,8 @@ pub fn present_if(present: bool, n: u64) -> Field
     ensures { result ≡ present_if present n }
 {
     if present {
-        return Field::Number(n);
+        Field::Number(n)
+    } else {
+        Field::Absent
     }
-    Field::Absent
 }

@@ -11,7 +11,6 @@ ghost use Rattle.text.specs.Chart.{end_field, tag_fields};
 ghost use Rattle.text.specs.HopText.{hop_in, told_at};
 
 use crate::field::Field;
-use crate::least::least;
 use crate::put::{put_end, put_field, put_word};
 use image::access::step_at;
 use image::section::RouteLayout;
@@ -23,6 +22,7 @@ pub type HopText = [u8; 10816];
 const TAGS: u64 = 512;
 
 // How many lists hop i has. Past the last hop there is none.
+#[tactic(auto, using(crate::proofs::HopTextLaws::counted))]
 pub fn lists_of(h: &Hops, i: usize) -> usize
     ensures { (m : RouteImage) → result ≡ length (hop_in (hops_in m h.now) i).calls }
 {
@@ -31,10 +31,7 @@ pub fn lists_of(h: &Hops, i: usize) -> usize
     }
     let x = hop_at(h, i);
     let all = list_count(h) as u64;
-    if all <= x.first {
-        return 0;
-    }
-    least(x.lists, all - x.first) as usize
+    x.lists.min(all.saturating_sub(x.first)) as usize
 }
 
 // List k of hop i, over the routes that were read. Past the last list there is no line.
@@ -54,31 +51,37 @@ pub fn hop_line(h: &Hops, s: &[u8], y: RouteLayout, i: usize, k: usize, out: &mu
 }
 
 // Where a hop goes: to a block, or out of the function.
+#[tactic(auto, unfolding(unwind::specs::HopWords::end_from, crate::specs::Chart::end_field))]
 fn end_field(x: HopRow) -> Field
     ensures { result ≡ end_field (end_from x) }
 {
     if x.has_end == 0 {
-        return Field::Leave;
+        Field::Leave
+    } else {
+        Field::Number(x.end)
     }
-    Field::Number(x.end)
 }
 
 // The tags of a list, or that there are none.
+#[tactic(auto, using(crate::proofs::HopTextLaws::listed))]
 fn put_tags(out: &mut [u8], at: usize, s: &[u8], y: RouteLayout, t: ListRow) -> usize
     requires { at + 10752 ≤ length out.old }
-    ensures { Puts (fields (tag_fields (take 512 (tags_from (routes_in s.now y) t)))) out.old at out.new result × (result ≤ at + 10752) }
+    ensures put { Puts (fields (tag_fields (take 512 (tags_from (routes_in s.now y) t)))) out.old at out.new result }
+    ensures near { result ≤ at + 10752 }
 {
-    let n = least(t.calls, TAGS) as usize;
+    let n = t.calls.min(TAGS) as usize;
     if n == 0 {
         return put_field(out, at, Field::Absent);
     }
     put_each(out, at, s, y, t.step, n)
 }
 
-// The tags of the n steps from `step` on.
+// The tags of the n steps from `step` on: steps are read from the bytes, so there is no slice to go over.
 fn put_each(out: &mut [u8], at: usize, s: &[u8], y: RouteLayout, step: u64, n: usize) -> usize
-    requires { (n ≤ 512) × (at + 21 * n ≤ length out.old) }
-    ensures { Puts (fields (map Number (tags_in (routes_in s.now y) step n))) out.old at out.new result × (result ≤ at + 21 * n) }
+    requires few { n ≤ 512 }
+    requires room { at + 21 * n ≤ length out.old }
+    ensures put { Puts (fields (map Number (tags_in (routes_in s.now y) step n))) out.old at out.new result }
+    ensures near { result ≤ at + 21 * n }
 {
     let mut next = at;
     for j in 0..n {
@@ -89,13 +92,13 @@ fn put_each(out: &mut [u8], at: usize, s: &[u8], y: RouteLayout, step: u64, n: u
 }
 
 // The tag of step `step + j`, 0 past the last one.
+#[tactic(auto, using(crate::proofs::HopTextLaws::no_step))]
 fn tag_at(s: &[u8], y: RouteLayout, step: u64, j: usize) -> u64
     requires { j < 512 }
     ensures { result ≡ (step_in (routes_in s.now y) (step + j)).value }
 {
     let steps = y.steps;
-    let count = steps.count as u64;
-    if count <= step {
+    if steps.count as u64 <= step {
         return 0;
     }
     step_at(s, steps, step as usize + j).value

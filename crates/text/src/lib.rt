@@ -4,7 +4,6 @@
 pub mod chart;
 pub mod field;
 pub mod hops;
-mod least;
 pub mod lines;
 mod put;
 pub mod refusal;

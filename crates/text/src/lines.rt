@@ -5,7 +5,7 @@ ghost use Rattle.text.specs.Put.{Told};
 ghost use Rattle.text.specs.Chart.{built_line, block_line, edge_line, region_line, handler_line, computes, unresolved_line, call_line};
 
 use crate::field::{Field, present_if};
-use crate::put::{put_end, put_field, put_word};
+use crate::put::put_line;
 use graph::store::Words;
 use graph::store::blocks::{block_at, block_count};
 use graph::store::calls::{call_at, call_count};
@@ -15,6 +15,8 @@ use graph::store::regions::{region_at, region_count};
 use graph::store::table::table_at;
 use graph::store::unresolved::{unresolved_at, unresolved_count};
 
+// Kinds and roles stand in a graph's words as numbers, and any number may: so they stay numbers here.
+//
 // The kind of a handler that has a filter block.
 const FILTER: u64 = 4;
 
@@ -30,116 +32,116 @@ const SWITCH_CASE: u64 = 6;
 const TRAP: u64 = 9;
 
 // How many records there are.
+#[tactic(auto, unfolding(crate::specs::Line::bytes, crate::specs::Chart::built_line))]
 pub fn built_line(g: &Words, out: &mut [u8; 256]) -> usize
     ensures { Told (built_line (held_in g.now).graph) out.old out.new result }
 {
-    let blocks = block_count(g);
-    let edges = edge_count(g);
-    let regions = region_count(g);
-    let unresolved = unresolved_count(g);
-    let calls = call_count(g);
-    let at = put_word(out, b"built");
-    let at = put_field(out, at, Field::Number(blocks as u64));
-    let at = put_field(out, at, Field::Number(edges as u64));
-    let at = put_field(out, at, Field::Number(regions as u64));
-    let at = put_field(out, at, Field::Number(unresolved as u64));
-    let at = put_field(out, at, Field::Number(calls as u64));
-    put_end(out, at)
+    let counts = [
+        Field::Number(block_count(g) as u64),
+        Field::Number(edge_count(g) as u64),
+        Field::Number(region_count(g) as u64),
+        Field::Number(unresolved_count(g) as u64),
+        Field::Number(call_count(g) as u64),
+    ];
+    put_line(out, b"built", &counts)
 }
 
 // Block k. An empty one has no first address.
+#[tactic(auto, unfolding(crate::specs::Line::bytes, crate::specs::Chart::block_line))]
 pub fn block_line(g: &Words, k: usize, out: &mut [u8; 256]) -> usize
     ensures { Told (block_line (held_in g.now).graph k) out.old out.new result }
 {
     let b = block_at(g, k);
     let first = table_at(g, b.first as usize);
-    let address = present_if(b.count != 0, first.address);
-    let at = put_word(out, b"block");
-    let at = put_field(out, at, Field::Number(k as u64));
-    let at = put_field(out, at, address);
-    let at = put_field(out, at, Field::Number(b.count));
-    put_end(out, at)
+    let fields = [
+        Field::Number(k as u64),
+        present_if(b.count != 0, first.address),
+        Field::Number(b.count),
+    ];
+    put_line(out, b"block", &fields)
 }
 
 // Edge k.
+#[tactic(auto, unfolding(crate::specs::Line::bytes, crate::specs::Chart::edge_line))]
 pub fn edge_line(g: &Words, k: usize, out: &mut [u8; 256]) -> usize
     ensures { Told (edge_line (held_in g.now).graph k) out.old out.new result }
 {
     let e = edge_at(g, k);
-    let at = put_word(out, b"edge");
-    let at = put_field(out, at, Field::Number(k as u64));
-    let at = put_field(out, at, Field::Number(e.source));
-    let at = put_field(out, at, Field::Number(e.target));
-    let at = put_field(out, at, Field::Number(e.kind));
-    let at = put_field(out, at, Field::Number(e.role));
-    let at = put_field(out, at, Field::Number(e.number));
-    put_end(out, at)
+    let fields = [
+        Field::Number(k as u64),
+        Field::Number(e.source),
+        Field::Number(e.target),
+        Field::Number(e.kind),
+        Field::Number(e.role),
+        Field::Number(e.number),
+    ];
+    put_line(out, b"edge", &fields)
 }
 
 // Region k.
+#[tactic(auto, unfolding(crate::specs::Line::bytes, crate::specs::Chart::region_line))]
 pub fn region_line(g: &Words, k: usize, out: &mut [u8; 256]) -> usize
     ensures { Told (region_line (held_in g.now).graph k) out.old out.new result }
 {
     let r = region_at(g, k);
-    let parent = present_if(r.has_parent != 0, r.parent);
-    let at = put_word(out, b"region");
-    let at = put_field(out, at, Field::Number(k as u64));
-    let at = put_field(out, at, parent);
-    let at = put_field(out, at, Field::Number(r.start));
-    let at = put_field(out, at, Field::Number(r.end));
-    put_end(out, at)
+    let fields = [
+        Field::Number(k as u64),
+        present_if(r.has_parent != 0, r.parent),
+        Field::Number(r.start),
+        Field::Number(r.end),
+    ];
+    put_line(out, b"region", &fields)
 }
 
 // The handler with input index k.
+#[tactic(auto, unfolding(crate::specs::Line::bytes, crate::specs::Chart::handler_line))]
 pub fn handler_line(g: &Words, k: usize, out: &mut [u8; 256]) -> usize
     ensures { Told (handler_line (held_in g.now).graph k) out.old out.new result }
 {
     let h = handler_at(g, k);
-    let filter = present_if(h.kind == FILTER, h.filter);
-    let at = put_word(out, b"handler");
-    let at = put_field(out, at, Field::Number(k as u64));
-    let at = put_field(out, at, Field::Number(h.region));
-    let at = put_field(out, at, Field::Number(h.place));
-    let at = put_field(out, at, Field::Number(h.entry));
-    let at = put_field(out, at, Field::Number(h.kind));
-    let at = put_field(out, at, filter);
-    put_end(out, at)
+    let fields = [
+        Field::Number(k as u64),
+        Field::Number(h.region),
+        Field::Number(h.place),
+        Field::Number(h.entry),
+        Field::Number(h.kind),
+        present_if(h.kind == FILTER, h.filter),
+    ];
+    put_line(out, b"handler", &fields)
 }
 
 // Unresolved record k.
+#[tactic(auto, unfolding(crate::specs::Line::bytes, crate::specs::Chart::unresolved_line))]
 pub fn unresolved_line(g: &Words, k: usize, out: &mut [u8; 256]) -> usize
     ensures { Told (unresolved_line (held_in g.now).graph k) out.old out.new result }
 {
     let u = unresolved_at(g, k);
-    let target = present_if(!is_computed(u.role), u.target);
-    let case_index = present_if(u.role == SWITCH_CASE, u.case_index);
-    let at = put_word(out, b"unresolved");
-    let at = put_field(out, at, Field::Number(u.source));
-    let at = put_field(out, at, target);
-    let at = put_field(out, at, Field::Number(u.role));
-    let at = put_field(out, at, case_index);
-    put_end(out, at)
+    let fields = [
+        Field::Number(u.source),
+        present_if(!is_computed(u.role), u.target),
+        Field::Number(u.role),
+        present_if(u.role == SWITCH_CASE, u.case_index),
+    ];
+    put_line(out, b"unresolved", &fields)
 }
 
 // Flattened call k.
+#[tactic(auto, unfolding(crate::specs::Line::bytes, crate::specs::Chart::call_line))]
 pub fn call_line(g: &Words, k: usize, out: &mut [u8; 256]) -> usize
     ensures { Told (call_line (held_in g.now).graph k) out.old out.new result }
 {
     let c = call_at(g, k);
-    let target = present_if(c.has_target != 0, c.target);
-    let at = put_word(out, b"call");
-    let at = put_field(out, at, Field::Number(c.source));
-    let at = put_field(out, at, target);
-    put_end(out, at)
+    let fields = [
+        Field::Number(c.source),
+        present_if(c.has_target != 0, c.target),
+    ];
+    put_line(out, b"call", &fields)
 }
 
 // Whether an unresolved role is that of a computed transfer, which has no target.
+#[tactic(auto, unfolding(crate::specs::Chart::computes))]
 fn is_computed(role: u64) -> bool
     ensures { result ≡ computes role }
 {
-    let jump = role == INDIRECT;
-    let call = role == INDIRECT_CALL;
-    let branch = role == CONDITIONAL_INDIRECT;
-    let trap = role == TRAP;
-    jump | call | branch | trap
+    matches!(role, INDIRECT | INDIRECT_CALL | CONDITIONAL_INDIRECT | TRAP)
 }

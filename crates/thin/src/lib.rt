@@ -10,9 +10,9 @@ ghost use Rattle.addition.specs.Add.{add_routes};
 ghost use Rattle.unwind.specs.Answers.{add_answer, AddLeaves, Graphed, Spells};
 ghost use Rattle.unwind.specs.HopWords.{hop_at, rows_in, with_hop_if_room, HopsStored};
 
+use graph::error::AddressBuildError;
 use graph::record::Edge;
 use graph::store::Words;
-use unwind::add::AddedRoutes;
 use unwind::hops::{HopRow, Hops};
 
 #[derive(Drop)]
@@ -54,8 +54,11 @@ pub fn hop_at(h: &HopList, i: usize) -> HopRow
 }
 
 // To a graph that any words hold, and routes that any bytes hold: the edges and copies that they want, and their hops.
-pub fn add_unwind_routes(g: &mut Graph, s: &[u8], h: &mut HopList) -> AddedRoutes
-    ensures { (add_answer s.now g.new.words h.new.words result ≡ add_routes (held_in g.old.words) s.now) × AddLeaves g.old.words g.new.words h.old.words h.new.words result × Spells s.now g.old.words g.new.words h.new.words result × Graphed g.new.words result }
+pub fn add_unwind_routes(g: &mut Graph, s: &[u8], h: &mut HopList) -> Result<(), AddressBuildError>
+    ensures answer { add_answer s.now g.new.words h.new.words result ≡ add_routes (held_in g.old.words) s.now }
+    ensures leaves { AddLeaves g.old.words g.new.words h.old.words h.new.words result }
+    ensures spells { Spells s.now g.old.words g.new.words h.new.words result }
+    ensures graphed { Graphed g.new.words result }
 {
     unwind::add::add_unwind_routes(&mut g.words, s, &mut h.words)
 }

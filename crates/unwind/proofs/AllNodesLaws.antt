@@ -1,16 +1,14 @@
 -- The hops of all copies, stored node by node.
---     node_fit                     room for those of a node is room for those of its copies
---     node_held, node_skipped      those of a node's copies, if it has any
---     nodes_start                  those of no node yet
+--     behind-same, behind_next     the number behind the copies of one node more
+--     hops_none, hops_some         those of a node's copies, if it has any
 --     behind_is, nodes_rise        nodes that are placed: the copies of each come where its base says
---     fit_stood, fit_others        room for all hops
---     all_rise, all_laid           all nodes, and all hops: emptied, then stored
+--     both_are, all_rise           all hops, and all nodes
+--     emptied_laid                 hops that are emptied, and then stored
 -- Assumes nothing.
-use mathlib.Core.Path.{◌≡◌, refl, sym, ap, ◌∙◌, subst}
+use mathlib.Core.Path.{◌≡◌, refl, sym, ap, ◌∙◌}
 use mathlib.Core.Bool.{Bool, true, false, cond}
-use mathlib.Core.List.{List, [], ◌++◌, append-nil}
+use mathlib.Core.List.{List, [], ◌++◌}
 use Prim.Native.Nat.{ℕ, zero, suc, ◌+◌, ◌≤◌, ◌<◌}
-use native.Mathlib.Numerals.{add-one}
 use native.Mathlib.Omega.{arith}
 use borrow.Author.Tests.{eq-eqb, ne_eqb}
 use lib.ListN.{length, get_or}
@@ -28,23 +26,22 @@ use Rattle.addition.specs.Ways.{Hop, ways, hops_of}
 use Rattle.unwind.specs.Gather.{in_set}
 use Rattle.unwind.specs.Lent.{Leads, Sides, PartsIn, block_hops}
 use Rattle.unwind.specs.Copies.{copy_number, copy_hops, node_hops, Bounded}
-use Rattle.unwind.specs.HopWords.{hops_in, HopsHeld, HopsFit, HopsBelow, HopsEmptied, HopsLaid}
+use Rattle.unwind.specs.HopWords.{HopsHeld, HopsEmptied, HopsLaid}
 use Rattle.unwind.specs.AllNodes.{behind_nodes, NodeRises, NodesRise}
 use Rattle.addition.proofs.Lists.{keep_mem, mem_among, among_mem, flat-suc, flat_le}
 use Rattle.addition.proofs.Instance.{copied_later, from_above}
 use Rattle.unwind.proofs.LentLaws.{count_is}
 use Rattle.unwind.proofs.AllHops.{copy_number_law, part_is}
 use Rattle.unwind.proofs.CopiesAre.{total_hops}
-use Rattle.unwind.proofs.HeldLaws.{held_up, held_then, fit_front}
 
 -- ---- the hops of one node
 
 module _ (bases parts : List ℕ) (blocks i : ℕ) where
-  behind-same : get_or bases i 0 ≡ 0 → behind_nodes bases parts blocks (suc i) ≡ behind_nodes bases parts blocks i
+  pub behind-same : get_or bases i 0 ≡ 0 → behind_nodes bases parts blocks (suc i) ≡ behind_nodes bases parts blocks i
   unfolding behind_nodes
   behind-same e = rw (eq-eqb (get_or bases i 0) 0 e)
 
-  behind_next : (first : ℕ) → first ≡ get_or bases i 0 → (first ≡ 0 → ⊥) → behind_nodes bases parts blocks (suc i) ≡ copy_number parts i first blocks
+  pub behind_next : (first : ℕ) → first ≡ get_or bases i 0 → (first ≡ 0 → ⊥) → behind_nodes bases parts blocks (suc i) ≡ copy_number parts i first blocks
   unfolding behind_nodes
   behind_next first e n = rw (sym e, ne_eqb first 0 n)
 
@@ -52,7 +49,7 @@ module _ (m : RouteImage) (nodes edges ends heads landings bases parts returns :
   abbrev here : List Hop
   here = node_hops m nodes edges ends heads landings bases parts returns blocks i
 
-  hops_none : get_or bases i 0 ≡ 0 → here ≡ []
+  pub hops_none : get_or bases i 0 ≡ 0 → here ≡ []
   unfolding node_hops
   hops_none e = rw (eq-eqb (get_or bases i 0) 0 e)
 
@@ -60,26 +57,9 @@ module _ (m : RouteImage) (nodes edges ends heads landings bases parts returns :
     abbrev own : List Hop
     own = flat (copy_hops m nodes edges ends heads landings parts returns i first) blocks
 
-    hops_some : here ≡ own
+    pub hops_some : here ≡ own
     unfolding node_hops
     hops_some = rw (sym is, ne_eqb first 0 copies)
-
-    pub node_fit : (hs : List Hop) → HopsFit (hs ++ here) → HopsFit (hs ++ own)
-    node_fit hs f = subst (λ (t : List Hop). HopsFit (hs ++ t)) hops_some f
-
-    pub node_held : (hs : List Hop) {l l' : List ℕ} → HopsHeld m (copy_number parts i first blocks) l l' (hs ++ own) → HopsHeld m (behind_nodes bases parts blocks (i + 1)) l l' (hs ++ here)
-    node_held hs {l} {l'} p =
-        let at : copy_number parts i first blocks ≡ behind_nodes bases parts blocks (i + 1) = sym (ap (behind_nodes bases parts blocks) (add-one i) ∙ behind_next bases parts blocks i first is copies) in
-        held_up (behind_nodes bases parts blocks (i + 1)) (subst (λ (t : List Hop). HopsHeld m (copy_number parts i first blocks) l l' (hs ++ t)) (sym hops_some) p) (omega (arith, at))
-
-  pub node_skipped : (hs : List Hop) {l l' : List ℕ} → get_or bases i 0 ≡ 0 → HopsHeld m (behind_nodes bases parts blocks i) l l' hs → HopsHeld m (behind_nodes bases parts blocks (i + 1)) l l' (hs ++ here)
-  node_skipped hs {l} {l'} e p =
-      let at : behind_nodes bases parts blocks (i + 1) ≡ behind_nodes bases parts blocks i = ap (behind_nodes bases parts blocks) (add-one i) ∙ behind-same bases parts blocks i e in
-      held_up (behind_nodes bases parts blocks (i + 1)) (subst (HopsHeld m (behind_nodes bases parts blocks i) l l') (sym (ap (λ (t : List Hop). hs ++ t) (hops_none e) ∙ append-nil hs)) p) (omega (arith, at))
-
-pub nodes_start : (m : RouteImage) (bases parts : List ℕ) (blocks : ℕ) (f : ℕ → List Hop) (l : List ℕ) → HopsBelow m blocks l → HopsHeld m (behind_nodes bases parts blocks 0) l l (hops_in m l ++ flat f 0)
-unfolding behind_nodes flat
-nodes_start m bases parts blocks f l p = subst (HopsHeld m blocks l l) (sym (append-nil (hops_in m l))) p
 
 -- ---- nodes that are placed
 
@@ -156,30 +136,12 @@ module _ (g : Graph) (m : RouteImage) (guards bases parts returns : List ℕ) (c
 
 -- ---- all
 
-emptied_laid : {m : RouteImage} {d : ℕ} {l l₁ l₂ : List ℕ} {hs : List Hop} → HopsEmptied l l₁ → HopsHeld m d l₁ l₂ hs → HopsLaid m l l₂ hs
-emptied_laid e p = record { holds = p.holds; kept = λ k u. p.kept k u ∙ e.kept k (p.uses k u) }
-
 module _ (g : Graph) (m : RouteImage) (nodes edges ends roots heads landings guards bases parts returns : List ℕ) (c : Counts) (t : TriesIn m nodes edges ends roots c) (s : Leads g m ends heads landings c) (k : Sides g m guards bases returns c) (q : PartsIn g m parts c) (b : Bounded g (routes_of m)) (n : ℕ) (is : n ≡ length g.blocks) where
-  abbrev stood : List Hop
-  stood = flat (block_hops m nodes edges ends heads landings roots guards bases returns c) n
-
-  abbrev others : List Hop
-  others = flat (node_hops m nodes edges ends heads landings bases parts returns n) c.nodes
-
-  abbrev all_hops : List Hop
-  all_hops = hops_of (ways g (routes_of m))
-
-  both_are : stood ++ others ≡ all_hops
+  pub both_are : flat (block_hops m nodes edges ends heads landings roots guards bases returns c) n ++ flat (node_hops m nodes edges ends heads landings bases parts returns n) c.nodes ≡ hops_of (ways g (routes_of m))
   both_are = rw is (total_hops g m nodes edges ends roots heads landings guards bases parts returns c t s k q (omega (arith, b.few)) b.some)
-
-  pub fit_stood : HopsFit all_hops → HopsFit stood
-  fit_stood f = fit_front stood others (subst HopsFit (sym both_are) f)
-
-  pub fit_others : {hs : List Hop} → hs ≡ stood → HopsFit all_hops → HopsFit (hs ++ others)
-  fit_others e f = subst (λ (hs : List Hop). HopsFit (hs ++ others)) (sym e) (subst HopsFit (sym both_are) f)
 
   pub all_rise : NodesRise bases parts returns n c.nodes
   all_rise = nodes_rise g m guards bases parts returns c k q b.some (omega (arith, count_is g m nodes edges ends roots heads landings guards bases returns c t s)) b.few n is
 
-  pub all_laid : {d : ℕ} {l l₁ l₃ : List ℕ} (l₂ : List ℕ) → HopsEmptied l l₁ → HopsHeld m n l₁ l₂ stood → HopsHeld m d l₂ l₃ (hops_in m l₂ ++ others) → HopsLaid m l l₃ all_hops
-  all_laid {l = l} {l₃ = l₃} l₂ e x y = subst (HopsLaid m l l₃) both_are (emptied_laid e (held_then m l₂ stood others x y))
+pub emptied_laid : {m : RouteImage} {d : ℕ} {l l₁ l₂ : List ℕ} {hs : List Hop} → HopsEmptied l l₁ → HopsHeld m d l₁ l₂ hs → HopsLaid m l l₂ hs
+emptied_laid e p = record { holds = p.holds; kept = λ k u. p.kept k u ∙ e.kept k (p.uses k u) }

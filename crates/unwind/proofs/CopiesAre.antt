@@ -1,7 +1,7 @@
 -- The hops that are counted of a node's copies are those that leave them.
 --     copy_is                      those of one copy
 --     copies_are                   those of all copies of a node
---     total_hops, counted_all      all that is counted are the hops of all ways
+--     total_hops                   those of all blocks and copies are the hops of all ways
 use mathlib.Core.Path.{◌≡◌, refl, sym, ◌∙◌, ap}
 use mathlib.Core.Logic.{◌⊎◌, inl, inr}
 use mathlib.Core.Bool.{Bool, true, false, cond, false≢true}
@@ -16,7 +16,6 @@ use Rattle.image.specs.Deal.{routes_of}
 use Rattle.graph.specs.Graph.{Graph}
 use Rattle.graph.specs.Fold.{flat, among}
 use Rattle.graph.proofs.FoldLaws.{flat-same, decided}
-use Rattle.unwind.specs.declared.emit.count.Sizes.{Sizes}
 use Rattle.unwind.specs.declared.tries.store.Counts.{Counts}
 use Rattle.addition.specs.Lists.{keep, upto}
 use Rattle.addition.specs.Order.{sorted}
@@ -29,13 +28,11 @@ use Rattle.addition.specs.Ways.{Hop, ways, hops_of}
 use Rattle.unwind.specs.Sources.{Exit, exit, compare_exits, exits_at, hops_on}
 use Rattle.unwind.specs.Gather.{record_exits, in_set}
 use Rattle.unwind.specs.Lent.{Leads, Sides, PartsIn, block_hops}
-use Rattle.unwind.specs.Sizes.{HopsSize, sizes_both}
 use Rattle.unwind.specs.Copies.{copy_number, hops_from, hops_if, copy_hops, node_hops}
 use Rattle.addition.specs.Walk.{◌∈◌}
 use Rattle.addition.proofs.Lists.{mem_keep, keep_mem, mem_among, among_mem}
 use Rattle.addition.proofs.Instance.{copied_later, from_above}
 use Rattle.unwind.proofs.Leaving.{place-below}
-use Rattle.unwind.proofs.SizeLaws.{sizes_both_law}
 use Rattle.unwind.proofs.LentLaws.{count_is, copy_records, standing_hops}
 use Rattle.unwind.proofs.AllHops.{hops_parts, copy_number_law, flat_chosen, part_is, place_is}
 
@@ -130,9 +127,3 @@ module _ (g : Graph) (m : RouteImage) (nodes edges ends roots heads landings gua
         let others = flat-same (node_hops m nodes edges ends heads landings bases parts returns (length g.blocks)) (λ i. flat (λ n. out (base g fs z i + n)) (length (copied g fs z i))) c.nodes node_is
         ∙ ap (flat (λ i. flat (λ n. out (base g fs z i + n)) (length (copied g fs z i)))) (sym (count_is g m nodes edges ends roots heads landings guards bases returns c t s)) in
         (λ i. stood i ++ others i) ∙ sym (hops_parts g (routes_of m))
-
-    pub counted_all : (n : ℕ) {p d : Sizes} → n ≡ length g.blocks → HopsSize (flat (block_hops m nodes edges ends heads landings roots guards bases returns c) n) p → HopsSize (flat (node_hops m nodes edges ends heads landings bases parts returns n) c.nodes) d → HopsSize (hops_of (ways g (routes_of m))) (sizes_both p d)
-    counted_all n {p} {d} e x y =
-        let at : HopsSize (flat (block_hops m nodes edges ends heads landings roots guards bases returns c) (length g.blocks)) p = rw e at x in
-        let beyond : HopsSize (flat (node_hops m nodes edges ends heads landings bases parts returns (length g.blocks)) c.nodes) d = rw e at y in
-        rw (sym total_hops) (sizes_both_law (flat (block_hops m nodes edges ends heads landings roots guards bases returns c) (length g.blocks)) (flat (node_hops m nodes edges ends heads landings bases parts returns (length g.blocks)) c.nodes) p d at beyond)

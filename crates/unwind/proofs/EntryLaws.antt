@@ -1,7 +1,7 @@
 -- Entries of one block in scratch.
---     ends_compare, exits_compare, exits_less, exits_greater, exits_equal     entries are compared as their numbers and tags are
+--     ends_compare, exits_compare     entries are compared as their numbers and tags are
 --     parts_all, parts_left, parts_right     the search for a place
---     table_split, table_front     f 0, f 1, .. in two parts, and the first apart
+--     table_split, table_front, table_inserted     f 0, f 1, .. in two parts, the first apart, and one more among them
 --     table_mem, mem_table         its members
 --     rising_table, table_rising   order by places
 --     put_here, put_there          one that stands, and one that is laid between
@@ -24,8 +24,9 @@ use Rattle.unwind.specs.declared.tries.store.Branch.{Branch}
 use Rattle.addition.specs.Order.{put, placed, sorted, ◌and_then◌, compare_tags}
 use Rattle.unwind.specs.Nodes.{branch_in, tags_in, BranchSmall, BranchPut}
 use Rattle.addition.specs.Ways.{block, leave, compare_hop_ends, compare_leaps}
+use Rattle.unwind.specs.Runs.{Inserted}
 use Rattle.unwind.specs.Sources.{Exit, compare_exits}
-use Rattle.unwind.specs.Entries.{end_in, exit_in, exits_in, Ordered, Parts, EntryPut, Shifted}
+use Rattle.unwind.specs.Entries.{end_in, exit_in, exits_in, Ordered, Parts, EntryPut}
 use Rattle.addition.specs.Walk.{◌∈◌}
 use Rattle.addition.proofs.Lists.{none_in}
 use Rattle.unwind.proofs.TrieOrder.{Total, turned, number_lt, number_gt, number_eq, put-member}
@@ -46,28 +47,6 @@ ends_compare p q h k = go (ℕ_discrete p 65535) (ℕ_discrete q 65535)
 pub exits_compare : (m : RouteImage) (b : ℕ) (x y : Branch) → BranchSmall x → BranchSmall y → compare_exits (exit_in m b x) (exit_in m b y) ≡ compare x.what y.what and_then compare_tags (tags_in m x.step x.calls) (tags_in m y.step y.calls)
 unfolding compare_exits compare_leaps exit_in ◌and_then◌
 exits_compare m b x y p q = rw (number_eq b b refl, ends_compare x.what y.what p.what q.what)
-
-then_less : (o p : Ordering) → o ≡ Ordering.lt → o and_then p ≡ Ordering.lt
-unfolding ◌and_then◌
-then_less o p e = rw e
-
-then_greater : (o p : Ordering) → o ≡ Ordering.gt → o and_then p ≡ Ordering.gt
-unfolding ◌and_then◌
-then_greater o p e = rw e
-
-then_equal : (o p : Ordering) → o ≡ Ordering.eq → o and_then p ≡ p
-unfolding ◌and_then◌
-then_equal o p e = rw e
-
-module _ (m : RouteImage) (b : ℕ) (x y : Branch) (p : BranchSmall x) (q : BranchSmall y) where
-  pub exits_less : compare x.what y.what ≡ Ordering.lt → compare_exits (exit_in m b x) (exit_in m b y) ≡ Ordering.lt
-  exits_less e = exits_compare m b x y p q ∙ then_less (compare x.what y.what) (compare_tags (tags_in m x.step x.calls) (tags_in m y.step y.calls)) e
-
-  pub exits_greater : compare x.what y.what ≡ Ordering.gt → compare_exits (exit_in m b x) (exit_in m b y) ≡ Ordering.gt
-  exits_greater e = exits_compare m b x y p q ∙ then_greater (compare x.what y.what) (compare_tags (tags_in m x.step x.calls) (tags_in m y.step y.calls)) e
-
-  pub exits_equal : compare x.what y.what ≡ Ordering.eq → compare_exits (exit_in m b x) (exit_in m b y) ≡ compare_tags (tags_in m x.step x.calls) (tags_in m y.step y.calls)
-  exits_equal e = exits_compare m b x y p q ∙ then_equal (compare x.what y.what) (compare_tags (tags_in m x.step x.calls) (tags_in m y.step y.calls)) e
 
 -- ---- the search for a place
 
@@ -114,6 +93,21 @@ module _ {A : Type 0} where
   unfolding table
   table_front f zero = refl
   table_front f (suc q) = rw (table_front f q)
+
+  -- one more: x in place p, and those from there on stand one further in f'
+  pub table_inserted : (f f' : ℕ → A) (x : A) (p q : ℕ) → ((j : ℕ) → j < p → f' j ≡ f j) → f' p ≡ x → ((j : ℕ) → p ≤ j → j < p + q → f' (j + 1) ≡ f j) → table f' (p + suc q) ≡ table f p ++ x ∷ table (λ j. f (p + j)) q
+  table_inserted f f' x p q a e b =
+      table_split f' p (suc q)
+      ∙ ap (λ (t : List A). t ++ table (λ j. f' (p + j)) (suc q)) (table_same f' f p a)
+      ∙ ap (λ (t : List A). table f p ++ t) (table_front (λ j. f' (p + j)) q)
+      ∙ ap (λ (t : List A). table f p ++ f' (p + 0) ∷ t) (table_same (λ j. f' (p + suc j)) (λ j. f (p + j)) q next)
+      ∙ ap (λ (y : A). table f p ++ y ∷ table (λ j. f (p + j)) q) here
+    where
+      here : f' (p + 0) ≡ x
+      here = let k : p + 0 ≡ p = omega arith in ap f' k ∙ e
+
+      next : (i : ℕ) → i < q → f' (p + suc i) ≡ f (p + i)
+      next i h = let k : p + suc i ≡ p + i + 1 = omega arith in ap f' k ∙ b (p + i) (omega arith) (omega arith)
 
   pub table_mem : (f : ℕ → A) (n i : ℕ) → i < n → f i ∈ table f n
   unfolding table
@@ -166,21 +160,11 @@ module _ {A : Type 0} (c : A → A → Ordering) where
   -- laid between: those from p on stand one further in f'
   pub put_there : (f f' : ℕ → A) (x : A) (p q : ℕ) → ((j : ℕ) → j < p → c x (f j) ≡ Ordering.gt) → ((j : ℕ) → p ≤ j → j < p + q → c x (f j) ≡ Ordering.lt) → ((j : ℕ) → j < p → f' j ≡ f j) → f' p ≡ x → ((j : ℕ) → p ≤ j → j < p + q → f' (j + 1) ≡ f j) → table f' (p + suc q) ≡ put c x (table f (p + q))
   put_there f f' x p q lo hi a e b =
-      table_split f' p (suc q)
-      ∙ ap (λ (t : List A). t ++ table (λ j. f' (p + j)) (suc q)) (table_same f' f p a)
-      ∙ ap (λ (t : List A). table f p ++ t) (table_front (λ j. f' (p + j)) q)
-      ∙ ap (λ (t : List A). table f p ++ f' (p + 0) ∷ t) (table_same (λ j. f' (p + suc j)) (λ j. f (p + j)) q (λ i h. next i h))
-      ∙ ap (λ (y : A). table f p ++ y ∷ table (λ j. f (p + j)) q) here
+      table_inserted f f' x p q a e b
       ∙ ap (λ (t : List A). table f p ++ t) (sym (before x (table (λ j. f (p + j)) q) (λ y k. rest y (mem_table (λ j. f (p + j)) q k))))
       ∙ sym (past x (table f p) (table (λ j. f (p + j)) q) (λ y k. first y (mem_table f p k)))
       ∙ ap (put c x) (sym (table_split f p q))
     where
-      here : f' (p + 0) ≡ x
-      here = let k : p + 0 ≡ p = omega arith in ap f' k ∙ e
-
-      next : (i : ℕ) → i < q → f' (p + suc i) ≡ f (p + i)
-      next i h = let k : p + suc i ≡ p + i + 1 = omega arith in ap f' k ∙ b (p + i) (omega arith) (omega arith)
-
       first : (y : A) → (i : ℕ) × (i < p) × (y ≡ f i) → c x y ≡ Ordering.gt
       first y r = rw r.2 (lo r.0 r.1)
 
@@ -216,7 +200,7 @@ module _ (m : RouteImage) (l : List ℕ) (n : ℕ) (x : Branch) (o : Ordered m l
           is = λ b. table_same (λ k. exit_in m b (branch_in l' k)) (λ k. exit_in m b (branch_in l k)) n (λ j k. alike b j) ∙ still b p h (e b);
         }
 
-  module _ (p : ℕ) (s : Parts m l n x p p) (l₁ l' : List ℕ) (w : Shifted l p n l₁) (v : BranchPut l₁ p x l') (room : 3 * n + 3 ≤ length l) where
+  module _ (p : ℕ) (s : Parts m l n x p p) (l' : List ℕ) (w : Inserted l p n x l') (room : 3 * n + 3 ≤ length l) where
     laid : (b : ℕ) → exits_in m b l' (n + 1) ≡ put compare_exits (exit_in m b x) (exits_in m b l n)
     unfolding exits_in
     laid b =
@@ -227,9 +211,9 @@ module _ (m : RouteImage) (l : List ℕ) (n : ℕ) (x : Branch) (o : Ordered m l
         ∙ put_there compare_exits (λ k. exit_in m b (branch_in l k)) (λ k. exit_in m b (branch_in l' k)) (exit_in m b x) p (n - p)
         (s.before b)
         (λ j i k. s.behind b j i (omega arith))
-        (λ j k. ap (exit_in m b) (v.others j (λ e. omega arith) ∙ w.before j k))
-        (ap (exit_in m b) v.here)
-        (λ j i k. ap (exit_in m b) (v.others (j + 1) (λ e. omega arith) ∙ w.behind j i (omega arith)))
+        (λ j k. ap (exit_in m b) (w.before j k))
+        (ap (exit_in m b) w.here)
+        (λ j i k. ap (exit_in m b) (w.behind j i (omega arith)))
         ∙ ap (λ (k : ℕ). put compare_exits (exit_in m b x) (table (λ k. exit_in m b (branch_in l k)) k)) (sym q)
 
     rises : (b i j : ℕ) → i < j → j < n + 1 → compare_exits (exit_in m b (branch_in l' i)) (exit_in m b (branch_in l' j)) ≡ Ordering.lt
@@ -239,4 +223,4 @@ module _ (m : RouteImage) (l : List ℕ) (n : ℕ) (x : Branch) (o : Ordered m l
         (rw (laid b) (rising_put compare_exits total_exits (exit_in m b x) (exits_in m b l n) (table_rising compare_exits (λ k. exit_in m b (branch_in l k)) n (o.rises b))))
 
     pub entry_laid : EntryPut m l n x l' (n + 1)
-    entry_laid = record { long = v.long ∙ w.long; most = omega arith; ordered = record { fit = let a = v.long in let c = w.long in omega arith; rises = rises }; is = laid }
+    entry_laid = record { long = w.long; most = omega arith; ordered = record { fit = let a = w.long in omega arith; rises = rises }; is = laid }

@@ -1,5 +1,5 @@
 -- The first node of each funclet, by the table of firsts.
---     slot_is, slot_in_law             the slot of a funclet by its entry, and it is one of the blocks or of the roots
+--     slot_is, slot_here, slot_in_law  the slot of a funclet by its entry, and it is one of the blocks or of the roots
 --     firsts_none                  the table of no node
 --     late_lt, late_none, late_like, firsts_late     a node whose slot has a first, and the table with it
 --     none_yet, firsts_more        a node whose slot has none, and the table with it
@@ -26,16 +26,21 @@ use Rattle.addition.specs.Trie.{same_funclet}
 use Rattle.addition.specs.Instance.{entry_block}
 use Rattle.addition.specs.Add.{funclet_check}
 use Rattle.addition.proofs.Accepted.{lead_begins}
-use Rattle.unwind.specs.Nodes.{funclet_in}
+use Rattle.unwind.specs.Nodes.{record_in, funclet_in}
 use Rattle.unwind.specs.Placed.{funclet_at, like, slot_of, Firsts}
 use Rattle.unwind.proofs.PlaceLaws.{same_eq}
 
 -- ---- slots
 
-pub slot_is : (g : Graph) (m : RouteImage) (f e r : ℕ) → e ≡ entry_block g (funclet_in m f) → (f ≡ 0 → r ≡ 0) → ((f ≡ 0 → ⊥) → r ≡ e + 1) → r ≡ slot_of g (funclet_in m f)
+slot_is : (g : Graph) (m : RouteImage) (f e r : ℕ) → e ≡ entry_block g (funclet_in m f) → (f ≡ 0 → r ≡ 0) → ((f ≡ 0 → ⊥) → r ≡ e + 1) → r ≡ slot_of g (funclet_in m f)
 unfolding slot_of funclet_in entry_block
 slot_is g m zero e r is root named = root refl
 slot_is g m (suc f) e r is root named = named (λ z. absurd (let p : ◌≡◌ {A = ℕ} (suc f) 0 = z in omega arith)) ∙ ap (λ (k : ℕ). k + 1) is
+
+-- the slot of node i, by what is read of it
+pub slot_here : (g : Graph) (m : RouteImage) (nodes : List ℕ) (i : ℕ) {f e s : ℕ} → f ≡ (record_in nodes i).funclet → e ≡ entry_block g (funclet_at m nodes i) → (f ≡ 0 → s ≡ 0) → ((f ≡ 0 → ⊥) → s ≡ e + 1) → s ≡ slot_of g (funclet_at m nodes i)
+slot_here g m nodes i {f} {e} {s} is entry root named =
+    slot_is g m f e s (entry ∙ ap (λ (k : ℕ). entry_block g (funclet_in m k)) (sym is)) root named ∙ ap (λ (k : ℕ). slot_of g (funclet_in m k)) is
 
 pub slot_in_law : (g : Graph) (o : Option ℕ) → funclet_check g o ≡ clear → slot_of g o ≤ length g.blocks
 unfolding slot_of funclet_check

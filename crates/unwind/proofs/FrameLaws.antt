@@ -1,6 +1,5 @@
 -- The scratch of an addition, from its lengths to the instances that stand in it.
 --     all_few, all_small           no routes and no graph has more
---     framed                       a frame for no more than so many, by its lengths
 --     scratched, roomed            its room for the tries, and where they stand
 --     listed                       its stack is room for a list of the nodes
 --     nodes_checked                the checks of the nodes in scratch
@@ -8,10 +7,10 @@
 -- Assumes nothing.
 use mathlib.Core.Path.{◌≡◌, sym, ap, ◌∙◌}
 use mathlib.Core.List.{List}
-use Prim.Native.Nat.{ℕ, ◌+◌, ◌*◌, ◌≤◌, ◌<◌}
+use Prim.Native.Nat.{ℕ, ◌≤◌, ◌<◌}
 use native.Mathlib.Omega.{arith}
 use borrow.Author.Tests.{ltb-true}
-use lib.ListN.{length, replicate}
+use lib.ListN.{length}
 use Rattle.image.specs.Refusal.{Check, clear}
 use Rattle.image.specs.Record.{route_from, path_from, step_from}
 use Rattle.image.specs.Image.{RouteImage, routes_in}
@@ -59,58 +58,20 @@ all_few s y ok =
 pub all_small : (w : List ℕ) → Small (held_in w).graph 1024 4096
 all_small w = record { blocks_few = block_most w; edges_few = edge_most w }
 
--- a frame, by its lengths
-pub framed : {y : RouteLayout} {g : Graph} {starts nodes edges ends stack roots head next bases heads parts guards landings exits : List ℕ} (steps paths routes blocks links : ℕ)
-    → Few y steps paths routes → Small g blocks links → steps ≤ 512 → paths ≤ 128 → routes ≤ 2 * steps → blocks < 6 * (steps + paths)
-    → length starts ≡ paths + 1 → length nodes ≡ 6 * (routes + steps) → length edges ≡ 3 * steps → length ends ≡ 3 * paths → length stack ≡ 3 * steps → length roots ≡ routes
-    → length head ≡ blocks → length next ≡ links → head ≡ replicate (length head) 0
-    → length bases ≡ routes + steps → length heads ≡ routes + steps → length parts ≡ 16 * (routes + steps)
-    → length guards ≡ 16 * routes → length landings ≡ paths → length exits ≡ 6 * (steps + paths) → exits ≡ replicate (length exits) 0
-    → Frame y g starts nodes edges ends stack roots head next bases heads parts guards landings exits
-framed steps paths routes blocks links few small steps_most paths_most routes_most blocks_most starts_long nodes_long edges_long ends_long stack_long roots_long head_long next_long unlinked bases_long heads_long parts_long guards_long landings_long exits_long unplaced =
-    record {
-      steps = steps;
-      paths = paths;
-      routes = routes;
-      blocks = blocks;
-      links = links;
-      few = few;
-      small = small;
-      steps_most = steps_most;
-      paths_most = paths_most;
-      routes_most = routes_most;
-      blocks_most = blocks_most;
-      starts_long = starts_long;
-      nodes_long = nodes_long;
-      edges_long = edges_long;
-      ends_long = ends_long;
-      stack_long = stack_long;
-      roots_long = roots_long;
-      head_long = head_long;
-      next_long = next_long;
-      unlinked = unlinked;
-      bases_long = bases_long;
-      heads_long = heads_long;
-      parts_long = parts_long;
-      guards_long = guards_long;
-      landings_long = landings_long;
-      exits_long = exits_long;
-      unplaced = unplaced;
-    }
-
 module _ (s : List ℕ) (y : RouteLayout) (g : Graph) {starts nodes edges ends stack roots head next bases heads parts guards landings exits : List ℕ} (f : Frame y g starts nodes edges ends stack roots head next bases heads parts guards landings exits) where
   pub scratched : Scratch (routes_in s y) starts nodes edges ends stack roots
   scratched =
       let steps-are = length-records step_from s y.steps in
       let paths-are = length-records path_from s y.paths in
       let routes-are = length-records route_from s y.routes in
+      let z = f.sizes in
       record {
-        starts_fit = omega (arith, f.few.paths_few, f.starts_long);
-        nodes_fit = omega (arith, f.few.steps_few, f.few.routes_few, f.nodes_long);
-        edges_fit = omega (arith, f.few.steps_few, f.edges_long);
-        ends_fit = omega (arith, f.few.paths_few, f.ends_long);
-        stack_fit = omega (arith, f.few.steps_few, f.stack_long);
-        roots_fit = omega (arith, f.few.routes_few, f.roots_long);
+        starts_fit = omega (arith, f.few.paths_few, z.starts_are);
+        nodes_fit = omega (arith, f.few.steps_few, f.few.routes_few, z.nodes_are, z.slots_are);
+        edges_fit = omega (arith, f.few.steps_few, z.edges_are);
+        ends_fit = omega (arith, f.few.paths_few, z.ends_are);
+        stack_fit = omega (arith, f.few.steps_few, f.stack_long, z.edges_are);
+        roots_fit = omega (arith, f.few.routes_few);
       }
 
   -- where the tries stand
@@ -119,24 +80,27 @@ module _ (s : List ℕ) (y : RouteLayout) (g : Graph) {starts nodes edges ends s
       → Room g (routes_in s y) edges' ends' head next bases heads parts guards landings exits c
   roomed t nodes-kept edges-kept ends-kept =
       let routes-are = length-records route_from s y.routes in
+      let z = f.sizes in
       record {
-        links = record { blocks = omega (arith, f.small.blocks_few, f.head_long); edges = omega (arith, f.small.edges_few, f.next_long) };
+        links = record { blocks = f.small.blocks_few; edges = f.small.edges_few };
         unlinked = f.unlinked;
-        slots = record { bases_fit = omega (arith, t.stored.nodes_fit, f.nodes_long, f.bases_long); entries_fit = omega (arith, t.stored.nodes_fit, f.nodes_long, f.heads_long); parts_fit = omega (arith, t.stored.nodes_fit, f.nodes_long, f.parts_long) };
-        guards_fit = omega (arith, f.few.routes_few, f.guards_long);
-        landings_fit = omega (arith, t.stored.ends_fit, f.ends_long, f.landings_long);
-        exits_fit = record { edges_few = omega (arith, f.steps_most, f.edges_long); ends_few = omega (arith, f.paths_most, f.ends_long); room = omega (arith, f.edges_long, f.ends_long, f.exits_long) };
-        firsts_fit = omega (arith, f.small.blocks_few, f.blocks_most, f.exits_long);
+        slots = record { bases_fit = omega (arith, t.stored.nodes_fit, z.nodes_are); entries_fit = omega (arith, t.stored.nodes_fit, z.nodes_are, f.heads_long); parts_fit = omega (arith, t.stored.nodes_fit, z.nodes_are, z.parts_are) };
+        guards_fit = omega (arith, f.few.routes_few, z.guards_are);
+        landings_fit = omega (arith, t.stored.ends_fit, z.ends_are);
+        exits_fit = record { edges_few = omega (arith, z.steps_most, z.edges_are); ends_few = omega (arith, z.paths_most, z.ends_are); room = omega (arith, z.edges_are, z.ends_are, z.exits_are) };
+        firsts_fit = omega (arith, f.small.blocks_few, z.blocks_most);
         unplaced = f.unplaced;
       }
 
   -- the stack, for a list of the nodes
   pub listed : {nodes' edges' ends' roots' : List ℕ} {c : Counts} → TriesIn (routes_in s y) nodes' edges' ends' roots' c → length nodes' ≡ length nodes → c.nodes ≤ length stack
-  listed t nodes-kept = omega (arith, t.stored.nodes_fit, f.nodes_long, f.stack_long, f.routes_most)
+  listed t nodes-kept =
+      let z = f.sizes in
+      omega (arith, t.stored.nodes_fit, z.nodes_are, z.slots_are, f.stack_long, z.edges_are, z.routes_most)
 
 -- ---- what stands
 
-module _ (h : Held) (n : ℕ) (m : RouteImage) (checked : RoutesChecked h n m) (nodes edges ends roots : List ℕ) (c : Counts) where
+module _ {h : Held} {n : ℕ} {m : RouteImage} (checked : RoutesChecked h n m) where
   abbrev g : Graph
   g = h.graph
 
@@ -144,9 +108,9 @@ module _ (h : Held) (n : ℕ) (m : RouteImage) (checked : RoutesChecked h n m) (
   unfolding is_block
   blocks_some s = omega (arith, ltb-true g.entry (length g.blocks) s.ends.entry)
 
-  module _ (t : TriesIn m nodes edges ends roots c) where
-    pub nodes_checked : (k : Check) → ((edges' : List ℕ) → k ≡ checks (λ i. node_check g (node_at (nodes_in m nodes edges' ends c.nodes) i)) c.nodes) → k ≡ checks (λ i. node_check g (node_at (tries (routes_of m)).nodes i)) (length (tries (routes_of m)).nodes)
-    nodes_checked k found =
+  module _ {nodes edges ends roots : List ℕ} {c : Counts} (t : TriesIn m nodes edges ends roots c) where
+    pub nodes_checked : {k : Check} → ((edges' : List ℕ) → k ≡ checks (λ i. node_check g (node_at (nodes_in m nodes edges' ends c.nodes) i)) c.nodes) → k ≡ checks (λ i. node_check g (node_at (tries (routes_of m)).nodes i)) (length (tries (routes_of m)).nodes)
+    nodes_checked found =
         let z : List Node = nodes_in m nodes edges ends c.nodes in
         found edges
         ∙ ap (checks (λ i. node_check g (node_at z i))) (sym (length_nodes m nodes edges ends c.nodes))
@@ -171,7 +135,7 @@ module _ (h : Held) (n : ℕ) (m : RouteImage) (checked : RoutesChecked h n m) (
         }
 
   -- the sets of the blocks from which nodes return
-  module _ {head next bases heads parts guards landings exits : List ℕ} (p : Placements g m nodes edges ends roots head next bases heads parts guards landings exits c) (returners : List ℕ) (returned : Returners g returners) where
+  module _ {nodes edges ends roots head next bases heads parts guards landings exits : List ℕ} {c : Counts} (p : Placements g m nodes edges ends roots head next bases heads parts guards landings exits c) (returners : List ℕ) (returned : Returners g returners) where
     abbrev z : List Node
     z = (tries (routes_of m)).nodes
 

@@ -1,21 +1,15 @@
 -- Hops stored source by source.
 --     held_none                    none yet
 --     held_room, held_more         the entries of one source: room for them, and what holds then
---     held_up                      a higher bound of the sources
 --     fit_front                    room for all is room for the first
---     block_own                    the entries gathered of a block that stood
---     copy_own                     the entries gathered of a copy
---     fit_own, held_own            what they are
---     held_below, held_then        stores behind others
---     step_is, fit_step            one source more behind hops that there were
---     fit_block, held_step, held_quiet     one block more
---     held_on, held_here           stores behind stores, and what stands
+--     block_own, copy_own          the entries gathered of a block that stood, and of a copy
+--     step_is                      one source more behind hops that there were
 -- Assumes nothing.
-use mathlib.Core.Path.{◌≡◌, refl, sym, ap, ◌∙◌, subst}
+use mathlib.Core.Path.{◌≡◌, refl, sym, ap, ◌∙◌}
 use mathlib.Core.Logic.{◌⊎◌, inl, inr}
 use mathlib.Core.List.Memᴰ
-use mathlib.Core.List.{List, [], ◌∷◌, ◌++◌, append-nil, append_assoc}
-use Prim.Native.Nat.{ℕ, zero, suc, ◌+◌, ◌-◌, ◌≤◌, ◌<◌}
+use mathlib.Core.List.{List, [], ◌∷◌, ◌++◌, append_assoc}
+use Prim.Native.Nat.{ℕ, zero, suc, ◌+◌, ◌≤◌, ◌<◌}
 use native.Mathlib.Omega.{arith}
 use lib.ListN.{length, length-append}
 use Rattle.image.specs.Image.{RouteImage, table}
@@ -31,11 +25,10 @@ use Rattle.unwind.specs.Lent.{block_records, Holds, block_hops}
 use Rattle.unwind.specs.Gather.{record_exits, Gathers}
 use Rattle.unwind.specs.Copies.{hops_from}
 use Rattle.addition.specs.Walk.{◌∈◌}
-use Rattle.unwind.specs.HopWords.{Rows, rows_in, hops_in, row_hops, no_rows, rows_on, Consecutive, InOrder, HopsStored, HopsHeld, HopsFit, HopsBelow}
+use Rattle.unwind.specs.HopWords.{Rows, rows_in, row_hops, no_rows, rows_on, Consecutive, InOrder, HopsStored, HopsHeld, HopsFit}
 use Rattle.addition.proofs.Lists.{none_in}
 use Rattle.unwind.proofs.TrieKeys.{joined_append}
 use Rattle.unwind.proofs.Sources.{on_apart, on_source}
-use Rattle.unwind.proofs.AllHops.{flat_split}
 use Rattle.unwind.proofs.LentLaws.{held_from}
 use Rattle.unwind.proofs.RowLaws.{on_order, on_lists, on_hops, rows_long, lists_all}
 
@@ -58,9 +51,6 @@ held_none m l e =
       uses = λ k u. u;
       kept = λ k u. refl;
     }
-
-pub held_up : {m : RouteImage} {b : ℕ} {l l' : List ℕ} {hs : List Hop} (d : ℕ) → HopsHeld m b l l' hs → b ≤ d → HopsHeld m d l l' hs
-held_up d p h = record { holds = p.holds; order = p.order; below = λ x i. omega (arith, p.below x i); uses = p.uses; kept = p.kept }
 
 module _ (m : RouteImage) (b : ℕ) {l l₁ : List ℕ} {hs : List Hop} (p : HopsHeld m b l l₁ hs) (exits : List ℕ) (n : ℕ) where
   abbrev own : List Hop
@@ -109,47 +99,5 @@ pub copy_own : (m : RouteImage) (b : ℕ) (nodes edges ends heads landings : Lis
 unfolding hops_from
 copy_own m b nodes edges ends heads landings i {l} {l'} {n} p = ap (hops_on []) (held_from m b l l' n (record_exits m b edges ends heads landings (record_in nodes i)) p).is
 
-pub fit_own : (hs : List Hop) {own ks : List Hop} → own ≡ ks → HopsFit (hs ++ ks) → HopsFit (hs ++ own)
-fit_own hs e f = subst (λ (t : List Hop). HopsFit (hs ++ t)) (sym e) f
-
-pub held_own : (hs : List Hop) {m : RouteImage} {d : ℕ} {l l' : List ℕ} {own ks : List Hop} → own ≡ ks → HopsHeld m d l l' (hs ++ own) → HopsHeld m d l l' (hs ++ ks)
-held_own hs {m} {d} {l} {l'} e p = subst (λ (t : List Hop). HopsHeld m d l l' (hs ++ t)) e p
-
-pub held_below : {m : RouteImage} {b : ℕ} {l l' : List ℕ} {hs : List Hop} → HopsHeld m b l l' hs → HopsBelow m b l'
-held_below p = record { holds = refl; order = p.order; below = λ x i. p.below x (rw p.holds at i); uses = λ k u. u; kept = λ k u. refl }
-
-pub held_then : (m : RouteImage) (l₁ : List ℕ) (hs ks : List Hop) {b d : ℕ} {l l₂ : List ℕ} → HopsHeld m b l l₁ hs → HopsHeld m d l₁ l₂ (hops_in m l₁ ++ ks) → HopsHeld m d l l₂ (hs ++ ks)
-held_then m l₁ hs ks {d = d} {l₂ = l₂} p q =
-    let r = subst (λ (t : List Hop). HopsHeld m d l₁ l₂ (t ++ ks)) p.holds q in
-    record { holds = r.holds; order = r.order; below = r.below; uses = λ k u. p.uses k (r.uses k u); kept = λ k u. r.kept k u ∙ p.kept k (r.uses k u) }
-
 pub step_is : (hs : List Hop) (f : ℕ → List Hop) (o : ℕ) → hs ++ flat f o ++ f o ≡ hs ++ flat f (o + 1)
 step_is hs f o = append_assoc hs (flat f o) (f o) ∙ ap (λ (t : List Hop). hs ++ t) (sym (flat-more f o))
-
-pub fit_step : (hs : List Hop) (f : ℕ → List Hop) (o n : ℕ) → o < n → HopsFit (hs ++ flat f n) → HopsFit (hs ++ flat f o ++ f o)
-fit_step hs f o n h fit =
-    let e : o + 1 + (n - (o + 1)) ≡ n = omega arith in
-    let all = sym (ap (flat f) e) ∙ flat_split f (o + 1) (n - (o + 1)) in
-    let rest = flat (λ j. f (o + 1 + j)) (n - (o + 1)) in
-    subst HopsFit (sym (step_is hs f o)) (fit_front (hs ++ flat f (o + 1)) rest (subst HopsFit (ap (λ (t : List Hop). hs ++ t) all ∙ sym (append_assoc hs (flat f (o + 1)) rest)) fit))
-
--- ---- one block after the other
-
-module _ (f : ℕ → List Hop) (b : ℕ) where
-  pub fit_block : (n : ℕ) {own : List Hop} → own ≡ f b → b < n → HopsFit (flat f n) → HopsFit (flat f b ++ own)
-  fit_block n e h fit = fit_own (flat f b) e (fit_step [] f b n h fit)
-
-  module _ {m : RouteImage} {l l' : List ℕ} where
-    pub held_step : {own : List Hop} → own ≡ f b → HopsHeld m (b + 1) l l' (flat f b ++ own) → HopsHeld m (b + 1) l l' (flat f (b + 1))
-    held_step e p = subst (HopsHeld m (b + 1) l l') (sym (flat-more f b)) (held_own (flat f b) e p)
-
-    pub held_quiet : f b ≡ [] → HopsHeld m b l l' (flat f b) → HopsHeld m (b + 1) l l' (flat f (b + 1))
-    held_quiet e p = subst (HopsHeld m (b + 1) l l') (sym (flat-more f b ∙ ap (λ (t : List Hop). flat f b ++ t) e ∙ append-nil (flat f b))) (held_up (b + 1) p (omega arith))
-
--- the hops of all words that were stored in turn
-pub held_on : {m : RouteImage} {b d : ℕ} {l l₁ l₂ : List ℕ} {hs ks : List Hop} → HopsHeld m b l l₁ hs → HopsHeld m d l₁ l₂ ks → HopsHeld m d l l₂ ks
-held_on p q = record { holds = q.holds; order = q.order; below = q.below; uses = λ k u. p.uses k (q.uses k u); kept = λ k u. q.kept k u ∙ p.kept k (q.uses k u) }
-
--- as they stand, behind no store
-pub held_here : {m : RouteImage} {b : ℕ} {l l' : List ℕ} {hs : List Hop} → HopsHeld m b l l' hs → HopsHeld m b l' l' hs
-held_here p = record { holds = p.holds; order = p.order; below = p.below; uses = λ k u. u; kept = λ k u. refl }

@@ -5,7 +5,7 @@
 --     record_exits_law                 the exits of a node
 --     copy_records, block-records  those of a copy, and of a block that stood
 --     standing_hops                the hops of a block that stood
---     held_from, block_held, block_size, pooled_none    what is gathered from nothing, and room for it
+--     held_from, block_held, pooled_none    what is gathered from nothing, and room for it
 --     node_there, roots_fit        what is read of a node, and the roots
 use mathlib.Core.Path.{◌≡◌, refl, sym, ◌∙◌, ap}
 use mathlib.Core.Bool.{Bool, true, false, cond, not, ◌&&◌}
@@ -24,7 +24,6 @@ use Rattle.graph.specs.Graph.{Graph}
 use Rattle.graph.specs.Fold.{flat, among}
 use Rattle.graph.proofs.FoldLaws.{length-table, table_same, get_or_table, flat-same}
 use Rattle.graph.proofs.RouteLaws.{length-routes}
-use Rattle.unwind.specs.declared.emit.count.Sizes.{Sizes}
 use Rattle.unwind.specs.declared.tries.store.Counts.{Counts}
 use Rattle.addition.specs.Lists.{keep}
 use Rattle.addition.specs.Order.{Tagged, sorted}
@@ -40,7 +39,6 @@ use Rattle.unwind.specs.Entries.{end_in, exits_in}
 use Rattle.unwind.specs.Gather.{exit_to, edge_exits, end_number, end_exits, record_exits, Gathers, in_set, NodeThere, route_records, node_records, Pooled, Adds}
 use Rattle.unwind.specs.Sides.{landing}
 use Rattle.unwind.specs.Lent.{Leads, Sides, block_records, Holds, BlockHeld, block_hops}
-use Rattle.unwind.specs.Sizes.{HopsSize, SizesOf}
 use Rattle.addition.specs.Walk.{◌∈◌}
 use Rattle.addition.proofs.Lists.{none_in, at, lt_at, at_get_or, mem_map}
 use Rattle.addition.proofs.Intern.{tries_law}
@@ -83,11 +81,6 @@ block_held m b nodes edges ends heads landings roots guards bases returns c {l =
     let others = flat (node_records m b edges ends heads landings nodes bases returns) c.nodes in
     let all = adds_both m b edges ends heads landings routes others s p in
     record { long = all.gathers.long; holds = rw e (held_from m b l l₂ r (routes ++ others) all.gathers); most = pooled_most m b edges ends heads landings l₂ r all.pooled }
-
--- what is counted of them
-pub block_size : (m : RouteImage) (b : ℕ) (nodes edges ends heads landings roots guards bases returns : List ℕ) (c : Counts) {l : List ℕ} {n : ℕ} {q : Sizes} → Holds m b (block_records m b nodes edges ends heads landings roots guards bases returns c) l n → SizesOf l n q → HopsSize (block_hops m nodes edges ends heads landings roots guards bases returns c b) q
-unfolding block_hops
-block_size m b nodes edges ends heads landings roots guards bases returns c h s = rw h.is at (s.of m b)
 
 module _ (m : RouteImage) (nodes edges ends roots : List ℕ) (c : Counts) (t : TriesIn m nodes edges ends roots c) where
   nodes_long : length (tries (routes_of m)).nodes ≡ c.nodes

@@ -64,3 +64,4 @@ pub mod ReturnLaws
 pub mod AlikeLaws
 pub mod BusyLaws
 pub mod BlockLoop
+mod SinkLaws

@@ -1,9 +1,7 @@
 -- Blocks gone over by the members of a set: the others give nothing.
---     flat_quiet, held_over        f gives nothing from k on
+--     flat_quiet                   f gives nothing from k on
 --     Walked, walked_start, walked_here, walked_below, walked_next     the members below k are gone over
---     summed_over, summed_quiet    blocks more that give nothing, and one
---     SetCounting, counting_start, counting_few, counting_next, counting_end     the hops of members, counted
---     SetHolding, holding_start, holding_here, holding_fit, holding_next, holding_end     and stored
+--     Taking, taking_start, taking_here, taking_next, taking_end     the hops of members are taken
 --     LowestIs, in_set_law             a set as it is read
 --     copy_rank, copy_rises, copy_more     the number of a copy by the members below
 --     copy_here, copy_quiet        the hops out of a copy, and of a block from which the node does not return
@@ -14,7 +12,7 @@
 --     busy_quiet                   no hop goes out of a block that is not busy
 --     nodes_sets, block_sets       the sets of nodes that are placed, and of routes
 -- Assumes nothing.
-use mathlib.Core.Path.{◌≡◌, refl, sym, ap, ◌∙◌, subst}
+use mathlib.Core.Path.{◌≡◌, refl, sym, ap, ◌∙◌}
 use mathlib.Core.Logic.{◌⊎◌, ⊎_elim}
 use mathlib.Core.Bool.{Bool, true, false, cond, false≢true}
 use mathlib.Core.List.{List, [], ◌++◌, append-nil}
@@ -35,7 +33,6 @@ use Rattle.graph.specs.Route.{route_at}
 use Rattle.graph.specs.BlockSet.{member, excluding}
 use Rattle.graph.proofs.FoldLaws.{decided, some-none, flat-none, flat-same, flat-more, count_yes, count_no}
 use Rattle.graph.proofs.BlockLaws.{member-excluding, length-excluding}
-use Rattle.unwind.specs.declared.emit.count.Sizes.{Sizes}
 use Rattle.unwind.specs.declared.tries.store.Counts.{Counts}
 use Rattle.addition.specs.Order.{sorted}
 use Rattle.addition.specs.Part.{returning}
@@ -46,18 +43,15 @@ use Rattle.unwind.specs.Sources.{Exit, compare_exits, hops_on}
 use Rattle.unwind.specs.Placed.{set_at}
 use Rattle.unwind.specs.Gather.{in_set, record_exits, route_records, return_records, node_records}
 use Rattle.unwind.specs.Lent.{Sides, block_records, block_hops}
-use Rattle.unwind.specs.Sizes.{HopsSize, Summed, sizes_both}
-use Rattle.unwind.specs.Copies.{copy_number, hops_from, hops_if, copy_hops, SumSize}
-use Rattle.unwind.specs.HopWords.{HopsHeld, HopsFit, ReturnsWithin}
+use Rattle.unwind.specs.Copies.{copy_number, hops_from, hops_if, copy_hops}
+use Rattle.unwind.specs.HopWords.{ReturnsWithin}
 use Rattle.unwind.specs.Members.{NodeSets, NodesSets, Joins, BlockSets, Originals, BusyIn}
 use Rattle.addition.proofs.Lists.{keep_mem, among_mem}
 use Rattle.addition.proofs.Accepted.{guarded_mem}
 use Rattle.addition.proofs.Instance.{blocks_lt}
-use Rattle.unwind.proofs.SizeLaws.{summed_none, summed_more}
 use Rattle.unwind.proofs.SlotLaws.{set_run}
 use Rattle.unwind.proofs.PlaceLaws.{rank_most}
 use Rattle.unwind.proofs.PoolLaws.{node_own, node_copy, node_off, set-none}
-use Rattle.unwind.proofs.HeldLaws.{held_up, step_is, fit_step}
 
 pub flat_quiet : {A : Type 0} (f : ℕ → List A) (k n : ℕ) → k ≤ n → ((c : ℕ) → k ≤ c → c < n → f c ≡ []) → flat f n ≡ flat f k
 unfolding flat
@@ -70,10 +64,6 @@ flat_quiet {A} f k (suc n) h none =
           ∙ append-nil (flat f n)
           ∙ flat_quiet f k n (omega arith) (λ c a b. none c a (omega arith))
     ]
-
--- hops that stand, and blocks behind them that give none
-pub held_over : {m : RouteImage} (f : ℕ → List Hop) (b d : ℕ) {l l' : List ℕ} → b ≤ d → ((c : ℕ) → b ≤ c → c < d → f c ≡ []) → HopsHeld m b l l' (flat f b) → HopsHeld m d l l' (flat f d)
-held_over {m} f b d {l} {l'} h none p = subst (HopsHeld m d l l') (sym (flat_quiet f b d h none)) (held_up d p h)
 
 -- ---- a set that is gone over
 
@@ -128,77 +118,26 @@ module _ (f : ℕ → List Hop) (w : List ℕ) (quiet : (c : ℕ) → member w c
   flat_end : ((c : ℕ) → member left c ≡ false) → flat f blocks ≡ flat f k
   flat_end none = flat_quiet f k blocks p.within (λ c a b. quiet c (sym (p.rest c a) ∙ none c))
 
--- ---- hops counted
+-- ---- hops taken
 
-pub record SetCounting (f : ℕ → List Hop) (w : List ℕ) (blocks : ℕ) (left : List ℕ) (z : Sizes) : Type 0 where
+-- P holds of all below a number, from which on the members of w are left
+pub record Taking (P : ℕ → Type 0) (w : List ℕ) (blocks : ℕ) (left : List ℕ) : Type 0 where
   pub at : ℕ
   pub walked : Walked w left blocks at
-  pub counted : Summed f at 65536 z
+  pub held : P at
 
-pub counting_start : (f : ℕ → List Hop) (w : List ℕ) (blocks : ℕ) → length w ≡ 16 → ((c : ℕ) → member w c ≡ true → c < blocks) → SetCounting f w blocks w (record { hops = 0; lists = 0; blocks = 0 })
-counting_start f w blocks long below = record { at = 0; walked = walked_start w blocks long below; counted = summed_none f 65536 }
+pub taking_start : (P : ℕ → Type 0) (w : List ℕ) (blocks : ℕ) → length w ≡ 16 → ((c : ℕ) → member w c ≡ true → c < blocks) → P 0 → Taking P w blocks w
+taking_start P w blocks long below held = record { at = 0; walked = walked_start w blocks long below; held = held }
 
-summed_up : (f : ℕ → List Hop) (k n : ℕ) {z : Sizes} → k ≤ n → flat f n ≡ flat f k → Summed f k 65536 z → Summed f n 65536 z
-summed_up f k n {z} h e s =
-    record { hops = omega (arith, s.hops); lists = omega (arith, s.lists); blocks = omega (arith, s.blocks); of = subst (λ (t : List Hop). HopsSize t z) (sym e) s.of }
+module _ (P : ℕ → Type 0) (f : ℕ → List Hop) (up : (k n : ℕ) → k ≤ n → flat f n ≡ flat f k → P k → P n) (w : List ℕ) (quiet : (c : ℕ) → member w c ≡ false → f c ≡ []) {left : List ℕ} {blocks : ℕ} (p : Taking P w blocks left) where
+  pub taking_end : ((c : ℕ) → member left c ≡ false) → P blocks
+  taking_end none = up p.at blocks p.walked.within (flat_end f w quiet p.walked none) p.held
 
-pub summed_over : (f : ℕ → List Hop) (b d : ℕ) {z : Sizes} → b ≤ d → ((c : ℕ) → b ≤ c → c < d → f c ≡ []) → Summed f b 65536 z → Summed f d 65536 z
-summed_over f b d h none s = summed_up f b d h (flat_quiet f b d h none) s
+  pub taking_here : (o : ℕ) → LowestIs left o → P o
+  taking_here o low = up p.at o (reached p.walked o low) (flat_here f w quiet p.walked o low) p.held
 
-pub summed_quiet : (f : ℕ → List Hop) (b : ℕ) {z : Sizes} → f b ≡ [] → Summed f b 65536 z → Summed f (b + 1) 65536 z
-summed_quiet f b e s = summed_up f b (b + 1) (omega arith) (flat-more f b ∙ ap (λ (t : List Hop). flat f b ++ t) e ∙ append-nil (flat f b)) s
-
-pub counting_few : {f : ℕ → List Hop} {w left : List ℕ} {blocks : ℕ} {z : Sizes} → SetCounting f w blocks left z → blocks ≤ 1024 → (z.hops ≤ 67108864) × (z.lists ≤ 67108864) × (z.blocks ≤ 67108864)
-counting_few p few =
-    let n = p.walked.within in
-    let s = p.counted in
-    (omega (arith, n, few, s.hops), omega (arith, n, few, s.lists), omega (arith, n, few, s.blocks))
-
-module _ (f : ℕ → List Hop) (w : List ℕ) (quiet : (c : ℕ) → member w c ≡ false → f c ≡ []) {left : List ℕ} {blocks : ℕ} {z : Sizes} (p : SetCounting f w blocks left z) where
-  pub counting_next : (o : ℕ) → LowestIs left o → (q : Sizes) → HopsSize (f o) q → q.hops ≤ 65536 → q.lists ≤ 65536 → q.blocks ≤ 65536 → SetCounting f w blocks (excluding left o) (sizes_both z q)
-  counting_next o low q size a b c =
-      record {
-        at = o + 1;
-        walked = walked_next p.walked o low;
-        counted = summed_more f o 65536 z q (summed_up f p.at o (reached p.walked o low) (flat_here f w quiet p.walked o low) p.counted) size a b c;
-      }
-
-  pub counting_end : ((c : ℕ) → member left c ≡ false) → blocks ≤ 1024 → (l l' : List ℕ) → length l' ≡ length l → SumSize (flat f blocks) l l' z
-  counting_end none few l l' long =
-      let most = counting_few p few in
-      record { long = long; of = subst (λ (t : List Hop). HopsSize t z) (sym (flat_end f w quiet p.walked none)) p.counted.of; hops = most.0; lists = most.1; blocks = most.2 }
-
--- ---- hops stored
-
--- behind the hops hs; `first` n is above the sources of the first n members
-pub record SetHolding (m : RouteImage) (f : ℕ → List Hop) (first : ℕ → ℕ) (hs : List Hop) (w : List ℕ) (blocks : ℕ) (left l₀ l : List ℕ) : Type 0 where
-  pub at : ℕ
-  pub walked : Walked w left blocks at
-  pub held : HopsHeld m (first at) l₀ l (hs ++ flat f at)
-
-module _ (m : RouteImage) (f : ℕ → List Hop) (first : ℕ → ℕ) (hs : List Hop) (w : List ℕ) (blocks : ℕ) where
-  pub holding_start : (l : List ℕ) → length w ≡ 16 → ((c : ℕ) → member w c ≡ true → c < blocks) → HopsHeld m (first 0) l l hs → SetHolding m f first hs w blocks w l l
-  unfolding flat
-  holding_start l long below held = record { at = 0; walked = walked_start w blocks long below; held = subst (HopsHeld m (first 0) l l) (sym (append-nil hs)) held }
-
-  module _ (quiet : (c : ℕ) → member w c ≡ false → f c ≡ []) (rises : (k n : ℕ) → k ≤ n → first k ≤ first n) {left l₀ l : List ℕ} (p : SetHolding m f first hs w blocks left l₀ l) where
-    up_to : (n : ℕ) → p.at ≤ n → flat f n ≡ flat f p.at → HopsHeld m (first n) l₀ l (hs ++ flat f n)
-    up_to n h e = subst (λ (t : List Hop). HopsHeld m (first n) l₀ l (hs ++ t)) (sym e) (held_up (first n) p.held (rises p.at n h))
-
-    pub holding_end : ((c : ℕ) → member left c ≡ false) → HopsHeld m (first blocks) l₀ l (hs ++ flat f blocks)
-    holding_end none = up_to blocks p.walked.within (flat_end f w quiet p.walked none)
-
-    module _ (o : ℕ) (low : LowestIs left o) where
-      pub holding_here : HopsHeld m (first o) l₀ l (hs ++ flat f o)
-      holding_here = up_to o (reached p.walked o low) (flat_here f w quiet p.walked o low)
-
-      pub holding_fit : (own : List Hop) → own ≡ f o → HopsFit (hs ++ flat f blocks) → HopsFit (hs ++ flat f o ++ own)
-      holding_fit own e fit = subst (λ (t : List Hop). HopsFit (hs ++ flat f o ++ t)) (sym e) (fit_step hs f o blocks (walked_below p.walked o low) fit)
-
-      pub holding_next : (own : List Hop) → own ≡ f o → (d : ℕ) → d ≤ first (o + 1) → {l' : List ℕ} → HopsHeld m d l₀ l' (hs ++ flat f o ++ own) → SetHolding m f first hs w blocks (excluding left o) l₀ l'
-      holding_next own e d h {l'} held =
-          let all = ap (λ (t : List Hop). hs ++ flat f o ++ t) e ∙ step_is hs f o in
-          record { at = o + 1; walked = walked_next p.walked o low; held = held_up (first (o + 1)) (subst (HopsHeld m d l₀ l') all held) h }
+pub taking_next : {P : ℕ → Type 0} (Q : ℕ → Type 0) {w left : List ℕ} {blocks : ℕ} → Taking P w blocks left → (o : ℕ) → LowestIs left o → Q (o + 1) → Taking Q w blocks (excluding left o)
+taking_next Q p o low held = record { at = o + 1; walked = walked_next p.walked o low; held = held }
 
 -- ---- sets as they are read
 

@@ -1,7 +1,7 @@
 -- The most ways out of blocks bound the hops and their lists.
 --     Fits                         so many hops and lists at most
 --     members_less, members_next   a set has no more blocks below fewer; a word more of it
---     sum_more, product_most       one more of a sum, and a product with the size of a set
+--     sum_more                     one more of a sum
 --     sum-part, sum_each           a number of a sum, and a sum of numbers that are m or less
 --     sum_most                     a sum of products with the sizes of sets
 --     most_hops                    all hops that routes give
@@ -11,7 +11,7 @@ use mathlib.Core.Bool.{Bool, true, false, cond, ◌&&◌}
 use mathlib.Core.Logic.{⊎_elim}
 use mathlib.Core.List.{List, [], ◌∷◌, ◌++◌}
 use Prim.Native.Nat.{ℕ, zero, suc, ◌+◌, ◌-◌, ◌*◌, ◌^◌, ◌≤◌, ◌<◌}
-use native.Mathlib.Nat.{mul-suc, zero-mul, mul-le-mul, mul-le-mul_left}
+use native.Mathlib.Nat.{mul-suc, zero-mul, mul-le-mul_left}
 use native.Mathlib.Numerals.{add-one}
 use native.Mathlib.Decide.{dec_lt}
 use native.Mathlib.Omega.{arith}
@@ -20,7 +20,7 @@ use lib.Dec.{eqb, compare_is_eq}
 use lib.ListN.{length, get_or, length-append}
 use Rattle.image.specs.Image.{RouteImage}
 use Rattle.graph.specs.Fold.{flat, count, sum}
-use Rattle.graph.specs.BlockSet.{member, size_of}
+use Rattle.graph.specs.BlockSet.{member}
 use Rattle.graph.proofs.FoldLaws.{length-table, decided, count_yes, count_no, count_add, count_le}
 use Rattle.graph.proofs.BlockLaws.{size-more}
 use Rattle.addition.specs.Lists.{joined}
@@ -95,11 +95,6 @@ sum_next f n = ap (sum f) (add-one n)
 -- a product more, or what is no less
 pub sum_more : (f : ℕ → ℕ) (n most a k b : ℕ) → f n ≡ a * k → k ≤ b → sum f n ≤ most → sum f (n + 1) ≤ most + a * b
 sum_more f n most a k b is above h = omega (arith, sum_next f n, is, mul-le-mul_left a above)
-
-pub product_most : (w : List ℕ) (a b : ℕ) → a ≤ 131072 → b ≤ size_of w → a * b ≤ 134217728
-product_most w a b h k =
-    let most : b ≤ 1024 = omega (arith, k, count_le (member w) 1024) in
-    omega (arith, mul-le-mul h most)
 
 pub sum-part : (w : ℕ → ℕ) (n k : ℕ) → k < n → w k ≤ sum w n
 unfolding sum

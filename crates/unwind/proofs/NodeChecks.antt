@@ -1,4 +1,5 @@
 -- 14 and 17 of the nodes in scratch.
+--     led_check, led_block         what look-up finds: 14 or 17, or a block
 --     end_handler, end_other       of an end that is a handler, and of one that is not
 --     funclet_root, funclet_named  of a root, and of a node that entered a funclet
 --     ends_check, node_checks       of a node: its funclet, then its ends
@@ -17,12 +18,16 @@ use borrow.Author.Tests.{eq-eqb, ne_eqb}
 use lib.Dec.{eqb}
 use lib.ListN.{length, get_or, set, length-map}
 use lib.Seq.{get_or-set_same, get_or-set_other}
+use Rattle.std.proofs.Common.{Result}
+use Rattle.std.specs.Result.{result_unwrap_or}
 use Rattle.image.specs.Refusal.{Check, clear, ◌then◌}
 use Rattle.image.specs.Image.{RouteImage}
 use Rattle.image.specs.Deal.{UnwindEnd, propagate, resume, end_of}
 use Rattle.image.specs.declared.record.Path.{Path}
 use Rattle.image.proofs.Checks.{then_left, checks_each}
+use Rattle.graph.specs.declared.error.AddressBuildError.{AddressBuildError}
 use Rattle.graph.specs.Graph.{Graph}
+use Rattle.graph.specs.Error.{check_of}
 use Rattle.graph.specs.Fold.{checks}
 use Rattle.graph.proofs.FoldLaws.{length-table, get_or_table}
 use Rattle.graph.proofs.CheckLaws.{checks-same}
@@ -30,10 +35,12 @@ use Rattle.unwind.specs.declared.tries.store.NodeRecord.{NodeRecord}
 use Rattle.unwind.specs.declared.tries.store.Branch.{Branch}
 use Rattle.addition.specs.Order.{Tagged, tagged}
 use Rattle.unwind.specs.Nodes.{branch_in, branches, step_in, path_record, funclet_in, end_at, record_in, node_in, nodes_in}
+use Rattle.addition.specs.Blocks.{Leading, leads, inside, absent, leading, block_in}
 use Rattle.addition.specs.Trie.{node_at}
 use Rattle.unwind.specs.Placed.{funclet_at, Entered}
 use Rattle.addition.specs.Instance.{entry_block}
-use Rattle.addition.specs.Add.{lead_check, funclet_check, end_check, node_check}
+use Rattle.unwind.specs.Stands.{led}
+use Rattle.addition.specs.Add.{lead_found, lead_check, funclet_check, end_check, node_check}
 use Rattle.unwind.proofs.TrieNodes.{node_of_law}
 
 -- f of an element that stands in the list, whatever the defaults
@@ -43,6 +50,25 @@ get_or_mapped f (x ∷ l) zero d e h = refl
 get_or_mapped f (x ∷ l) (suc n) d e h = get_or_mapped f l n d e (le_of_suc-le-suc h)
 
 module _ (g : Graph) where
+  module _ {r : Result ℕ AddressBuildError} (a : ℕ) (is : r ≡ led a (leading g a)) where
+    pub led_check : check_of r ≡ lead_check g a
+    unfolding lead_check lead_found
+    led_check = rw is (go (leading g a))
+      where
+        go : (l : Leading) → check_of (led a l) ≡ lead_found a l
+        go (leads b) = refl
+        go inside = refl
+        go absent = refl
+
+    pub led_block : result_unwrap_or r 0 ≡ block_in (leading g a)
+    unfolding block_in
+    led_block = rw is (go (leading g a))
+      where
+        go : (l : Leading) → result_unwrap_or (led a l) 0 ≡ block_in l
+        go (leads b) = refl
+        go inside = refl
+        go absent = refl
+
   pub end_handler : (p : Path) → p.end ≡ 0 → end_check g (end_of p) ≡ lead_check g p.handler
   unfolding end_check end_of
   end_handler p e = rw (eq-eqb p.end 0 e)

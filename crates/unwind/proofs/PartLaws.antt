@@ -2,6 +2,7 @@
 --     length-bent, blocks_bent, edge-bent, target_bent, bent_yes, bent_no     the edges of the bounded graph, and how many blocks it has
 --     ends_bent, linked_bent       what the search asks of it
 --     part_start                   where the search begins
+--     bent_lt                      the edge at hand is one of the graph
 --     bent_on                      the links of a block, one edge further
 --     part_has                     what is reached is the part
 --     Seeking, seeking_start, seeking_on, seeking_less, seeking_found, seeking_none     an ordinary edge out of a block, along its links
@@ -12,7 +13,7 @@ use mathlib.Core.Path.{◌≡◌, refl, sym, ap, ◌∙◌}
 use mathlib.Core.Bool.{Bool, true, false, cond, not, ◌&&◌, and-false}
 use mathlib.Core.Logic.{◌⊎◌, inl, inr, ⊎_elim}
 use mathlib.Core.List.{List, [], ◌∷◌, map}
-use Prim.Native.Nat.{ℕ, zero, suc, ◌+◌, ◌<◌}
+use Prim.Native.Nat.{ℕ, zero, suc, ◌+◌, ◌-◌, ◌<◌}
 use native.Mathlib.Decide.{dec_lt, ℕ_discrete}
 use native.Mathlib.Omega.{arith}
 use borrow.Author.Tests.{eq-eqb, ne_eqb, lt-ltb, le-ltb}
@@ -147,6 +148,9 @@ module _ (g : Graph) (w : List ℕ) (e : ℕ) where
   part_start few = search_laws.works_start g' _ refl few
 
   -- ---- the links of a block
+
+  pub bent_lt : {b at : ℕ} {s₀ p₀ s p : List ℕ} → search_laws.Going g' b at s₀ p₀ s p → (at ≡ 0 → ⊥) → at - 1 < length g.edges
+  bent_lt here ne = rw length-bent at (search_laws.going_lt g' _ _ _ _ _ _ here ne)
 
   module _ (b : ℕ) (s₀ p₀ s p : List ℕ) (at k : ℕ) (eq : at ≡ suc k) (here : search_laws.Going g' b at s₀ p₀ s p) where
     leaves : (j i : ℕ) → j ≡ suc k → search_laws.Found g' b i j → (edge g' k).source ≡ b

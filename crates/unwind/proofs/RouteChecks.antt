@@ -5,6 +5,7 @@
 --     before_next                  the next instruction and the next block
 --     lead_all                     all instructions of the range lead theirs
 --     paths_at                      the paths of a route
+--     counted, children            how many records are read, and where those of a route and of a path stand
 --     route_checks                 10 to 12, 15 and 17 of a route of an image
 -- Assumes nothing.
 use mathlib.Core.Path.{◌≡◌, refl, ap}
@@ -22,13 +23,14 @@ use Rattle.image.specs.Image.{RouteImage}
 use Rattle.image.specs.Deal.{deal, UnwindPath, UnwindRoute, paths_of, routes_of}
 use Rattle.image.specs.declared.record.Route.{Route}
 use Rattle.image.proofs.Checks.{checks_each}
+use Rattle.image.proofs.Tables.{length-records}
 use Rattle.graph.specs.Graph.{Graph, block}
 use Rattle.graph.specs.Table.{entry_at, below, range_check}
 use Rattle.graph.specs.Route.{route_at, resumes_late}
 use Rattle.graph.specs.WellFormed.{Built}
 use Rattle.graph.proofs.CheckLaws.{checks_clear}
 use Rattle.graph.proofs.TableLaws.{start_at, below_at}
-use Rattle.graph.proofs.RouteLaws.{route_is}
+use Rattle.graph.proofs.RouteLaws.{route_is, paths_in, paths_next, steps_in_law, steps_next}
 use Rattle.addition.specs.Blocks.{leads, inside, leading, within}
 use Rattle.unwind.specs.Stands.{Stands, Before, route_of}
 use Rattle.addition.specs.Add.{lead_found, lead_check, range_leads, route_check}
@@ -106,3 +108,7 @@ pub route_checks : (g : Graph) (m : RouteImage) (r : ℕ) → r < length m.route
 unfolding route_check
 route_checks g m r h =
     ap (λ (x : UnwindRoute). range_check g.table x.start x.end then unless (not (resumes_late (route_at (routes_of m) r))) (refusal 15 r 0) then checks (range_leads g x) (length g.table)) (route_is m r h)
+
+pub ruleset counted = (length-records)
+
+pub ruleset children = (length-records, paths_in, paths_next, steps_in_law, steps_next)

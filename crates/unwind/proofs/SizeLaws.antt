@@ -1,8 +1,7 @@
 -- Sizes of hops.
 --     keep_all                     all are chosen
 --     last_end, last_next, size_none, size_next    entries counted one after the other
---     sizes_both_law, sizes_more       of two lists of hops, and of many
---     summed_none, summed_more     and how much they come to at most
+--     sizes_start, sizes_both_law      of none, and of two lists of hops
 --     then_same, then_leave, then_block, then_most    one entry more
 use mathlib.Core.Path.{◌≡◌, refl, sym, ◌∙◌, ap}
 use mathlib.Core.Bool.{Bool, true, false, cond}
@@ -14,8 +13,6 @@ use borrow.Author.Tests.{eq-eqb, ne_eqb}
 use lib.Dec.{eqb, compare_is_eq}
 use lib.ListN.{length, length-append}
 use Rattle.image.specs.Image.{RouteImage, table}
-use Rattle.graph.specs.Fold.{flat}
-use Rattle.graph.proofs.FoldLaws.{flat-more}
 use Rattle.unwind.specs.declared.emit.count.Sizes.{Sizes}
 use Rattle.addition.specs.Lists.{keep, joined}
 use Rattle.addition.specs.Order.{◌and_then◌}
@@ -23,7 +20,8 @@ use Rattle.unwind.specs.Nodes.{branch_in}
 use Rattle.addition.specs.Ways.{block, leave, Hop, Leap, compare_leaps}
 use Rattle.unwind.specs.Sources.{Exit, hops_then, hops_on, to_block}
 use Rattle.unwind.specs.Entries.{end_in, exit_in, exits_in}
-use Rattle.unwind.specs.Sizes.{HopsSize, Summed, sizes_then, sizes_both}
+use Rattle.unwind.specs.Sizes.{HopsSize, sizes_then, sizes_both}
+use Rattle.unwind.specs.Sinks.{SizesHeld}
 use Rattle.unwind.proofs.TrieKeys.{joined_append}
 use Rattle.unwind.proofs.TrieOrder.{number_eq}
 use Rattle.unwind.proofs.Sources.{hops_then_law, lists_then, number_one, number_then}
@@ -144,19 +142,6 @@ sizes_both_law hs ks p q x y =
       blocks = (λ i. x.blocks i + y.blocks i) ∙ sym (ap length (keep_append (λ (h : Hop). to_block h.end) hs ks) ∙ length-append (keep (λ (h : Hop). to_block h.end) hs) (keep (λ (h : Hop). to_block h.end) ks));
     }
 
-sizes_none : (f : ℕ → List Hop) → HopsSize (flat f 0) (record { hops = 0; lists = 0; blocks = 0 })
-unfolding flat joined keep
-sizes_none f = record { hops = refl; lists = refl; blocks = refl }
-
-sizes_more : (f : ℕ → List Hop) (b : ℕ) (p q : Sizes) → HopsSize (flat f b) p → HopsSize (f b) q → HopsSize (flat f (b + 1)) (sizes_both p q)
-sizes_more f b p q x y = rw (flat-more f b) (sizes_both_law (flat f b) (f b) p q x y)
-
-pub summed_none : (f : ℕ → List Hop) (w : ℕ) → Summed f 0 w (record { hops = 0; lists = 0; blocks = 0 })
-summed_none f w = record { hops = omega arith; lists = omega arith; blocks = omega arith; of = sizes_none f }
-
-pub summed_more : (f : ℕ → List Hop) (n w : ℕ) (p q : Sizes) → Summed f n w p → HopsSize (f n) q → q.hops ≤ w → q.lists ≤ w → q.blocks ≤ w → Summed f (n + 1) w (sizes_both p q)
-summed_more f n w p q s x a d e =
-    let h = s.hops in
-    let l = s.lists in
-    let b = s.blocks in
-    record { hops = omega arith; lists = omega arith; blocks = omega arith; of = sizes_more f n p q s.of x }
+pub sizes_start : SizesHeld 0 [] (record { hops = 0; lists = 0; blocks = 0 })
+unfolding keep joined
+sizes_start = record { hops = omega arith; lists = omega arith; blocks = omega arith; of = record { hops = refl; lists = refl; blocks = refl } }

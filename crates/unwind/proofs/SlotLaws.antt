@@ -1,8 +1,7 @@
 -- Sets of blocks in a slice, sixteen words each.
 --     set_run, set_long, set_word      a set is a run of the slice, of sixteen words
 --     Filled, filled_none, filled_more, filled-all     a set read, word by word
---     Copied, copied_none, copied_more, copied_all     a set stored, word by word
---     copied_zero                  and one more word of the empty set
+--     Copied, copied_over, set_over, set_emptied     a set stored
 --     put-including                a block put into a set
 --     put_same, put_again          a set that is not stored, and one that is stored twice
 -- Assumes nothing.
@@ -14,8 +13,11 @@ use native.Mathlib.Nat.{not-suc-le-zero}
 use native.Mathlib.Decide.{ℕ_discrete, dec_lt}
 use native.Mathlib.Omega.{arith}
 use lib.Bits.{bit_or}
-use lib.ListN.{length, get_or, set, take, length-set, drop, length-drop, get_or-replicate}
+use lib.ListN.{length, get_or, set, take, length-set, drop, length-drop, replicate}
 use lib.Seq.{take-suc, take-length, get_or-set_same, get_or-set_other, length-take-le, get_or-take, get_or-drop}
+use borrow.Author.Rules.{rules}
+use borrow.Rule.Slice.PartMut.{put_mid}
+use Rattle.std.proofs.lemmas.List.{places}
 use Rattle.image.specs.Image.{table}
 use Rattle.graph.specs.BlockSet.{none, including}
 use Rattle.graph.proofs.FoldLaws.{length-table, table_same, get_or_table}
@@ -74,39 +76,30 @@ pub record Copied (l : List ℕ) (at : ℕ) (w l' : List ℕ) (k : ℕ) : Type 0
   pub here : (j : ℕ) → j < k → get_or l' (at + j) 0 ≡ get_or w j 0
   pub others : (p : ℕ) → (p < at) ⊎ (at + k ≤ p) → get_or l' p 0 ≡ get_or l p 0
 
-pub copied_none : (l : List ℕ) (at : ℕ) (w : List ℕ) → Copied l at w l 0
-copied_none l at w = record { long = refl; here = λ j h. absurd (not-suc-le-zero h); others = λ p h. refl }
-
-apart : (at k p : ℕ) → (p < at) ⊎ (at + (k + 1) ≤ p) → (p ≡ at + k → ⊥) × ((p < at) ⊎ (at + k ≤ p))
-apart at k p (inl h) = (λ e. omega arith, inl h)
-apart at k p (inr h) = (λ e. omega arith, inr (omega arith))
-
-pub copied_more : (l : List ℕ) (at : ℕ) (w l' : List ℕ) (k : ℕ) → Copied l at w l' k → at + k < length l → Copied l at w (set l' (at + k) (get_or w k 0)) (k + 1)
-copied_more l at w l' k c h =
+-- a run of the slice is overwritten
+pub copied_over : (l : List ℕ) (at n : ℕ) (w : List ℕ) → length w ≡ n → at + n ≤ length l → Copied l at w (put_mid at n l w) n
+copied_over l at n w long fit =
     record {
-      long = length-set l' (at + k) _ ∙ c.long;
-      here = λ j lt.
-          elim (ℕ_discrete j k) [
-            | yes e ↦ rw e (get_or-set_same l' (at + k) _ 0 (omega (arith, c.long)))
-            | no ne ↦ get_or-set_other l' (at + k) (at + j) _ 0 (λ e. ne (omega arith)) ∙ c.here j (omega arith)
-          ];
-      others = λ p h. get_or-set_other l' (at + k) p _ 0 (apart at k p h).0 ∙ c.others p (apart at k p h).1;
+      long = search (rules, places);
+      here = λ j h. search (rules, places);
+      others = λ p h. elim h [ inl lt ↦ search (rules, places) | inr ge ↦ search (rules, places) ];
     }
-
-pub copied_zero : (l : List ℕ) (at : ℕ) (l' : List ℕ) (k : ℕ) → k < 16 → Copied l at none l' k → at + k < length l → Copied l at none (set l' (at + k) 0) (k + 1)
-copied_zero l at l' k few c h = rw (get_or-replicate {A = ℕ} 16 k 0 0 few) at (copied_more l at none l' k c h)
 
 beside : (i j k : ℕ) → (j ≡ i → ⊥) → k < 16 → (16 * j + k < 16 * i) ⊎ (16 * i + 16 ≤ 16 * j + k)
 beside i j k ne h = elim (dec_lt j i) [ yes lt ↦ inl (omega arith) | no ge ↦ inr (omega arith) ]
 
-pub copied_all : (l : List ℕ) (i : ℕ) (w l' : List ℕ) (k : ℕ) → length w ≡ 16 → Copied l (16 * i) w l' k → k ≡ 16 → SetPut l i w l'
+pub set_over : (l : List ℕ) (i n : ℕ) (w : List ℕ) → n ≡ 16 → length w ≡ 16 → 16 * i + 16 ≤ length l → SetPut l i w (put_mid (16 * i) n l w)
 unfolding set_at
-copied_all l i w l' k long c e =
+set_over l i n w e long fit =
+    let c = copied_over l (16 * i) n w (long ∙ sym e) (omega arith) in
     record {
       long = c.long;
       here = sym (listed w _ 16 long (λ j h. sym (c.here j (omega arith))));
-      others = λ j ne. table_same _ _ 16 (λ k h. (rw e at c.others) (16 * j + k) (beside i j k ne h));
+      others = λ j ne. table_same _ _ 16 (λ k h. c.others (16 * j + k) (rw e (beside i j k ne h)));
     }
+
+pub set_emptied : (l : List ℕ) (i n k : ℕ) → n ≡ 16 → k ≡ 16 → 16 * i + 16 ≤ length l → SetPut l i none (put_mid (16 * i) n l (replicate k 0))
+set_emptied l i n k e f fit = rw f (set_over l i n none e refl fit)
 
 module _ (l : List ℕ) (i : ℕ) where
   put_word : (k x : ℕ) → k < 16 → 16 * i + 16 ≤ length l → SetPut l i (set (set_at l i) k x) (set l (16 * i + k) x)

@@ -1,6 +1,6 @@
 -- A graph that 21 lets pass: its table, its built blocks, and the block that an address starts.
 --     stands_of                    what is used of 21
---     Cut, cut_all, cut_right, cut_left        a search by halving in numbers that rise
+--     less_before, less_behind     of numbers that rise, those that are less than one stand before the others
 --     table_rises                  the addresses of its table rise
 --     below-cut, below_test, start_nowhere     how many starts are below an address, and whether one is there
 --     built_is, is-built           the first n blocks are the built ones
@@ -22,6 +22,7 @@ use native.Mathlib.Nat.{not-suc-le-zero}
 use native.Mathlib.Decide.{dec_lt, ℕ_discrete}
 use native.Mathlib.Omega.{arith}
 use borrow.Author.Tests.{eq-eqb, ne_eqb, eqb-true, lt-ltb, le-ltb, ltb-true}
+use Rattle.std.proofs.lemmas.Bool.{ltb-false}
 use lib.Dec.{eqb, ltb}
 use lib.ListN.{length, get_or-eq_default}
 use Rattle.image.specs.Refusal.{Check, clear, refused}
@@ -53,37 +54,14 @@ stands_of h e =
     passed clear e = refl
     passed (refused r) e = absurd (false≢true e)
 
--- ---- halving
+-- ---- numbers that rise, against one
 
--- of n numbers those before lo are below p, and those from hi on are not
-pub record Cut (f : ℕ → ℕ) (n p lo hi : ℕ) : Type 0 where
-  pub order : lo ≤ hi
-  pub most : hi ≤ n
-  pub less : (k : ℕ) → k < lo → f k < p
-  pub more : (k : ℕ) → hi ≤ k → k < n → p ≤ f k
+module _ (f : ℕ → ℕ) (n p : ℕ) (rise : (i j : ℕ) → i < j → j < n → f i < f j) (i j : ℕ) (lt : i < j) (h : j < n) where
+  pub less_before : true ≡ ltb (f j) p → true ≡ ltb (f i) p
+  less_before e = sym (lt-ltb (f i) p (omega (arith, rise i j lt h, ltb-true (f j) p (sym e))))
 
-module _ (f : ℕ → ℕ) (n p : ℕ) where
-  pub cut_all : Cut f n p 0 n
-  cut_all = record { order = omega arith; most = omega arith; less = λ k h. absurd (not-suc-le-zero h); more = λ k le lt. absurd (omega arith) }
-
-  module _ (rise : (i j : ℕ) → i < j → j < n → f i < f j) (lo hi mid : ℕ) (c : Cut f n p lo hi) (low : lo ≤ mid) (high : mid < hi) where
-    pub cut_right : f mid < p → Cut f n p (mid + 1) hi
-    cut_right lt =
-        record {
-          order = omega arith;
-          most = c.most;
-          less = λ k h. elim (ℕ_discrete k mid) [ yes e ↦ rw e lt | no ne ↦ omega (arith, rise k mid (omega arith) (omega (arith, c.most))) ];
-          more = c.more;
-        }
-
-    pub cut_left : p ≤ f mid → Cut f n p lo mid
-    cut_left le =
-        record {
-          order = low;
-          most = omega (arith, c.most);
-          less = c.less;
-          more = λ k h lt. elim (ℕ_discrete k mid) [ yes e ↦ rw e le | no ne ↦ omega (arith, rise mid k (omega arith) lt) ];
-        }
+  pub less_behind : false ≡ ltb (f i) p → false ≡ ltb (f j) p
+  less_behind e = sym (le-ltb (f j) p (omega (arith, rise i j lt h, ltb-false (f i) p (sym e))))
 
 -- ---- the first of the kept
 

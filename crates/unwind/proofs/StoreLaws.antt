@@ -8,10 +8,10 @@
 --     sets_stood                   behind the copies of edges the blocks of the instances stand
 --     joins_stood, hops_lent       behind those of blocks: what hops join, and the hops of the ways that routes want
 --     addition_laid, hops_laid     all is stored
---     sized_refused, sized_stored  what is answered
+--     ok_clear, sized_refused, sized_stored    what is answered
 -- Assumes nothing.
 use mathlib.Core.Path.{◌≡◌, refl, sym, ap, ◌∙◌, subst}
-use mathlib.Core.Bool.{Bool, ◌&&◌}
+use mathlib.Core.Bool.{Bool, true, ◌&&◌}
 use mathlib.Core.Logic.{inl, inr}
 use mathlib.Core.List.{List, [], ◌++◌, map}
 use Prim.Native.Nat.{ℕ, ◌+◌, ◌*◌, ◌≤◌, ◌<◌}
@@ -20,6 +20,8 @@ use native.Mathlib.Omega.{arith}
 use borrow.Author.Tests.{le-leb, lt-leb, leb-true}
 use lib.Dec.{leb}
 use lib.ListN.{length, get_or, length-append, length-map}
+use Rattle.std.proofs.Common.{Result, Ok, Err}
+use Rattle.std.specs.Result.{is_ok}
 use Rattle.image.specs.Refusal.{refusal, Check, clear, ◌then◌, unless}
 use Rattle.image.specs.Image.{RouteImage}
 use Rattle.image.specs.Deal.{UnwindRoute, routes_of}
@@ -30,13 +32,12 @@ use Rattle.graph.specs.declared.record.Edge.{Edge}
 use Rattle.graph.specs.Graph.{Graph, Held, held, block}
 use Rattle.graph.specs.Words.{edge_rows, held_in}
 use Rattle.graph.specs.Fold.{flat}
-use Rattle.graph.specs.Error.{refusal_of}
+use Rattle.graph.specs.Error.{refusal_of, check_of}
 use Rattle.graph.specs.Stored.{Stored}
 use Rattle.graph.specs.Adding.{Added, with_blocks}
 use Rattle.graph.specs.Answers.{Laid}
 use Rattle.graph.specs.Search.{Ends, Linked}
 use Rattle.graph.specs.Search as links
-use Rattle.unwind.specs.declared.add.AddedRoutes.TheVariants as answers
 use Rattle.unwind.specs.declared.emit.count.Sizes.{Sizes}
 use Rattle.unwind.specs.declared.tries.store.Counts.{Counts}
 use Rattle.addition.specs.Lists.{keep, joined}
@@ -296,15 +297,19 @@ module _ (g : Graph) (m : RouteImage) where
 
 -- ---- answers
 
+pub ok_clear : (r : Result Unit AddressBuildError) → is_ok r ≡ true → check_of r ≡ clear
+ok_clear (Ok x) e = refl
+ok_clear (Err x) e = cc
+
 module _ (m : RouteImage) (w h : List ℕ) where
   abbrev gives : Addition
   gives = addition (held_in w).graph (routes_of m)
 
-  pub sized_refused : (e : AddressBuildError) → Check.refused (refusal_of e) ≡ size_check (addition (held_in w).graph (routes_of m)) → Sized m w w h h (answers.Refused e)
+  pub sized_refused : (e : AddressBuildError) → Check.refused (refusal_of e) ≡ size_check (addition (held_in w).graph (routes_of m)) → Sized m w w h h (Err e)
   unfolding outcome
   sized_refused e is = record { answer = ap (λ (k : Check). outcome k gives) is; leaves = (refl, refl) }
 
-  pub sized_stored : {w' h' : List ℕ} → size_check (addition (held_in w).graph (routes_of m)) ≡ clear → Laid w w' (addition (held_in w).graph (routes_of m)).graph → HopsLaid m h h' (addition (held_in w).graph (routes_of m)).hops → Sized m w w' h h' answers.Stored
+  pub sized_stored : {w' h' : List ℕ} → size_check (addition (held_in w).graph (routes_of m)) ≡ clear → Laid w w' (addition (held_in w).graph (routes_of m)).graph → HopsLaid m h h' (addition (held_in w).graph (routes_of m)).hops → Sized m w w' h h' (Ok tt)
   unfolding outcome held
   sized_stored {w'} {h'} fits laid hops =
       record {

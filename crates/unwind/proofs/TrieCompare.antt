@@ -1,20 +1,24 @@
 -- Comparisons of what stands in a route image.
 --     tags_next, tags_end          the tags of a run from place i on: the first apart, and none
---     compared_from, calls_start, calls_less, calls_greater, calls_next, calls_longer, calls_shorter, calls_equal     two runs
---                                                            compared from place i on
---     ends_handlers, ends_first, ends_others                 ends compared by their numbers
---     tagged_less, tagged_greater, tagged_equal              the tags decide, or what comes after them
---     branches_less, branches_greater                        the same of branches
+--     number_cmp, then_cmp         what `cmp` answers of numbers, and `then_with` behind it
+--     first_decides, second_decides     one comparison behind another
+--     compared_from, calls_start, calls_apart, calls_next, calls_done     two runs compared from place i on
+--     ends_handlers, ends_apart    ends compared by their numbers
+--     tagged_first, tagged_second, branches_first     the tags decide, or what comes after them
 -- Assumes nothing.
-use mathlib.Core.Path.{◌≡◌, refl}
-use mathlib.Core.Bool.{Bool, true, false, cond}
+use mathlib.Core.Path.{◌≡◌, refl, sym, ap, ◌∙◌}
+use mathlib.Core.Bool.{Bool, true, false, cond, false≢true}
 use mathlib.Core.List.{[], ◌∷◌}
-use Prim.Native.Nat.{ℕ, suc, ◌+◌, ◌-◌, ◌≤◌, ◌<◌, compare, Ordering}
+use Prim.Native.Nat.{ℕ, suc, ◌+◌, ◌-◌, ◌≤◌, ◌<◌, min, compare, Ordering}
 use native.Mathlib.Nat.{add-zero, sub-zero}
 use native.Mathlib.Decide.{ℕ_discrete}
 use native.Mathlib.Omega.{arith}
 use borrow.Author.Tests.{eq-eqb, ne_eqb}
 use lib.Dec.{eqb}
+use Rattle.std.specs.declared.cmp.Ordering.{Ordering as StdOrdering}
+use Rattle.std.specs.declared.cmp.Ordering.TheVariants.{Less, Equal, Greater}
+use Rattle.std.specs.Ordering.{MatchOrdering, nat_cmp, is_ne}
+use Rattle.std.specs.Cmp.{ranked}
 use Rattle.image.specs.Image.{RouteImage}
 use Rattle.image.specs.Deal.{handler, propagate, resume, end_of}
 use Rattle.image.specs.declared.record.Path.{Path}
@@ -23,7 +27,42 @@ use Rattle.unwind.specs.declared.tries.store.Branch.{Branch}
 use Rattle.unwind.specs.declared.tries.compare.Kind.{Kind}
 use Rattle.unwind.specs.declared.tries.compare.Kind.TheVariants.{Edges, Ends}
 use Rattle.unwind.specs.Nodes.{step_in, tags_in, edge_of, end_at}
-use Rattle.unwind.specs.Interning.{ordered, meaning}
+use Rattle.unwind.specs.Interning.{ordering_of, ordered, meaning}
+use Rattle.unwind.proofs.TrieOrder.{number_lt, number_gt, number_eq}
+
+pub number_cmp : (a b : ℕ) (o : StdOrdering) → o ≡ nat_cmp a b → ordering_of o ≡ compare a b
+number_cmp a b o e = go o (ranked a b o e)
+  where
+    go : (o : StdOrdering) → MatchOrdering o (a < b) (a ≡ b) (b < a) → ordering_of o ≡ compare a b
+    go Less h = sym (number_lt a b h)
+    go Equal h = sym (number_eq a b h)
+    go Greater h = sym (number_gt a b h)
+
+-- one comparison behind another: the first decides, unless it finds its two equal
+module _ (o : StdOrdering) (p q : Ordering) (e : ordering_of o ≡ p) where
+  pub first_decides : is_ne o ≡ true → ordering_of o ≡ p and_then q
+  unfolding ◌and_then◌
+  first_decides h = go o h ∙ ap (λ (p : Ordering). p and_then q) e
+    where
+      go : (o : StdOrdering) → is_ne o ≡ true → ordering_of o ≡ ordering_of o and_then q
+      go Less h = refl
+      go Equal h = absurd (false≢true h)
+      go Greater h = refl
+
+  pub second_decides : is_ne o ≡ false → q ≡ p and_then q
+  unfolding ◌and_then◌
+  second_decides h = go o h ∙ ap (λ (p : Ordering). p and_then q) e
+    where
+      go : (o : StdOrdering) → is_ne o ≡ false → q ≡ ordering_of o and_then q
+      go Less h = absurd (false≢true (sym h))
+      go Equal h = refl
+      go Greater h = absurd (false≢true (sym h))
+
+pub then_cmp : {P : Type 0} (o r : StdOrdering) (p q : Ordering) → ordering_of o ≡ p → (P → ordering_of r ≡ q) → MatchOrdering o (r ≡ Less) P (r ≡ Greater) → ordering_of r ≡ p and_then q
+unfolding ◌and_then◌
+then_cmp Less r p q e f h = ap ordering_of h ∙ ap (λ (p : Ordering). p and_then q) e
+then_cmp Equal r p q e f h = f h ∙ ap (λ (p : Ordering). p and_then q) e
+then_cmp Greater r p q e f h = ap ordering_of h ∙ ap (λ (p : Ordering). p and_then q) e
 
 module _ (m : RouteImage) where
   module _ (a n i : ℕ) where
@@ -46,29 +85,36 @@ module _ (m : RouteImage) where
     unfolding compare_tags
     calls_on h j = rw (tags_next a n i h, tags_next b k i j)
 
-    pub calls_less : i < n → i < k → compare (step_in m (a + i)).value (step_in m (b + i)).value ≡ Ordering.lt → compared_from ≡ Ordering.lt
-    unfolding ◌and_then◌
-    calls_less h j e = rw (calls_on h j, e)
+    module _ (h : i < n) (j : i < k) (o : StdOrdering) (e : o ≡ nat_cmp (step_in m (a + i)).value (step_in m (b + i)).value) where
+      told : ordering_of o ≡ compare (step_in m (a + i)).value (step_in m (b + i)).value
+      told = number_cmp (step_in m (a + i)).value (step_in m (b + i)).value o e
 
-    pub calls_greater : i < n → i < k → compare (step_in m (a + i)).value (step_in m (b + i)).value ≡ Ordering.gt → compared_from ≡ Ordering.gt
-    unfolding ◌and_then◌
-    calls_greater h j e = rw (calls_on h j, e)
+      pub calls_apart : is_ne o ≡ true → ordering_of o ≡ compared_from
+      calls_apart p = first_decides o _ _ told p ∙ sym (calls_on h j)
 
-    pub calls_next : i < n → i < k → compare (step_in m (a + i)).value (step_in m (b + i)).value ≡ Ordering.eq → compared_from ≡ compare_tags (tags_in m (a + (i + 1)) (n - (i + 1))) (tags_in m (b + (i + 1)) (k - (i + 1)))
-    unfolding ◌and_then◌
-    calls_next h j e = rw (calls_on h j, e)
+      pub calls_next : is_ne o ≡ false → compared_from ≡ compare_tags (tags_in m (a + (i + 1)) (n - (i + 1))) (tags_in m (b + (i + 1)) (k - (i + 1)))
+      calls_next p = calls_on h j ∙ sym (second_decides o _ _ told p)
 
-    pub calls_longer : i < n → k ≤ i → compared_from ≡ Ordering.gt
+    calls_longer : i < n → k ≤ i → compared_from ≡ Ordering.gt
     unfolding compare_tags
     calls_longer h j = rw (tags_next a n i h, tags_end b k i j)
 
-    pub calls_shorter : n ≤ i → i < k → compared_from ≡ Ordering.lt
+    calls_shorter : n ≤ i → i < k → compared_from ≡ Ordering.lt
     unfolding compare_tags
     calls_shorter h j = rw (tags_end a n i h, tags_next b k i j)
 
-    pub calls_equal : n ≤ i → k ≤ i → compared_from ≡ Ordering.eq
+    calls_equal : n ≤ i → k ≤ i → compared_from ≡ Ordering.eq
     unfolding compare_tags
     calls_equal h j = rw (tags_end a n i h, tags_end b k i j)
+
+    -- one of the runs is over
+    pub calls_done : i ≤ n → i ≤ k → min n k ≤ i → (o : StdOrdering) → o ≡ nat_cmp n k → ordering_of o ≡ compared_from
+    calls_done h j past o e = go o (ranked n k o e)
+      where
+        go : (o : StdOrdering) → MatchOrdering o (n < k) (n ≡ k) (k < n) → ordering_of o ≡ compared_from
+        go Less l = sym (calls_shorter (omega arith) (omega arith))
+        go Equal l = sym (calls_equal (omega arith) (omega arith))
+        go Greater l = sym (calls_longer (omega arith) (omega arith))
 
   pub calls_start : (a n b k : ℕ) → compared_from a n b k 0 ≡ compare_tags (tags_in m a n) (tags_in m b k)
   calls_start a n b k = simp (add-zero, sub-zero)
@@ -78,7 +124,7 @@ module _ (p q : Path) where
   unfolding compare_ends end_of
   ends_handlers e f = rw (eq-eqb p.end 0 e, eq-eqb q.end 0 f)
 
-  pub ends_first : p.end ≡ 0 → (q.end ≡ 0 → ⊥) → compare_ends (end_of p) (end_of q) ≡ Ordering.lt
+  ends_first : p.end ≡ 0 → (q.end ≡ 0 → ⊥) → compare_ends (end_of p) (end_of q) ≡ Ordering.lt
   unfolding compare_ends end_of
   ends_first e f = rw (eq-eqb p.end 0 e, ne_eqb q.end 0 f) (go (eqb q.end 1))
     where
@@ -86,7 +132,7 @@ module _ (p q : Path) where
       go true = refl
       go false = refl
 
-  pub ends_others : p.end ≤ 2 → q.end ≤ 2 → (p.end ≡ 0 → ⊥) → compare_ends (end_of p) (end_of q) ≡ compare p.end q.end
+  ends_others : p.end ≤ 2 → q.end ≤ 2 → (p.end ≡ 0 → ⊥) → compare_ends (end_of p) (end_of q) ≡ compare p.end q.end
   unfolding compare_ends end_of
   ends_others h j e = go (ℕ_discrete p.end 1) (ℕ_discrete q.end 0) (ℕ_discrete q.end 1)
     where
@@ -101,29 +147,23 @@ module _ (p q : Path) where
           let too : q.end ≡ 2 = omega arith in
           rw (two, too)
 
-module _ {A : Type 0} (c : A → A → Ordering) (x y : Tagged A) where
-  pub tagged_less : compare_tags x.calls y.calls ≡ Ordering.lt → compare_tagged c x y ≡ Ordering.lt
-  unfolding compare_tagged ◌and_then◌
-  tagged_less e = rw e
+  pub ends_apart : p.end ≤ 2 → q.end ≤ 2 → (p.end ≡ 0 → q.end ≡ 0 → ⊥) → compare_ends (end_of p) (end_of q) ≡ compare p.end q.end
+  ends_apart h j ne = go (ℕ_discrete p.end 0)
+    where
+      go : Dec (p.end ≡ 0) → compare_ends (end_of p) (end_of q) ≡ compare p.end q.end
+      go (yes e) = ends_first e (ne e) ∙ sym (number_lt p.end q.end (let apart : q.end ≡ 0 → ⊥ = ne e in omega arith))
+      go (no e) = ends_others h j e
 
-  pub tagged_greater : compare_tags x.calls y.calls ≡ Ordering.gt → compare_tagged c x y ≡ Ordering.gt
-  unfolding compare_tagged ◌and_then◌
-  tagged_greater e = rw e
+module _ {A : Type 0} (c : A → A → Ordering) (x y : Tagged A) (o : StdOrdering) (e : ordering_of o ≡ compare_tags x.calls y.calls) where
+  pub tagged_first : is_ne o ≡ true → ordering_of o ≡ compare_tagged c x y
+  unfolding compare_tagged
+  tagged_first h = first_decides o _ _ e h
 
-  pub tagged_equal : compare_tags x.calls y.calls ≡ Ordering.eq → compare_tagged c x y ≡ c x.what y.what
-  unfolding compare_tagged ◌and_then◌
-  tagged_equal e = rw e
+  pub tagged_second : is_ne o ≡ false → c x.what y.what ≡ compare_tagged c x y
+  unfolding compare_tagged
+  tagged_second h = second_decides o _ _ e h
 
-module _ (m : RouteImage) (a b : Branch) where
-  abbrev compared : Ordering
-  compared = compare_tags (tags_in m a.step a.calls) (tags_in m b.step b.calls)
-
-  pub branches_less : (k : Kind) → compared ≡ Ordering.lt → ordered k (meaning m k a) (meaning m k b) ≡ Ordering.lt
-  unfolding edge_of end_at
-  branches_less Edges e = tagged_less compare (edge_of m a) (edge_of m b) e
-  branches_less Ends e = tagged_less compare_ends (end_at m a) (end_at m b) e
-
-  pub branches_greater : (k : Kind) → compared ≡ Ordering.gt → ordered k (meaning m k a) (meaning m k b) ≡ Ordering.gt
-  unfolding edge_of end_at
-  branches_greater Edges e = tagged_greater compare (edge_of m a) (edge_of m b) e
-  branches_greater Ends e = tagged_greater compare_ends (end_at m a) (end_at m b) e
+pub branches_first : (m : RouteImage) (a b : Branch) (o : StdOrdering) → ordering_of o ≡ compare_tags (tags_in m a.step a.calls) (tags_in m b.step b.calls) → is_ne o ≡ true → (k : Kind) → ordering_of o ≡ ordered k (meaning m k a) (meaning m k b)
+unfolding edge_of end_at
+branches_first m a b o e h Edges = tagged_first compare (edge_of m a) (edge_of m b) o e h
+branches_first m a b o e h Ends = tagged_first compare_ends (end_at m a) (end_at m b) o e h

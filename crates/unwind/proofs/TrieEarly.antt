@@ -1,6 +1,5 @@
 -- What tells early that runs of steps are the same, or that nodes are not.
 --     same_self             a run is the same as itself
---     counts_same           two counts that were compared are equal
 --     counts_differ         nodes with other counts of edges or ends are not equal
 --     values_differ         nor are nodes whose funclets have other numbers
 -- Assumes nothing.
@@ -10,7 +9,7 @@ use mathlib.Core.List.{List, map}
 use mathlib.Core.Option.{Option, none, some}
 use Prim.Native.Nat.{ℕ, zero, suc, compare}
 use native.Mathlib.Decide.{ℕ_discrete}
-use borrow.Author.Tests.{eq-eqb, eqb-true, ne_eqb}
+use borrow.Author.Tests.{eq-eqb, ne_eqb}
 use lib.Dec.{eqb}
 use Rattle.image.specs.Image.{RouteImage}
 use Rattle.image.specs.Deal.{UnwindStep, funclet, call, step_of}
@@ -19,7 +18,7 @@ use Rattle.addition.specs.Order.{compare_tagged, compare_ends, same}
 use Rattle.addition.specs.Trie.{same_funclet, same_node}
 use Rattle.unwind.specs.Nodes.{step_in, branches, funclet_in, value_of, edge_of, end_at, node_in}
 use Rattle.unwind.specs.Interning.{same_step, same_steps}
-use Rattle.addition.proofs.Lists.{and_both, and_true}
+use Rattle.addition.proofs.Lists.{and_true}
 use Rattle.unwind.proofs.TrieRuns.{length_meant}
 use Rattle.unwind.proofs.TrieNodes.{same_size}
 
@@ -42,9 +41,6 @@ other_funclet none none ne = absurd (ne refl)
 other_funclet none (some b) ne = refl
 other_funclet (some a) none ne = refl
 other_funclet (some a) (some b) ne = ne_eqb a b (λ e. ne (sym e))
-
-pub counts_same : {a b c d : ℕ} → (eqb a b && eqb c d) ≡ true → (b ≡ a) × (d ≡ c)
-counts_same e = let p = and_both _ _ e in (sym (eqb-true _ _ p.0), sym (eqb-true _ _ p.1))
 
 module _ (m : RouteImage) (edges ends : List ℕ) (x z : NodeRecord) where
   abbrev funclets : Bool

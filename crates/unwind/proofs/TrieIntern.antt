@@ -1,6 +1,6 @@
 -- Interning in scratch, step by step.
 --     funclet_none, funclet_some, funclet_behind, funclet_small     the funclet that a group's paths have entered last
---     stored_still, behind_laid, lower_laid, close_law     the node whose edges and ends are laid
+--     behind_laid, lower_laid, close_law     the node whose edges and ends are laid
 -- Assumes nothing.
 use mathlib.Core.Path.{◌≡◌, refl, sym, ap₂, subst, ◌∙◌}
 use mathlib.Core.List.{List, map}
@@ -50,17 +50,6 @@ funclet_behind m g k stands =
     rw (← funclet_some (group_behind g k) deep, there)
 
 -- ---- the node whose edges and ends are laid
-
-pub stored_still : (nodes edges ends edges' ends' : List ℕ) (c : Counts) → Stored nodes edges ends c → length edges' ≡ length edges → length ends' ≡ length ends → Stored nodes edges' ends' c
-stored_still nodes edges ends edges' ends' c stored e d =
-    record {
-      nodes_fit = stored.nodes_fit;
-      edges_fit = omega (arith, stored.edges_fit);
-      ends_fit = omega (arith, stored.ends_fit);
-      edges_within = stored.edges_within;
-      ends_within = stored.ends_within;
-      ways_within = stored.ways_within;
-    }
 
 module _ (m : RouteImage) (l : List ℕ) (g : Group) (grouped : Grouped m l g) (nodes edges ends stack : List ℕ) (c : Counts) (top n : ℕ)
     (stored : Stored nodes edges ends c) (room : Room nodes edges ends stack c top 1 n (length (ends_list (paths_of m g))))

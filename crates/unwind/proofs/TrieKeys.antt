@@ -10,22 +10,22 @@
 use mathlib.Core.Path.{◌≡◌, refl, sym, ap, ◌∙◌}
 use mathlib.Core.Bool.{Bool, true, false, cond, ◌&&◌}
 use mathlib.Core.List.{List, [], ◌∷◌, ◌++◌, append-nil, append_assoc}
-use mathlib.Core.Option.{Option, none, some}
+use mathlib.Core.Option as maybe
+use mathlib.Core.Option.{none, some}
 use Prim.Native.Nat.{ℕ, zero, suc, ◌+◌, ◌<◌, compare, Ordering}
 use native.Mathlib.Decide.{dec_lt}
 use native.Mathlib.Omega.{arith}
 use borrow.Author.Tests.{lt-ltb, le-ltb}
 use lib.Dec.{ltb}
+use Rattle.std.proofs.Common.{Option, Some, None}
 use Rattle.image.specs.Image.{RouteImage}
 use Rattle.image.specs.Deal.{UnwindStep, UnwindPath}
 use Rattle.image.specs.Accepted.{AcceptedRoutes}
 use Rattle.graph.specs.Fold.{flat}
 use Rattle.graph.specs.Route.{path_in}
 use Rattle.unwind.specs.declared.tries.paths.Group.{Group}
-use Rattle.unwind.specs.declared.tries.paths.Left.TheVariants.{Steps, Nothing}
-use Rattle.unwind.specs.declared.tries.paths.CutAt.TheVariants.{Over, Enters}
-use Rattle.unwind.specs.declared.tries.keys.NextKey.{NextKey}
-use Rattle.unwind.specs.declared.tries.keys.NextKey.TheVariants.{At, Nothing as NoKey}
+use Rattle.unwind.specs.declared.tries.paths.Steps.{Steps}
+use Rattle.unwind.specs.declared.tries.keys.Key.{Key}
 use Rattle.addition.specs.Lists.{joined}
 use Rattle.addition.specs.Trie.{Cut, over, cut, group_on}
 use Rattle.unwind.specs.Nodes.{tags_in}
@@ -43,17 +43,17 @@ less_number a b = go (dec_lt a b) (dec_lt b a)
 
 -- ---- the next in order
 
-module _ {A : Type 0} (c : A → A → Ordering) (last : Option A) where
-  pub nearest_append : (best : Option A) (l k : List A) → nearest c last best (l ++ k) ≡ nearest c last (nearest c last best l) k
+module _ {A : Type 0} (c : A → A → Ordering) (last : maybe.Option A) where
+  pub nearest_append : (best : maybe.Option A) (l k : List A) → nearest c last best (l ++ k) ≡ nearest c last (nearest c last best l) k
   unfolding nearest
   nearest_append best [] k = refl
   nearest_append best (x ∷ l) k = nearest_append (nearer c last best x) l k
 
-  pub nearest_none : (best : Option A) {l : List A} → l ≡ [] → nearest c last best l ≡ best
+  pub nearest_none : (best : maybe.Option A) {l : List A} → l ≡ [] → nearest c last best l ≡ best
   unfolding nearest
   nearest_none best e = rw e
 
-  module _ (best : Option A) (x : A) {l : List A} (one : l ≡ x ∷ []) where
+  module _ (best : maybe.Option A) (x : A) {l : List A} (one : l ≡ x ∷ []) where
     pub nearer_taken : after c last x ≡ true → before c x best ≡ true → nearest c last best l ≡ some x
     unfolding nearest nearer
     nearer_taken p q = rw (one, p, q)
@@ -95,49 +95,49 @@ module _ (m : RouteImage) (g : Group) where
   keys_flat = joined-flat (λ (p : UnwindPath). group_on (cut p.steps)) (λ k. left_at m g (g.first + k)) g.count
 
   module _ (q : ℕ) where
-    pub left_is : (o : Option (List UnwindStep)) → strip (steps_in m g.from g.depth) (path_in m q).steps ≡ o → left_at m g q ≡ left_with (path_in m q).end o
+    pub left_is : (o : maybe.Option (List UnwindStep)) → strip (steps_in m g.from g.depth) (path_in m q).steps ≡ o → left_at m g q ≡ left_with (path_in m q).end o
     unfolding left_at
     left_is o e = ap (left_with (path_in m q).end) e
 
-    pub left-none : LeftOf m g q Nothing → left_at m g q ≡ []
+    pub left-none : LeftOf m g q None → left_at m g q ≡ []
     unfolding left_steps
     left-none l = left_is none l.is
 
-    pub left-some : {a n : ℕ} → LeftOf m g q (Steps a n) → left_at m g q ≡ record { steps = steps_in m a n; end = (path_in m q).end } ∷ []
+    pub left-some : {l : Steps} → LeftOf m g q (Some l) → left_at m g q ≡ record { steps = steps_in m l.first l.count; end = (path_in m q).end } ∷ []
     unfolding left_steps
-    left-some {a} {n} l = left_is (some (steps_in m a n)) l.is
+    left-some {l} left = left_is (some (steps_in m l.first l.count)) left.is
 
-    pub key_outside : LeftOf m g q Nothing → keys_of (left_at m g q) ≡ []
+    pub key_outside : LeftOf m g q None → keys_of (left_at m g q) ≡ []
     unfolding keys_of joined
     key_outside l = rw (left-none l)
 
-    module _ {a n : ℕ} (l : LeftOf m g q (Steps a n)) where
-      key_on : (k : Cut) → cut (steps_in m a n) ≡ k → keys_of (left_at m g q) ≡ group_on k
+    module _ {l : Steps} (left : LeftOf m g q (Some l)) where
+      key_on : (k : Cut) → cut (steps_in m l.first l.count) ≡ k → keys_of (left_at m g q) ≡ group_on k
       unfolding keys_of
-      key_on k e = rw (left-some l) (joined_one (λ (p : UnwindPath). group_on (cut p.steps)) _ ∙ ap group_on e)
+      key_on k e = rw (left-some left) (joined_one (λ (p : UnwindPath). group_on (cut p.steps)) _ ∙ ap group_on e)
 
-      pub key_over : Cuts m a n Over → keys_of (left_at m g q) ≡ []
+      pub key_over : Cuts m l.first l.count None → keys_of (left_at m g q) ≡ []
       unfolding group_on cut_of
-      key_over k = key_on (over (tags_in m a n)) k.is
+      key_over k = key_on (over (tags_in m l.first l.count)) k.is
 
-      pub key_enters : {c : ℕ} → Cuts m a n (Enters c) → KeyOf m g q (At (record { step = a; calls = c; first = q; last = q; more = false }))
+      pub key_enters : {c : ℕ} → Cuts m l.first l.count (Some c) → KeyOf m g q (Some (record { step = l.first; calls = c; first = q; last = q; more = false }))
       unfolding group_on cut_of key_of key_in
       key_enters {c} k =
           record {
             is = key_on _ k.is;
             stands = record {
-              within = omega (arith, l.stands.0, k.stands.0);
-              behind = l.stands.1;
-              begins = l.stands.2;
+              within = omega (arith, left.stands.0, k.stands.0);
+              behind = left.stands.1;
+              begins = left.stands.2;
               steps = k.stands.1;
             };
             here = (refl, refl);
           }
 
-pub key_small : (m : RouteImage) → AcceptedRoutes m → (g : Group) (k : NextKey) → KeyIn m g k → KeySmall k
-key_small m ok g (At k) stands = omega (arith, ok.steps_most, stands.within)
-key_small m ok g NoKey stands = tt
+pub key_small : (m : RouteImage) → AcceptedRoutes m → (g : Group) (k : Option Key) → KeyIn m g k → KeySmall k
+key_small m ok g (Some k) stands = omega (arith, ok.steps_most, stands.within)
+key_small m ok g None stands = tt
 
-pub key_within : (m : RouteImage) (g : Group) (k : NextKey) → KeyIn m g k → KeyWithin m k
-key_within m g (At k) stands = stands.within
-key_within m g NoKey stands = tt
+pub key_within : (m : RouteImage) (g : Group) (k : Option Key) → KeyIn m g k → KeyWithin m k
+key_within m g (Some k) stands = stands.within
+key_within m g None stands = tt

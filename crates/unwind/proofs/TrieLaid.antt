@@ -11,6 +11,7 @@ use mathlib.Core.List.{List, [], ◌∷◌, map, append-nil, map-append}
 use Prim.Native.Nat.{ℕ, ◌+◌, ◌<◌, ◌≤◌, compare}
 use native.Mathlib.Omega.{arith}
 use lib.ListN.{length, length-append, drop_of_length-le}
+use Rattle.std.proofs.Common.{Some, None}
 use Rattle.image.specs.Image.{RouteImage, table}
 use Rattle.image.specs.Deal.{UnwindEnd, UnwindPath}
 use Rattle.image.specs.Accepted.{AcceptedRoutes}
@@ -20,9 +21,7 @@ use Rattle.graph.proofs.RouteLaws.{path_is}
 use Rattle.graph.proofs.FoldLaws.{flat-more}
 use Rattle.unwind.specs.declared.tries.store.Branch.{Branch}
 use Rattle.unwind.specs.declared.tries.paths.Group.{Group}
-use Rattle.unwind.specs.declared.tries.paths.Left.TheVariants.{Steps, Nothing}
-use Rattle.unwind.specs.declared.tries.paths.CutAt.TheVariants.{Over, Enters}
-use Rattle.unwind.specs.declared.tries.lay.Ending.TheVariants.{At}
+use Rattle.unwind.specs.declared.tries.paths.Steps.{Steps}
 use Rattle.addition.specs.Lists.{joined}
 use Rattle.addition.specs.Order.{Tagged, compare_tagged, compare_ends, sorted}
 use Rattle.addition.specs.Trie.{Cut, over, cut, end_on, ends_of}
@@ -42,29 +41,29 @@ module _ (m : RouteImage) (g : Group) where
   -- ---- the end of a path
 
   module _ (q : ℕ) where
-    pub end_outside : LeftOf m g q Nothing → ends_list (left_at m g q) ≡ []
+    pub end_outside : LeftOf m g q None → ends_list (left_at m g q) ≡ []
     unfolding ends_list joined
     end_outside l = rw (left-none m g q l)
 
-    module _ {a n : ℕ} (l : LeftOf m g q (Steps a n)) where
-      end_on_law : (k : Cut) → cut (steps_in m a n) ≡ k → ends_list (left_at m g q) ≡ end_on k (path_in m q).end
+    module _ {l : Steps} (left : LeftOf m g q (Some l)) where
+      end_on_law : (k : Cut) → cut (steps_in m l.first l.count) ≡ k → ends_list (left_at m g q) ≡ end_on k (path_in m q).end
       unfolding ends_list
       end_on_law k e =
-          rw (left-some m g q l)
+          rw (left-some m g q left)
           (joined_one (λ (p : UnwindPath). end_on (cut p.steps) p.end) _ ∙ ap (λ (x : Cut). end_on x (path_in m q).end) e)
 
-      pub end_enters : {c : ℕ} → Cuts m a n (Enters c) → ends_list (left_at m g q) ≡ []
+      pub end_enters : {c : ℕ} → Cuts m l.first l.count (Some c) → ends_list (left_at m g q) ≡ []
       unfolding end_on cut_of
       end_enters k = end_on_law _ k.is
 
-      pub end_over : AcceptedRoutes m → q < length m.paths → Cuts m a n Over → EndOf m g q (At (record { step = a; calls = n; what = q }))
+      pub end_over : AcceptedRoutes m → q < length m.paths → Cuts m l.first l.count None → EndOf m g q (Some (record { step = l.first; calls = l.count; what = q }))
       unfolding end_on cut_of ending_of end_at
       end_over ok h k =
           record {
-            is = end_on_law (over (tags_in m a n)) k.is ∙ rw (ap (λ (p : UnwindPath). p.end) (path_is m q h));
+            is = end_on_law (over (tags_in m l.first l.count)) k.is ∙ rw (ap (λ (p : UnwindPath). p.end) (path_is m q h));
             small = record {
-              step = omega (arith, l.stands.0, ok.steps_most);
-              calls = omega (arith, l.stands.0, ok.steps_most);
+              step = omega (arith, left.stands.0, ok.steps_most);
+              calls = omega (arith, left.stands.0, ok.steps_most);
               what = omega (arith, ok.paths_most);
             };
           }

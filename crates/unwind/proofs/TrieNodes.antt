@@ -9,7 +9,7 @@
 --     kept_present, kept_new                              a node stands already, or is stored
 -- Assumes nothing.
 use mathlib.Core.Path.{◌≡◌, refl, sym, ap, ap₂, ◌∙◌}
-use mathlib.Core.Bool.{Bool, true, false, cond, ◌&&◌, and-false}
+use mathlib.Core.Bool.{Bool, true, false, cond, not, ◌&&◌, and-false}
 use mathlib.Core.List.{List, [], ◌∷◌, ◌++◌, map}
 use mathlib.Core.Option
 use mathlib.Core.Option.{Option, none, some, none-ne-some}
@@ -21,6 +21,9 @@ use borrow.Author.Tests.{ne_eqb}
 use lib.Dec.{eqb, compare_is_eq}
 use lib.ListN.{length, get_or, drop, drop_of_length-le}
 use lib.Seq.{drop-cons}
+use Rattle.std.specs.Ordering.{is_ne}
+use Rattle.std.specs.declared.cmp.Ordering.{Ordering as StdOrdering}
+use Rattle.std.specs.declared.cmp.Ordering.TheVariants.{Less, Equal, Greater}
 use Rattle.image.specs.Image.{RouteImage, table}
 use Rattle.graph.specs.Fold.{sum}
 use Rattle.graph.proofs.FoldLaws.{length-table, get_or_table, table_same}
@@ -31,7 +34,7 @@ use Rattle.unwind.specs.declared.tries.store.Counts.{Counts}
 use Rattle.addition.specs.Order.{same}
 use Rattle.addition.specs.Trie.{Node, same_funclet, same_node, place_of, created, create, node_at}
 use Rattle.unwind.specs.Nodes.{step_in, funclet_in, value_of, record_in, ways_of, branch_in, branches, edge_of, end_at, node_in, nodes_in, Stored, NodeFits, AllFit, BranchRead, NodePut}
-use Rattle.unwind.specs.Interning.{Meant, ordered, meaning}
+use Rattle.unwind.specs.Interning.{ordering_of, Meant, ordered, meaning}
 use Rattle.unwind.specs.Kept.{Behind, Kept}
 use Rattle.unwind.proofs.TrieRuns.{branches-same, length_meant, meant_of}
 
@@ -59,21 +62,26 @@ module _ (m : RouteImage) (kind : Kind) (l : List ℕ) where
   pub record Alike (a b n i : ℕ) : Type 0 where
     pub left : same_from a b n 0 ≡ same_from a b n i
 
+ne_told : (o : StdOrdering) (r : Bool) → is_ne o ≡ r → compare_is_eq (ordering_of o) ≡ not r
+ne_told Less r e = ap not e
+ne_told Equal r e = ap not e
+ne_told Greater r e = ap not e
+
 module _ {m : RouteImage} {kind : Kind} {l : List ℕ} {a b n : ℕ} where
   pub alike_start : Alike m kind l a b n 0
   alike_start = record { left = refl }
 
   module _ {i : ℕ} (so_far : Alike m kind l a b n i) where
-    module _ (h : i < n) {x z : Branch} (at_a : BranchRead l (a + i) x) (at_b : BranchRead l (b + i) z) {r : Bool} (told : r ≡ compare_is_eq (ordered kind (meaning m kind x) (meaning m kind z))) where
-      next : same_from m kind l a b n 0 ≡ (r && same_from m kind l a b n (suc i))
+    module _ (h : i < n) {x z : Branch} (at_a : BranchRead l (a + i) x) (at_b : BranchRead l (b + i) z) (o : StdOrdering) (told : ordering_of o ≡ ordered kind (meaning m kind x) (meaning m kind z)) where
+      next : same_from m kind l a b n 0 ≡ (compare_is_eq (ordering_of o) && same_from m kind l a b n (suc i))
       unfolding same
       next = so_far.left ∙ rw (meant_next m kind l a n i h, meant_next m kind l b n i h, told, at_a.is, at_b.is)
 
-      pub alike_on : r ≡ true → Alike m kind l a b n (i + 1)
-      alike_on e = record { left = next ∙ rw (e, add-one i) }
+      pub alike_on : is_ne o ≡ false → Alike m kind l a b n (i + 1)
+      alike_on e = record { left = next ∙ rw (ne_told o false e, add-one i) }
 
-      pub alike_other : r ≡ false → false ≡ same_from m kind l a b n 0
-      alike_other e = sym (next ∙ rw e)
+      pub alike_other : is_ne o ≡ true → false ≡ same_from m kind l a b n 0
+      alike_other e = sym (next ∙ rw (ne_told o true e))
 
     pub alike_end : n ≤ i → true ≡ same_from m kind l a b n 0
     unfolding same

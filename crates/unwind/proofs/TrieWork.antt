@@ -3,24 +3,24 @@
 --     Working, work_start          the groups up to `last` are interned
 --     next_left, next_falls        the next of them, and that its paths have fewer steps left
 --     child_grouped, child_room, push_room, branch_small, left_falls, edge, work_next     it is interned too
---     close_room, close_few, work_done     there is none: the node is closed
+--     close_few, work_done     there is none: the node is closed
 -- Assumes nothing.
 use mathlib.Core.Path.{◌≡◌, refl, sym, ap, ap₂, subst, ◌∙◌}
 use mathlib.Core.Bool.{true, false≢true}
 use mathlib.Core.List.{List, [], ◌∷◌, ◌++◌, map, append-nil, map-append}
-use mathlib.Core.Option.{Option, none, some}
+use mathlib.Core.Option as maybe
+use mathlib.Core.Option.{none, some}
 use Prim.Native.Nat.{ℕ, suc, ◌+◌, ◌*◌, ◌≤◌, ◌<◌, compare, Ordering}
 use native.Mathlib.Omega.{arith}
 use lib.ListN.{length}
 use lib.Seq.{append_snoc}
+use Rattle.std.proofs.Common.{Option, Some, None}
 use Rattle.image.specs.Image.{RouteImage, table}
 use Rattle.image.specs.Deal.{UnwindPath}
 use Rattle.unwind.specs.declared.tries.store.Branch.{Branch}
 use Rattle.unwind.specs.declared.tries.store.Counts.{Counts}
 use Rattle.unwind.specs.declared.tries.paths.Group.{Group}
 use Rattle.unwind.specs.declared.tries.keys.Key.{Key}
-use Rattle.unwind.specs.declared.tries.keys.NextKey.{NextKey}
-use Rattle.unwind.specs.declared.tries.keys.NextKey.TheVariants.{At, Nothing}
 use Rattle.unwind.specs.declared.tries.nodes.Interned.{Interned}
 use Rattle.addition.specs.Lists.{keep}
 use Rattle.addition.specs.Order.{Tagged, tagged, compare_tagged, sorted}
@@ -51,21 +51,21 @@ keep_all (x ∷ l) = ap (λ (t : List (Tagged ℕ)). x ∷ t) (keep_all l)
 
 module _ (m : RouteImage) (g : Group) where
   -- the keys that come after `last`, in order
-  pub left : NextKey → List (Tagged ℕ)
+  pub left : Option Key → List (Tagged ℕ)
   left last = sorted order (keep (after order (key_of m last)) (keys_of (paths_of m g)))
 
-  all_keys : groups (paths_of m g) ≡ left Nothing
+  all_keys : groups (paths_of m g) ≡ left None
   unfolding groups keys_of key_of left
   all_keys = ap (sorted order) (sym (keep_all (keys_of (paths_of m g))))
 
   -- ---- the next key
 
-  module _ (last : NextKey) (key : Key) (next : NextOf m g last (At key)) where
+  module _ (last : Option Key) (key : Key) (next : NextOf m g last (Some key)) where
     found : nearest order (key_of m last) none (keys_of (paths_of m g)) ≡ some (key_in m key)
     unfolding key_of
     found = sym next.is
 
-    pub next_left : left last ≡ key_in m key ∷ left (At key)
+    pub next_left : left last ≡ key_in m key ∷ left (Some key)
     unfolding left key_of
     next_left = next_some order total_key (key_of m last) (keys_of (paths_of m g)) (key_in m key) found
 
@@ -79,7 +79,7 @@ module _ (m : RouteImage) (g : Group) where
         (rest_falls (key_in m key) (paths_of m g) (mem_sorted order exact_key here.0))
 
     -- what the paths behind it count for
-    counted : (steps_ahead (key_of m (At key)) (paths_of m g) + weight (paths_of m (group_behind g key)) + length (paths_of m (group_behind g key)) ≤ steps_ahead (key_of m last) (paths_of m g)) × (paths_ahead (key_of m (At key)) (paths_of m g) + length (paths_of m (group_behind g key)) ≤ paths_ahead (key_of m last) (paths_of m g)) × (1 ≤ length (paths_of m (group_behind g key)))
+    counted : (steps_ahead (key_of m (Some key)) (paths_of m g) + weight (paths_of m (group_behind g key)) + length (paths_of m (group_behind g key)) ≤ steps_ahead (key_of m last) (paths_of m g)) × (paths_ahead (key_of m (Some key)) (paths_of m g) + length (paths_of m (group_behind g key)) ≤ paths_ahead (key_of m last) (paths_of m g)) × (1 ≤ length (paths_of m (group_behind g key)))
     unfolding key_of
     counted =
         rw (← rest_paths m g key next.stands next.spans) (
@@ -101,20 +101,20 @@ module _ (m : RouteImage) (g : Group) where
           route = grouped.route;
         }
 
-  none_left : (last : NextKey) → NextOf m g last Nothing → left last ≡ []
+  none_left : (last : Option Key) → NextOf m g last None → left last ≡ []
   unfolding left key_of sorted
   none_left last next = rw (next_none order total_key (key_of m last) (keys_of (paths_of m g)) (sym next.is))
 
   -- ---- at work
 
   module _ (nodes₀ edges₀ ends₀ stack₀ : List ℕ) (c₀ : Counts) (top : ℕ) where
-    abbrev made : Option ℕ → List UnwindPath → List Node → Made
+    abbrev made : maybe.Option ℕ → List UnwindPath → List Node → Made
     made = interned g.route
 
     abbrev all : Children
     all = intern_each made (paths_of m g) (groups (paths_of m g)) (nodes_in m nodes₀ edges₀ ends₀ c₀.nodes)
 
-    pub record Working (nodes edges ends stack : List ℕ) (c : Counts) (n : ℕ) (last : NextKey) : Type 0 where
+    pub record Working (nodes edges ends stack : List ℕ) (c : Counts) (n : ℕ) (last : Option Key) : Type 0 where
       pub nodes_long : length nodes ≡ length nodes₀
       pub edges_long : length edges ≡ length edges₀
       pub ends_long : length ends ≡ length ends₀
@@ -133,7 +133,7 @@ module _ (m : RouteImage) (g : Group) where
       pub paths_most : n + paths_ahead (key_of m last) (paths_of m g) + length (ends_list (paths_of m g)) ≤ length (paths_of m g)
       pub ends_most : c.ends + paths_ahead (key_of m last) (paths_of m g) + length (ends_list (paths_of m g)) ≤ c₀.ends + length (paths_of m g)
 
-    pub work_start : Stored nodes₀ edges₀ ends₀ c₀ → Lower (nodes_in m nodes₀ edges₀ ends₀ c₀.nodes) → Working nodes₀ edges₀ ends₀ stack₀ c₀ 0 Nothing
+    pub work_start : Stored nodes₀ edges₀ ends₀ c₀ → Lower (nodes_in m nodes₀ edges₀ ends₀ c₀.nodes) → Working nodes₀ edges₀ ends₀ stack₀ c₀ 0 None
     unfolding key_of branches table
     work_start stored lower =
         record {
@@ -156,7 +156,7 @@ module _ (m : RouteImage) (g : Group) where
         }
 
     module _ (room : Room nodes₀ edges₀ ends₀ stack₀ c₀ top (suc (weight (paths_of m g))) (weight (paths_of m g)) (length (paths_of m g)))
-        (nodes edges ends stack : List ℕ) (c : Counts) (n : ℕ) (last : NextKey) (work : Working nodes edges ends stack c n last) where
+        (nodes edges ends stack : List ℕ) (c : Counts) (n : ℕ) (last : Option Key) (work : Working nodes edges ends stack c n last) where
       -- what is left of the room
       room_left : (at n' e d : ℕ) → c.nodes + n' ≤ c₀.nodes + suc (weight (paths_of m g)) → c.edges + e ≤ c₀.edges + weight (paths_of m g)
           → c.ends + d ≤ c₀.ends + length (paths_of m g) → at + e ≤ top + weight (paths_of m g) → Room nodes edges ends stack c at n' e d
@@ -174,7 +174,7 @@ module _ (m : RouteImage) (g : Group) where
 
       -- ---- one group more
 
-      module _ (key : Key) (next : NextOf m g last (At key)) where
+      module _ (key : Key) (next : NextOf m g last (Some key)) where
         pub child_room : Room nodes edges ends stack c (top + n) (suc (weight (paths_of m (group_behind g key)))) (weight (paths_of m (group_behind g key))) (length (paths_of m (group_behind g key)))
         child_room =
             let k = counted last key next in
@@ -190,7 +190,7 @@ module _ (m : RouteImage) (g : Group) where
             let k₂ = k.2 in
             (omega (arith, room.stack_few, work.stack_most), omega (arith, room.stack_fit, work.stack_most, work.stack_long))
 
-        pub left_falls : length (left (At key)) < length (left last)
+        pub left_falls : length (left (Some key)) < length (left last)
         left_falls = rw (next_left last key next) (omega arith)
 
         module _ (nodes' edges' ends' stack' : List ℕ) (r : Interned) (done : Interns m (group_behind g key) nodes edges ends stack c (top + n) nodes' edges' ends' stack' r) where
@@ -214,7 +214,7 @@ module _ (m : RouteImage) (g : Group) where
           same_child : interned (group_behind g key).route (funclet_in m (funclet_of (group_behind g key))) (paths_of m (group_behind g key)) (nodes_in m nodes edges ends c.nodes) ≡ child
           unfolding child group_behind
           same_child =
-              ap₂ (λ (f : Option ℕ) (ps : List UnwindPath). made f ps (nodes_in m nodes edges ends c.nodes))
+              ap₂ (λ (f : maybe.Option ℕ) (ps : List UnwindPath). made f ps (nodes_in m nodes edges ends c.nodes))
               (funclet_behind m g key next.stands) (sym (rest_paths m g key next.stands next.spans))
 
           child_trie : child.trie ≡ nodes_in m nodes' edges' ends' r.counts.nodes
@@ -231,7 +231,7 @@ module _ (m : RouteImage) (g : Group) where
           edge_is = ap (tagged (tags_in m key.step key.calls)) (done.place ∙ ap (λ (x : Made). x.place) same_child)
 
           abbrev tail : List Node → Children
-          tail t = intern_each made (paths_of m g) (left (At key)) t
+          tail t = intern_each made (paths_of m g) (left (Some key)) t
 
           head_is : intern_each made (paths_of m g) (left last) (nodes_in m nodes edges ends c.nodes) ≡ record { edges = tagged (key_in m key).calls child.place ∷ (tail child.trie).edges; trie = (tail child.trie).trie }
           unfolding intern_each child
@@ -246,7 +246,7 @@ module _ (m : RouteImage) (g : Group) where
                 (ap (map (edge_of m)) (branches-same stack'' stack top n (λ k h. put.others (top + k) (λ e. omega arith) ∙ done.below (top + k) (omega arith))))
                 (ap (edge_of m) put.here ∙ edge_is)
 
-            pub work_next : length nodes' ≡ length nodes → length edges' ≡ length edges → length ends' ≡ length ends → length stack' ≡ length stack → Working nodes' edges' ends' stack'' r.counts (n + 1) (At key)
+            pub work_next : length nodes' ≡ length nodes → length edges' ≡ length edges → length ends' ≡ length ends → length stack' ≡ length stack → Working nodes' edges' ends' stack'' r.counts (n + 1) (Some key)
             work_next ln le ld ls =
                 let k = counted last key next in
                 let k₀ = k.0 in
@@ -279,11 +279,7 @@ module _ (m : RouteImage) (g : Group) where
 
       -- ---- there is none
 
-      module _ (next : NextOf m g last Nothing) where
-        pub close_room : Room nodes edges ends stack c top 1 n (length (ends_list (paths_of m g)))
-        close_room =
-            room_left top _ _ _ (omega (arith, work.nodes_most)) (omega (arith, work.edges_most)) (omega (arith, work.ends_most)) (omega (arith, work.stack_most))
-
+      module _ (next : NextOf m g last None) where
         pub close_few : n + length (ends_list (paths_of m g)) ≤ g.count
         close_few = omega (arith, work.paths_most, paths_few m g)
 

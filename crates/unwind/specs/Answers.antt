@@ -1,5 +1,5 @@
 -- What the addition answers, and what it leaves in the words that it is lent.
-use Rattle.std.specs.Prelude.{◌≡◌, true, List, [], ℕ, length, get_or}
+use Rattle.std.specs.Prelude.{◌≡◌, true, List, [], ℕ, length, get_or, Result, Ok, Err}
 use Rattle.image.specs.Refusal.{clear}
 use Rattle.image.specs.Image.{RouteImage}
 use Rattle.image.specs.Read.{Reading, read, refusing, read_routes}
@@ -11,8 +11,7 @@ use Rattle.graph.specs.Error.{refusal_of}
 use Rattle.graph.specs.Fold.{checks}
 use Rattle.graph.specs.WellFormed.{well_formed, Built}
 use Rattle.graph.specs.Answers.{Laid}
-use Rattle.unwind.specs.declared.add.AddedRoutes.{AddedRoutes}
-use Rattle.unwind.specs.declared.add.AddedRoutes.TheVariants.{Stored, Refused}
+use Rattle.graph.specs.declared.error.AddressBuildError.{AddressBuildError}
 use Rattle.unwind.specs.HopWords.{hops_in, HopsUnused}
 use Rattle.addition.specs.Add.{Addition, addition, Outcome, added, refused, outcome, route_check, size_check, add_routes_to}
 use Rattle.addition.specs.Demand.{Conditions, Demand3}
@@ -21,37 +20,37 @@ use Rattle.addition.specs.Demand.{Conditions, Demand3}
 abbrev pub addition_in : RouteImage → List ℕ → List ℕ → Addition
 addition_in m w h = record { graph = (held_in w).graph; hops = hops_in m h }
 
-abbrev pub answer_of : RouteImage → List ℕ → List ℕ → AddedRoutes → Outcome
-answer_of m w h Stored = added (addition_in m w h)
-answer_of m w h (Refused e) = refused (refusal_of e)
+abbrev pub answer_of : RouteImage → List ℕ → List ℕ → Result Unit AddressBuildError → Outcome
+answer_of m w h (Ok _) = added (addition_in m w h)
+answer_of m w h (Err e) = refused (refusal_of e)
 
 -- the routes that bytes hold; none where they are refused
 abbrev pub image_of : Reading RouteImage → RouteImage
 image_of (read m) = m
 image_of (refusing r) = record { routes = []; paths = []; steps = [] }
 
-abbrev pub add_answer : List ℕ → List ℕ → List ℕ → AddedRoutes → Outcome
+abbrev pub add_answer : List ℕ → List ℕ → List ℕ → Result Unit AddressBuildError → Outcome
 add_answer l w h r = answer_of (image_of (read_routes l)) w h r
 
 -- an addition leaves its graph, of which nothing is cut, and its hops, and each word that they do not use as it was; refused,
 -- it leaves every word as it was
-abbrev pub AddLeaves : List ℕ → List ℕ → List ℕ → List ℕ → AddedRoutes → Type 0
-AddLeaves w w' h h' Stored = Laid w w' (held_in w').graph × ((k : ℕ) → HopsUnused h' k → get_or h' k 0 ≡ get_or h k 0)
-AddLeaves w w' h h' (Refused e) = (w' ≡ w) × (h' ≡ h)
+abbrev pub AddLeaves : List ℕ → List ℕ → List ℕ → List ℕ → Result Unit AddressBuildError → Type 0
+AddLeaves w w' h h' (Ok _) = Laid w w' (held_in w').graph × ((k : ℕ) → HopsUnused h' k → get_or h' k 0 ≡ get_or h k 0)
+AddLeaves w w' h h' (Err e) = (w' ≡ w) × (h' ≡ h)
 
 -- what an addition stores is a graph: 21 lets it pass again
-abbrev pub Graphed : List ℕ → AddedRoutes → Type 0
-Graphed w Stored = well_formed (held_in w) ≡ true
-Graphed w (Refused e) = Unit {0}
+abbrev pub Graphed : List ℕ → Result Unit AddressBuildError → Type 0
+Graphed w (Ok _) = well_formed (held_in w) ≡ true
+Graphed w (Err e) = Unit {0}
 
 -- DEMAND 3 of this graph and these routes
-pub record Spells (l w w' h' : List ℕ) (r : AddedRoutes) : Type 0 where
-  pub spells : (m : RouteImage) → read_routes l ≡ read m → r ≡ Stored → Conditions (held_in w).graph (routes_of m) → Demand3 (routes_of m) (addition_in m w' h')
+pub record Spells (l w w' h' : List ℕ) (r : Result Unit AddressBuildError) : Type 0 where
+  pub spells : (m : RouteImage) → read_routes l ≡ read m → r ≡ Ok tt → Conditions (held_in w).graph (routes_of m) → Demand3 (routes_of m) (addition_in m w' h')
 
 -- ---- on the way
 
 -- a graph, and routes that were read
-pub record Adds (m : RouteImage) (w w' h h' : List ℕ) (r : AddedRoutes) : Type 0 where
+pub record Adds (m : RouteImage) (w w' h h' : List ℕ) (r : Result Unit AddressBuildError) : Type 0 where
   pub answer : answer_of m w' h' r ≡ add_routes_to (held_in w).graph (routes_of m)
   pub leaves : AddLeaves w w' h h' r
 
@@ -63,6 +62,6 @@ pub record RoutesChecked (h : Held) (n : ℕ) (m : RouteImage) : Type 0 where
   pub passed : checks (route_check h.graph (routes_of m)) (length (routes_of m)) ≡ clear
 
 -- routes whose instances are placed: what is left to refuse are the sizes
-pub record Sized (m : RouteImage) (w w' h h' : List ℕ) (r : AddedRoutes) : Type 0 where
+pub record Sized (m : RouteImage) (w w' h h' : List ℕ) (r : Result Unit AddressBuildError) : Type 0 where
   pub answer : answer_of m w' h' r ≡ outcome (size_check (addition (held_in w).graph (routes_of m))) (addition (held_in w).graph (routes_of m))
   pub leaves : AddLeaves w w' h h' r

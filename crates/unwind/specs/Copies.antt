@@ -1,10 +1,9 @@
 -- The hops out of the copies of one node, by the numbers that are lent.
-use Rattle.std.specs.Prelude.{◌≡◌, cond, List, [], ℕ, zero, suc, ◌+◌, ◌≤◌, ◌<◌, eqb, length, get_or}
+use Rattle.std.specs.Prelude.{cond, List, [], ℕ, zero, suc, ◌+◌, ◌≤◌, ◌<◌, eqb, length, get_or}
 use Rattle.image.specs.Image.{RouteImage}
 use Rattle.image.specs.Deal.{UnwindRoute}
 use Rattle.graph.specs.Graph.{Graph}
 use Rattle.graph.specs.Fold.{flat}
-use Rattle.unwind.specs.declared.emit.count.Sizes.{Sizes}
 use Rattle.addition.specs.Order.{sorted}
 use Rattle.addition.specs.Part.{funclets}
 use Rattle.addition.specs.Trie.{tries}
@@ -13,7 +12,6 @@ use Rattle.addition.specs.Instance.{copied}
 use Rattle.addition.specs.Ways.{Hop}
 use Rattle.unwind.specs.Sources.{compare_exits, hops_on}
 use Rattle.unwind.specs.Gather.{record_exits, in_set}
-use Rattle.unwind.specs.Sizes.{HopsSize}
 
 -- the number of the copy of block o: behind those of the lower blocks of the node's part
 unfoldable pub copy_number : List ℕ → ℕ → ℕ → ℕ → ℕ
@@ -31,22 +29,6 @@ module _ (m : RouteImage) (nodes edges ends heads landings : List ℕ) where
   unfoldable pub copy_hops : List ℕ → List ℕ → ℕ → ℕ → ℕ → List Hop
   copy_hops parts returns i base o = hops_if returns i o (copy_number parts i base o)
 
--- few hops, counted; scratch is used
-pub record FewHops (hs : List Hop) (l l' : List ℕ) (r : Sizes) : Type 0 where
-  pub long : length l' ≡ length l
-  pub of : HopsSize hs r
-  pub hops : r.hops < 65536
-  pub lists : r.lists < 65536
-  pub blocks : r.blocks < 65536
-
--- many hops, counted
-pub record SumSize (hs : List Hop) (l l' : List ℕ) (r : Sizes) : Type 0 where
-  pub long : length l' ≡ length l
-  pub of : HopsSize hs r
-  pub hops : r.hops ≤ 67108864
-  pub lists : r.lists ≤ 67108864
-  pub blocks : r.blocks ≤ 67108864
-
 -- the hops out of the copies of node i, if it has any
 unfoldable pub node_hops : RouteImage → List ℕ → List ℕ → List ℕ → List ℕ → List ℕ → List ℕ → List ℕ → List ℕ → ℕ → ℕ → List Hop
 node_hops m nodes edges ends heads landings bases parts returns blocks i =
@@ -55,12 +37,6 @@ node_hops m nodes edges ends heads landings bases parts returns blocks i =
 -- the first n are numbers of blocks
 pub record BasesFew (bases : List ℕ) (n : ℕ) : Type 0 where
   pub few : (i : ℕ) → i < n → get_or bases i 0 ≤ 1024
-
-pub record ManyHops (hs : List Hop) (r : Sizes) : Type 0 where
-  pub of : HopsSize hs r
-  pub hops : r.hops < 1099511627776
-  pub lists : r.lists < 1099511627776
-  pub blocks : r.blocks < 1099511627776
 
 -- there are blocks, and not too many with the copies: 18
 pub record Bounded (g : Graph) (rs : List UnwindRoute) : Type 0 where

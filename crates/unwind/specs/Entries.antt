@@ -1,11 +1,9 @@
 -- Entries: the exits of one block in scratch, in order. Each is a branch, whose `what` is the number of its end.
-use Rattle.std.specs.Prelude.{◌≡◌, cond, List, ℕ, ◌+◌, ◌*◌, ◌≤◌, ◌<◌, eqb, length}
+use Rattle.std.specs.Prelude.{◌≡◌, cond, List, ℕ, ◌+◌, ◌*◌, ◌≤◌, ◌<◌, eqb, length, Result, Ok, Err}
+use Rattle.std.specs.declared.cmp.Ordering.{Ordering as StdOrdering}
 use Prim.Native.Nat.{Ordering}
 use Rattle.image.specs.Image.{RouteImage, table}
-use Rattle.unwind.specs.declared.tries.compare.Order.{Order}
 use Rattle.unwind.specs.declared.tries.store.Branch.{Branch}
-use Rattle.unwind.specs.declared.emit.entries.Place.{Place}
-use Rattle.unwind.specs.declared.emit.entries.Place.TheVariants.{At, Before}
 use Rattle.addition.specs.Order.{put}
 use Rattle.unwind.specs.Nodes.{branch_in, tags_in}
 use Rattle.unwind.specs.Interning.{ordering_of}
@@ -31,7 +29,7 @@ module _ (m : RouteImage) where
     pub fit : 3 * n ≤ length l
     pub rises : (b i j : ℕ) → i < j → j < n → compare_exits (exit_in b (branch_in l i)) (exit_in b (branch_in l j)) ≡ Ordering.lt
 
-  pub record Compared (x y : Branch) (r : Order) : Type 0 where
+  pub record Compared (x y : Branch) (r : StdOrdering) : Type 0 where
     pub is : (b : ℕ) → ordering_of r ≡ compare_exits (exit_in b x) (exit_in b y)
 
   -- the entries before place p come before x, and those from p on behind it
@@ -41,18 +39,13 @@ module _ (m : RouteImage) where
     pub before : (b j : ℕ) → j < p → compare_exits (exit_in b x) (exit_in b (branch_in l j)) ≡ Ordering.gt
     pub behind : (b j : ℕ) → q ≤ j → j < n → compare_exits (exit_in b x) (exit_in b (branch_in l j)) ≡ Ordering.lt
 
-  abbrev pub PlaceOf : List ℕ → ℕ → Branch → Place → Type 0
-  PlaceOf l n x (At p) = (p < n) × ((b : ℕ) → exit_in b x ≡ exit_in b (branch_in l p))
-  PlaceOf l n x (Before p) = Parts l n x p p
+  -- where x stands, or the place before which it belongs
+  abbrev pub PlaceOf : List ℕ → ℕ → Branch → Result ℕ ℕ → Type 0
+  PlaceOf l n x (Ok p) = (p < n) × ((b : ℕ) → exit_in b x ≡ exit_in b (branch_in l p))
+  PlaceOf l n x (Err p) = Parts l n x p p
 
   pub record EntryPut (l : List ℕ) (n : ℕ) (x : Branch) (l' : List ℕ) (r : ℕ) : Type 0 where
     pub long : length l' ≡ length l
     pub most : r ≤ n + 1
     pub ordered : Ordered l' r
     pub is : (b : ℕ) → exits_in b l' r ≡ put compare_exits (exit_in b x) (exits_in b l n)
-
--- those from p on stand one further
-pub record Shifted (l : List ℕ) (p n : ℕ) (l' : List ℕ) : Type 0 where
-  pub long : length l' ≡ length l
-  pub before : (j : ℕ) → j < p → branch_in l' j ≡ branch_in l j
-  pub behind : (j : ℕ) → p ≤ j → j < n → branch_in l' (j + 1) ≡ branch_in l j

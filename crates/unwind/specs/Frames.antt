@@ -30,35 +30,31 @@ pub record Small (g : Graph) (blocks edges : ℕ) : Type 0 where
   pub blocks_few : length g.blocks ≤ blocks
   pub edges_few : length g.edges ≤ edges
 
+-- the lengths of a frame for so many steps, paths, routes and blocks
+pub record Sizes (steps paths routes blocks starts nodes edges ends slots parts guards exits : ℕ) : Type 0 where
+  pub steps_most : steps ≤ 512
+  pub paths_most : paths ≤ 128
+  pub routes_most : routes ≤ 2 * steps
+  pub blocks_most : blocks < exits
+  pub starts_are : starts ≡ paths + 1
+  pub nodes_are : nodes ≡ 6 * slots
+  pub edges_are : edges ≡ 3 * steps
+  pub ends_are : ends ≡ 3 * paths
+  pub slots_are : slots ≡ routes + steps
+  pub parts_are : parts ≡ 16 * slots
+  pub guards_are : guards ≡ 16 * routes
+  pub exits_are : exits ≡ 6 * (steps + paths)
+
 -- THE FRAME of an addition: slices of these lengths, for no more than so many steps, paths, routes, blocks and edges; no block is
 -- linked and no node placed
 pub record Frame (y : RouteLayout) (g : Graph) (starts nodes edges ends stack roots head next bases heads parts guards landings exits : List ℕ) : Type 0 where
   pub steps : ℕ
-  pub paths : ℕ
-  pub routes : ℕ
-  pub blocks : ℕ
-  pub links : ℕ
-  pub few : Few y steps paths routes
-  pub small : Small g blocks links
-  pub steps_most : steps ≤ 512
-  pub paths_most : paths ≤ 128
-  pub routes_most : routes ≤ 2 * steps
-  pub blocks_most : blocks < 6 * (steps + paths)
-  pub starts_long : length starts ≡ paths + 1
-  pub nodes_long : length nodes ≡ 6 * (routes + steps)
-  pub edges_long : length edges ≡ 3 * steps
-  pub ends_long : length ends ≡ 3 * paths
-  pub stack_long : length stack ≡ 3 * steps
-  pub roots_long : length roots ≡ routes
-  pub head_long : length head ≡ blocks
-  pub next_long : length next ≡ links
+  pub few : Few y steps (length landings) (length roots)
+  pub small : Small g (length head) (length next)
+  pub sizes : Sizes steps (length landings) (length roots) (length head) (length starts) (length nodes) (length edges) (length ends) (length bases) (length parts) (length guards) (length exits)
+  pub stack_long : length stack ≡ length edges
+  pub heads_long : length heads ≡ length bases
   pub unlinked : head ≡ replicate (length head) 0
-  pub bases_long : length bases ≡ routes + steps
-  pub heads_long : length heads ≡ routes + steps
-  pub parts_long : length parts ≡ 16 * (routes + steps)
-  pub guards_long : length guards ≡ 16 * routes
-  pub landings_long : length landings ≡ paths
-  pub exits_long : length exits ≡ 6 * (steps + paths)
   pub unplaced : exits ≡ replicate (length exits) 0
 
 -- THE ROOM where the tries stand: for the links of the graph, of which there are none yet, for an instance of each node, and for

@@ -158,10 +158,6 @@ pub record HopsFit (hs : List Hop) : Type 0 where
   pub hops : length hs ≤ 2048
   pub lists : length (joined (λ h. h.calls) hs) ≤ 4096
 
--- the hops in l are out of blocks below b
-abbrev pub HopsBelow : RouteImage → ℕ → List ℕ → Type 0
-HopsBelow m b l = HopsHeld m b l l (hops_in m l)
-
 -- node i returns from blocks of its part alone
 pub record ReturnsWithin (parts returns : List ℕ) (i : ℕ) : Type 0 where
   pub within : (o : ℕ) → in_set returns i o ≡ true → in_set parts i o ≡ true

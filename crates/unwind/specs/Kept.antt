@@ -1,18 +1,19 @@
 -- A node that is stored unless it stands already: what is asked, and what is answered.
-use Rattle.std.specs.Prelude.{◌≡◌, List, ℕ, ◌+◌, ◌*◌, ◌≤◌, ◌<◌, length}
-use Rattle.std.proofs.Math.Option.{Option, none, some}
+use Rattle.std.specs.Prelude.{◌≡◌, List, ℕ, ◌+◌, ◌*◌, ◌≤◌, ◌<◌, length, Option, Some, None}
+use Rattle.std.proofs.Math.Option as maybe
 use Rattle.image.specs.Image.{RouteImage}
 use Rattle.unwind.specs.declared.tries.store.NodeRecord.{NodeRecord}
 use Rattle.unwind.specs.declared.tries.store.Counts.{Counts}
-use Rattle.unwind.specs.declared.tries.nodes.Place.{Place}
-use Rattle.unwind.specs.declared.tries.nodes.Place.TheVariants.{At, Nothing}
 use Rattle.unwind.specs.declared.tries.nodes.Interned.{Interned}
 use Rattle.addition.specs.Trie.{create}
 use Rattle.unwind.specs.Nodes.{node_in, nodes_in, Stored, NodeSmall}
 
-abbrev pub place_in : Place → Option ℕ
-place_in (At i) = some i
-place_in Nothing = none
+abbrev pub place_in : Option ℕ → maybe.Option ℕ
+place_in (Some i) = maybe.some i
+place_in None = maybe.none
+
+abbrev pub interned_at : ℕ → Counts → Interned
+interned_at place c = record { place = place; counts = c }
 
 -- the edges and ends of x are laid behind those that are stored, and there is room for it
 pub record Behind (nodes edges ends : List ℕ) (c : Counts) (x : NodeRecord) : Type 0 where

@@ -1,12 +1,11 @@
 -- The ends and edges of a node as they are laid behind those that are stored.
-use Rattle.std.specs.Prelude.{◌≡◌, List, ◌++◌, map, length}
-use Rattle.std.proofs.Math.Option.{Option, none, some}
+use Rattle.std.specs.Prelude.{◌≡◌, List, ◌++◌, map, length, Option, Some, None}
+use Rattle.std.proofs.Math.Option as maybe
 use Prim.Native.Nat.{ℕ, ◌+◌, ◌≤◌, ◌<◌, compare}
 use Rattle.image.specs.Image.{RouteImage}
 use Rattle.image.specs.Deal.{UnwindEnd, UnwindPath}
 use Rattle.unwind.specs.declared.tries.paths.Group.{Group}
-use Rattle.unwind.specs.declared.tries.lay.Ending.{Ending}
-use Rattle.unwind.specs.declared.tries.lay.Ending.TheVariants.{At, Nothing}
+use Rattle.unwind.specs.declared.tries.store.Branch.{Branch}
 use Rattle.addition.specs.Lists.{joined}
 use Rattle.addition.specs.Order.{Tagged, compare_tagged, compare_ends, sorted}
 use Rattle.addition.specs.Trie.{cut, end_on, ends_of}
@@ -19,15 +18,15 @@ unfoldable pub ends_list : List UnwindPath → List (Tagged UnwindEnd)
 ends_list ps = joined (λ p. end_on (cut p.steps) p.end) ps
 
 module _ (m : RouteImage) where
-  unfoldable pub ending_of : Ending → Option (Tagged UnwindEnd)
-  ending_of (At b) = some (end_at m b)
-  ending_of Nothing = none
+  unfoldable pub ending_of : Option Branch → maybe.Option (Tagged UnwindEnd)
+  ending_of (Some b) = maybe.some (end_at m b)
+  ending_of None = maybe.none
 
-  abbrev pub EndSmall : Ending → Type 0
-  EndSmall (At b) = BranchSmall b
-  EndSmall Nothing = Unit {0}
+  abbrev pub EndSmall : Option Branch → Type 0
+  EndSmall (Some b) = BranchSmall b
+  EndSmall None = Unit {0}
 
-  pub record EndOf (g : Group) (q : ℕ) (r : Ending) : Type 0 where
+  pub record EndOf (g : Group) (q : ℕ) (r : Option Branch) : Type 0 where
     pub is : ends_list (left_at m g q) ≡ list_of (ending_of r)
     pub small : EndSmall r
 

@@ -9,7 +9,6 @@ pub mod Kept
 pub mod Lower
 pub mod Seen
 pub mod Interns
-pub mod Tallied
 pub mod Routed
 pub mod Placed
 pub mod Most
@@ -32,3 +31,4 @@ pub mod Frames
 pub mod Members
 pub mod Alike
 pub mod Blockwise
+pub mod Sinks

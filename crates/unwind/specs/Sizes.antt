@@ -1,7 +1,6 @@
 -- How many hops there are, how many lists they have, and how many of them end at a block.
-use Rattle.std.specs.Prelude.{◌≡◌, cond, List, [], ℕ, ◌+◌, ◌*◌, ◌≤◌, eqb, length}
+use Rattle.std.specs.Prelude.{◌≡◌, cond, List, [], ℕ, ◌+◌, ◌≤◌, eqb, length}
 use Rattle.image.specs.Image.{RouteImage}
-use Rattle.graph.specs.Fold.{flat}
 use Rattle.unwind.specs.declared.emit.count.Sizes.{Sizes}
 use Rattle.addition.specs.Lists.{keep, joined}
 use Rattle.addition.specs.Ways.{Hop}
@@ -32,10 +31,3 @@ sizes_then z last end =
 -- of two lists of hops, one behind the other
 abbrev pub sizes_both : Sizes → Sizes → Sizes
 sizes_both p q = record { hops = p.hops + q.hops; lists = p.lists + q.lists; blocks = p.blocks + q.blocks }
-
--- of what f gives for each number below n, as many as n times w at most
-pub record Summed (f : ℕ → List Hop) (n w : ℕ) (z : Sizes) : Type 0 where
-  pub hops : z.hops ≤ n * w
-  pub lists : z.lists ≤ n * w
-  pub blocks : z.blocks ≤ n * w
-  pub of : HopsSize (flat f n) z

@@ -1,5 +1,5 @@
 -- What the look-up of blocks asks of a graph, and what it answers.
-use Rattle.std.specs.Prelude.{◌≡◌, true, List, ℕ, ◌≤◌, ◌<◌}
+use Rattle.std.specs.Prelude.{◌≡◌, true, List, ℕ, ◌≤◌, ◌<◌, Result, Ok, Err}
 use Rattle.image.specs.Refusal.{clear}
 use Rattle.image.specs.Deal.{UnwindPath, UnwindRoute}
 use Rattle.graph.specs.Graph.{Graph, block}
@@ -8,8 +8,8 @@ use Rattle.graph.specs.BlockSet.{member}
 use Rattle.graph.specs.Build.{table_check}
 use Rattle.graph.specs.Search.{Ends}
 use Rattle.graph.specs.WellFormed.{covers_table, copies_repeat, none_empty}
-use Rattle.unwind.specs.declared.blocks.Lead.{Lead}
-use Rattle.unwind.specs.declared.blocks.Lead.TheVariants.{Leads, Inside, Absent}
+use Rattle.graph.specs.declared.error.AddressBuildError.{AddressBuildError}
+use Rattle.graph.specs.declared.error.AddressBuildError.TheVariants.{MissingRouteEntry, RouteAddressNotBlockStart}
 use Rattle.addition.specs.Blocks.{Leading, leads, inside, absent, guarded}
 
 -- what is used of 21
@@ -38,7 +38,8 @@ route_of start end ps = record { start = start; end = end; paths = ps }
 abbrev pub Guards : Graph → ℕ → ℕ → List ℕ → Type 0
 Guards g start end w = (ps : List UnwindPath) → Has w (guarded g (route_of start end ps))
 
-abbrev pub leading_of : Lead → Leading
-leading_of (Leads b) = leads b
-leading_of Inside = inside
-leading_of Absent = absent
+-- what look-up answers: the block that the address a leads, or 17 or 14
+abbrev pub led : ℕ → Leading → Result ℕ AddressBuildError
+led a (leads b) = Ok b
+led a inside = Err (RouteAddressNotBlockStart a)
+led a absent = Err (MissingRouteEntry a)

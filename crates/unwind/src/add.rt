@@ -16,39 +16,34 @@ ghost use Rattle.unwind.specs.Answers.{add_answer, AddLeaves, Graphed, Spells, A
 use crate::add::frames::add_checked;
 use crate::checks::check_routes;
 use crate::hops::Hops;
-use graph::error::{AddressBuildError, Checked, form_error};
+use graph::error::AddressBuildError;
 use graph::rule::{built_count, is_graph};
 use graph::store::Words;
-use image::read::{ReadRoutes, read_routes};
+use image::read::read_routes;
 use image::section::RouteLayout;
 
-#[derive(Clone, Copy)]
-pub enum AddedRoutes {
-    Stored,
-    Refused(AddressBuildError),
-}
-
 // To a graph that any words hold, and routes that any bytes hold.
-pub fn add_unwind_routes(g: &mut Words, s: &[u8], h: &mut Hops) -> AddedRoutes
-    ensures { (add_answer s.now g.new h.new result ≡ add_routes (held_in g.old) s.now) × AddLeaves g.old g.new h.old h.new result × Spells s.now g.old g.new h.new result × Graphed g.new result }
+pub fn add_unwind_routes(g: &mut Words, s: &[u8], h: &mut Hops) -> Result<(), AddressBuildError>
+    ensures answer { add_answer s.now g.new h.new result ≡ add_routes (held_in g.old) s.now }
+    ensures leaves { AddLeaves g.old g.new h.old h.new result }
+    ensures spells { Spells s.now g.old g.new h.new result }
+    ensures graphed { Graphed g.new result }
 {
     if !is_graph(g) {
-        return AddedRoutes::Refused(AddressBuildError::NoGraph);
+        return Err(AddressBuildError::NoGraph);
     }
-    match read_routes(s) {
-        ReadRoutes::Refused(e) => AddedRoutes::Refused(form_error(e)),
-        ReadRoutes::Read(y) => add_read(g, s, y, h),
-    }
+    let y = read_routes(s)?;
+    add_read(g, s, y, h)
 }
 
 // To a graph, and routes that were read.
-fn add_read(g: &mut Words, s: &[u8], y: RouteLayout, h: &mut Hops) -> AddedRoutes
-    requires { (well_formed (held_in g.old) ≡ true) × AcceptedRoutes (routes_in s.now y) × RoutesThere s.now y }
+fn add_read(g: &mut Words, s: &[u8], y: RouteLayout, h: &mut Hops) -> Result<(), AddressBuildError>
+    requires graph { well_formed (held_in g.old) ≡ true }
+    requires accepted { AcceptedRoutes (routes_in s.now y) }
+    requires there { RoutesThere s.now y }
     ensures { Adds (routes_in s.now y) g.old g.new h.old h.new result }
 {
     let built = built_count(g);
-    if let Checked::Refused(e) = check_routes(g, built, s, y) {
-        return AddedRoutes::Refused(e);
-    }
+    check_routes(g, built, s, y)?;
     add_checked(g, built, s, y, h)
 }

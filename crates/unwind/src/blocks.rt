@@ -1,29 +1,43 @@
 // Look-up in a graph's own table and among its built blocks, which stand in the table's order.
-ghost use Rattle.std.specs.Prelude.{◌≡◌, ◌&&◌, ◌+◌, ◌*◌, ◌≤◌, ◌<◌, eqb, ltb, length};
+ghost use Rattle.std.specs.Prelude.{◌≡◌, true, false, ℕ, ◌&&◌, ◌+◌, ◌*◌, ◌≤◌, ◌<◌, eqb, ltb, length};
 ghost use Rattle.graph.specs.Graph.{block};
 ghost use Rattle.graph.specs.Words.{held_in};
-ghost use Rattle.graph.specs.Table.{below, is_start};
+ghost use Rattle.graph.specs.Table.{below, entry_at, is_start};
 ghost use Rattle.graph.specs.Lookup.{Finds};
 ghost use Rattle.graph.specs.WellFormed.{Built};
-ghost use Rattle.addition.specs.Blocks.{first_of, last_of, block_in, leading};
-ghost use Rattle.unwind.specs.Stands.{Stands, Before, Guards, leading_of};
+ghost use Rattle.addition.specs.Blocks.{first_of, last_of, leading};
+ghost use Rattle.unwind.specs.Stands.{Stands, Before, Guards, led};
 ghost use Rattle.unwind.specs.Placed.{set_at, SetChanged};
 ghost use Rattle.unwind.specs.Wanted.{RunsFit};
 
 use crate::slots::{empty_set, put_block};
 use crate::tries::store::number_at;
-use graph::found::Found;
+use graph::error::AddressBuildError;
 use graph::record::TableEntry;
 use graph::store::Words;
 use graph::store::blocks::block_in;
 use graph::store::table::{table_at, table_count, table_in};
 
-// Whether an address starts a built block, lies inside one, or starts no instruction.
-#[derive(Clone, Copy)]
-pub enum Lead {
-    Leads(usize),
-    Inside,
-    Absent,
+// How many of the n first places pass a test, by halving: those that pass stand before those that do not.
+fn passing<F: Fn(usize) -> bool>(n: usize, test: F) -> usize
+    requires callable { (k : ℕ) → k < n → F.pre test k }
+    requires before { (i j : ℕ) → i < j → j < n → F.post test j true → F.post test i true }
+    requires behind { (i j : ℕ) → i < j → j < n → F.post test i false → F.post test j false }
+    ensures most { result ≤ n }
+    ensures passes { (k : ℕ) → k < result → F.post test k true }
+    ensures fails { (k : ℕ) → result ≤ k → k < n → F.post test k false }
+{
+    let mut lo = 0;
+    let mut hi = n;
+    while lo < hi {
+        let mid = lo + (hi - lo) / 2;
+        if test(mid) {
+            lo = mid + 1;
+        } else {
+            hi = mid;
+        }
+    }
+    lo
 }
 
 // How many instructions start below a.
@@ -31,64 +45,56 @@ pub fn position(g: &Words, a: u64) -> usize
     requires { Stands (held_in g.now).graph }
     ensures { result ≡ below (held_in g.now).graph.table a }
 {
-    let mut lo = 0;
-    let mut hi = table_count(g);
-    while lo < hi {
-        let mid = lo + (hi - lo) / 2;
-        if table_in(g, mid).address < a {
-            lo = mid + 1;
-        } else {
-            hi = mid;
-        }
-    }
-    lo
+    passing(
+        table_count(g),
+        |p|
+            requires { p < length (held_in g.now).graph.table }
+            ensures { result ≡ ltb (entry_at (held_in g.entry.now).graph.table p).address a }
+        { table_in(g, p).address < a },
+    )
 }
 
 // The position of the instruction that starts at a.
-fn find_start(g: &Words, a: u64) -> Found
+fn find_start(g: &Words, a: u64) -> Option<usize>
     requires { Stands (held_in g.now).graph }
     ensures { Finds (held_in g.now).graph.table a result }
 {
     let p = position(g, a);
     if is_start(g, p, a) {
-        return Found::At(p);
+        return Some(p);
     }
-    Found::Nothing
+    None
 }
 
 // Whether an instruction starts at a, whose position is p.
 pub fn is_start(g: &Words, p: usize, a: u64) -> bool
-    requires { Stands (held_in g.now).graph × (p ≡ below (held_in g.now).graph.table a) }
+    requires stands { Stands (held_in g.now).graph }
+    requires position { p ≡ below (held_in g.now).graph.table a }
     ensures { result ≡ is_start (held_in g.now).graph.table a }
 {
-    if table_count(g) <= p {
-        return false;
-    }
-    table_in(g, p).address == a
+    p < table_count(g) && table_in(g, p).address == a
 }
 
 // How many of the built blocks begin before position p: the next one, if any, begins at p or behind it.
 pub fn block_from(g: &Words, built: usize, p: usize) -> usize
-    requires { Stands (held_in g.now).graph × Built (held_in g.now).graph built }
+    requires stands { Stands (held_in g.now).graph }
+    requires built { Built (held_in g.now).graph built }
     ensures { Before (held_in g.now).graph built p result }
 {
-    let mut lo = 0;
-    let mut hi = built;
-    while lo < hi {
-        let mid = lo + (hi - lo) / 2;
-        if block_in(g, mid).first < p as u64 {
-            lo = mid + 1;
-        } else {
-            hi = mid;
-        }
-    }
-    lo
+    passing(
+        built,
+        |b|
+            requires { b < length (held_in g.now).graph.blocks }
+            ensures { result ≡ ltb (block (held_in g.entry.now).graph b).first p }
+        { block_in(g, b).first < p as u64 },
+    )
 }
 
 // The hints of the built blocks: where the block that an address starts is likely to stand. Whatever the hints are, an
 // answer is the same: each is tried before it is believed.
 pub fn hint_blocks(g: &Words, built: usize, hints: &mut [u16])
-    requires { Stands (held_in g.now).graph × Built (held_in g.now).graph built }
+    requires stands { Stands (held_in g.now).graph }
+    requires built { Built (held_in g.now).graph built }
 {
     // The block of an empty table has no first instruction.
     if table_count(g) == 0 {
@@ -109,30 +115,26 @@ fn hint_slot(n: usize, a: u64) -> usize {
     (mixed * (n as u64 % 0x100000000) / 0x100000000) as usize
 }
 
-// The built block that a starts, or why there is none: by its hint, or else by halving.
-pub fn leading_block(g: &Words, built: usize, hints: &[u16], a: u64) -> Lead
-    requires { Stands (held_in g.now).graph × Built (held_in g.now).graph built }
-    ensures { leading_of result ≡ leading (held_in g.now).graph a }
+// The built block that a starts, or 14 or 17: by its hint, or else by halving.
+pub fn leading_block(
+    g: &Words,
+    built: usize,
+    hints: &[u16],
+    a: u64,
+) -> Result<usize, AddressBuildError>
+    requires stands { Stands (held_in g.now).graph }
+    requires built { Built (held_in g.now).graph built }
+    ensures { result ≡ led a (leading (held_in g.now).graph a) }
 {
     let b = number_at(hints, hint_slot(hints.len(), a));
     if starts_at(g, built, b, a) {
-        return Lead::Leads(b);
+        return Ok(b);
     }
     search(g, built, a)
 }
 
-// The block that is led, or 0 where none is.
-pub fn led_block(found: Lead) -> usize
-    ensures { result ≡ block_in (leading_of found) }
-{
-    match found {
-        Lead::Leads(b) => b,
-        Lead::Inside => 0,
-        Lead::Absent => 0,
-    }
-}
-
 // Whether b is a built block whose first instruction starts at a.
+#[tactic(auto, unfolding(addition::specs::Blocks::first_of))]
 fn starts_at(g: &Words, built: usize, b: usize, a: u64) -> bool
     requires { built ≤ length (held_in g.now).graph.blocks }
     ensures { result ≡ (ltb b built && ltb (block (held_in g.now).graph b).first (length (held_in g.now).graph.table) && eqb (first_of (held_in g.now).graph b).address a) }
@@ -141,33 +143,32 @@ fn starts_at(g: &Words, built: usize, b: usize, a: u64) -> bool
         return false;
     }
     let p = block_in(g, b).first as usize;
-    if table_count(g) <= p {
-        return false;
-    }
-    table_in(g, p).address == a
+    p < table_count(g) && table_in(g, p).address == a
 }
 
 // By halving.
-fn search(g: &Words, built: usize, a: u64) -> Lead
-    requires { Stands (held_in g.now).graph × Built (held_in g.now).graph built }
-    ensures { leading_of result ≡ leading (held_in g.now).graph a }
+fn search(g: &Words, built: usize, a: u64) -> Result<usize, AddressBuildError>
+    requires stands { Stands (held_in g.now).graph }
+    requires built { Built (held_in g.now).graph built }
+    ensures { result ≡ led a (leading (held_in g.now).graph a) }
 {
-    let Found::At(p) = find_start(g, a) else {
-        return Lead::Absent;
+    let Some(p) = find_start(g, a) else {
+        return Err(AddressBuildError::MissingRouteEntry { address: a });
     };
     let b = block_from(g, built, p);
-    if b < built {
-        if block_in(g, b).first == p as u64 {
-            return Lead::Leads(b);
-        }
+    if b < built && block_in(g, b).first == p as u64 {
+        return Ok(b);
     }
-    Lead::Inside
+    Err(AddressBuildError::RouteAddressNotBlockStart { address: a })
 }
 
 // Into set r the built blocks that a route from `start` to `end` covers and that keep their exception edge.
 pub fn guard_blocks(g: &Words, built: usize, start: u64, end: u64, guards: &mut [u64], r: usize)
-    requires { Stands (held_in g.now).graph × Built (held_in g.now).graph built × (16 * r + 16 ≤ length guards.old) }
-    ensures { Guards (held_in g.now).graph start end (set_at guards.new r) × SetChanged guards.old r guards.new }
+    requires stands { Stands (held_in g.now).graph }
+    requires built { Built (held_in g.now).graph built }
+    requires guards_fit { 16 * r + 16 ≤ length guards.old }
+    ensures guards { Guards (held_in g.now).graph start end (set_at guards.new r) }
+    ensures others { SetChanged guards.old r guards.new }
 {
     empty_set(guards, r);
     // The block of an empty table has no first instruction.
@@ -187,6 +188,7 @@ pub fn guard_blocks(g: &Words, built: usize, start: u64, end: u64, guards: &mut 
 }
 
 // The first instruction of block b, which stands in the table.
+#[tactic(auto, unfolding(addition::specs::Blocks::first_of))]
 pub fn first_of(g: &Words, b: usize) -> TableEntry
     requires { (b < length (held_in g.now).graph.blocks) × ((block (held_in g.now).graph b).first < length (held_in g.now).graph.table) }
     ensures { result ≡ first_of (held_in g.now).graph b }
@@ -195,6 +197,7 @@ pub fn first_of(g: &Words, b: usize) -> TableEntry
 }
 
 // The last instruction of block b.
+#[tactic(auto, unfolding(addition::specs::Blocks::last_of))]
 pub fn last_of(g: &Words, b: usize) -> TableEntry
     requires { RunsFit (held_in g.now).graph × (b < length (held_in g.now).graph.blocks) }
     ensures { result ≡ last_of (held_in g.now).graph b }

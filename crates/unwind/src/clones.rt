@@ -1,4 +1,5 @@
-// Copies of blocks, and of the edges that go out of them, node by node. `clone_region`.
+// Copies of blocks, and of the edges that go out of them, node by node. `clone_region`. A node is a number, with one number in
+// `bases` and sixteen in `parts`.
 ghost use Rattle.std.specs.Prelude.{◌≡◌, true, [], map, ℕ, ◌≤◌, ◌<◌, length};
 ghost use Rattle.graph.specs.Graph.{block};
 ghost use Rattle.graph.specs.Words.{held_in};
@@ -12,7 +13,7 @@ ghost use Rattle.unwind.specs.Clones.{list_of, copy_of, block_copies, edge_copie
 
 use crate::slots::set_at;
 use crate::tries::store::number_in;
-use graph::blockset::{Lowest, has_in, next_in, rank_in, sixteen};
+use graph::blockset::{has_in, next_in, rank_in};
 use graph::record::Edge;
 use graph::store::Words;
 use graph::store::blocks::{add_block, block_count, block_in};
@@ -27,7 +28,12 @@ pub fn clone_edge_count(
     parts: &[u64],
     n: usize,
 ) -> usize
-    requires { Ends (held_in g.now).graph × Roomy (held_in g.now).graph head.now next.now × Linked (held_in g.now).graph head.now next.now 0 × (n ≤ 1024) × SetsIn (held_in g.now).graph parts.now n × (n ≤ length bases.now) }
+    requires ends { Ends (held_in g.now).graph }
+    requires roomy { Roomy (held_in g.now).graph head.now next.now }
+    requires linked { Linked (held_in g.now).graph head.now next.now 0 }
+    requires few { n ≤ 1024 }
+    requires sets_in { SetsIn (held_in g.now).graph parts.now n }
+    requires bases_fit { n ≤ length bases.now }
     ensures { result ≡ length (edge_copies (held_in g.now).graph bases.now parts.now n) }
 {
     let mut count = 0;
@@ -42,27 +48,33 @@ pub fn clone_edge_count(
 
 // How many edges go out of the blocks of a set.
 fn edges_out(g: &Words, head: &[u16], next: &[u16], set: &[u64; 16]) -> usize
-    requires { Ends (held_in g.now).graph × Roomy (held_in g.now).graph head.now next.now × Linked (held_in g.now).graph head.now next.now 0 × ((b : ℕ) → member set.now b ≡ true → b < length (held_in g.now).graph.blocks) }
-    ensures { (result ≡ length (joined (outgoing (held_in g.now).graph) (list_of set.now))) × (result ≤ 4194304) }
+    requires ends { Ends (held_in g.now).graph }
+    requires roomy { Roomy (held_in g.now).graph head.now next.now }
+    requires linked { Linked (held_in g.now).graph head.now next.now 0 }
+    requires blocks { (b : ℕ) → member set.now b ≡ true → b < length (held_in g.now).graph.blocks }
+    ensures counts { result ≡ length (joined (outgoing (held_in g.now).graph) (list_of set.now)) }
+    ensures small { result ≤ 4194304 }
 {
-    sixteen(set);
     let blocks = block_count(g);
     let mut from = 0;
     let mut count = 0;
-    loop {
-        let Lowest::At(b) = next_in(set, from, blocks) else {
-            return count;
-        };
+    while let Some(b) = next_in(set, from, blocks) {
         from = b + 1;
         count += out_degree(g, head, next, b);
     }
+    count
 }
 
 // How many edges go out of block b.
 fn out_degree(g: &Words, head: &[u16], next: &[u16], b: usize) -> usize
-    requires { Ends (held_in g.now).graph × Roomy (held_in g.now).graph head.now next.now × Linked (held_in g.now).graph head.now next.now 0 × (b < length head.now) }
-    ensures { (result ≡ length (outgoing (held_in g.now).graph b)) × (result ≤ 4096) }
+    requires ends { Ends (held_in g.now).graph }
+    requires roomy { Roomy (held_in g.now).graph head.now next.now }
+    requires linked { Linked (held_in g.now).graph head.now next.now 0 }
+    requires block { b < length head.now }
+    ensures counts { result ≡ length (outgoing (held_in g.now).graph b) }
+    ensures small { result ≤ 4096 }
 {
+    // There is no slice to go over: each link says where the next one stands.
     let mut count = 0;
     let mut at = number_in(head, b);
     while at != 0 {
@@ -81,7 +93,11 @@ pub fn add_clone_edges(
     parts: &[u64],
     n: usize,
 )
-    requires { Ends (held_in g.old).graph × Roomy (held_in g.old).graph head.now next.now × Linked (held_in g.old).graph head.now next.now 0 × SetsIn (held_in g.old).graph parts.now n × (n ≤ length bases.now) }
+    requires ends { Ends (held_in g.old).graph }
+    requires roomy { Roomy (held_in g.old).graph head.now next.now }
+    requires linked { Linked (held_in g.old).graph head.now next.now 0 }
+    requires sets_in { SetsIn (held_in g.old).graph parts.now n }
+    requires bases_fit { n ≤ length bases.now }
     ensures { Added g.old g.new (edge_copies (held_in g.old).graph bases.now parts.now n) [] [] }
 {
     let m = edge_count(g);
@@ -96,16 +112,14 @@ pub fn add_clone_edges(
 
 // Adds those of the edges out of the blocks of a set, of which the first is copied as block `base`. The first m edges are linked.
 fn copy_edges(g: &mut Words, m: usize, head: &[u16], next: &[u16], base: usize, set: &[u64; 16])
-    requires { LinkedTo (held_in g.old).graph m head.now next.now × (base < 65536) × ((b : ℕ) → member set.now b ≡ true → b < length (held_in g.old).graph.blocks) }
+    requires linked { LinkedTo (held_in g.old).graph m head.now next.now }
+    requires base_small { base < 65536 }
+    requires blocks { (b : ℕ) → member set.now b ≡ true → b < length (held_in g.old).graph.blocks }
     ensures { Added g.old g.new (joined (λ b. map (copy_of base set.now) (outgoing (first_edges (held_in g.old).graph m) b)) (list_of set.now)) [] [] }
 {
-    sixteen(set);
     let blocks = block_count(g);
     let mut from = 0;
-    loop {
-        let Lowest::At(b) = next_in(set, from, blocks) else {
-            return;
-        };
+    while let Some(b) = next_in(set, from, blocks) {
         from = b + 1;
         copy_from(g, m, head, next, base, set, b);
     }
@@ -121,9 +135,12 @@ fn copy_from(
     set: &[u64; 16],
     b: usize,
 )
-    requires { LinkedTo (held_in g.old).graph m head.now next.now × (base < 65536) × (b < length head.now) }
+    requires linked { LinkedTo (held_in g.old).graph m head.now next.now }
+    requires base_small { base < 65536 }
+    requires block { b < length head.now }
     ensures { Added g.old g.new (map (copy_of base set.now) (outgoing (first_edges (held_in g.old).graph m) b)) [] [] }
 {
+    // There is no slice to go over: each link says where the next one stands.
     let mut at = number_in(head, b);
     while at != 0 {
         let e = at - 1;
@@ -138,7 +155,6 @@ fn copy_of(base: usize, set: &[u64; 16], e: Edge) -> Edge
     requires { base < 65536 }
     ensures { result ≡ copy_of base set.now e }
 {
-    sixteen(set);
     let source = base + rank_in(set, e.source as usize);
     let target = if has_in(set, e.target as usize) {
         base + rank_in(set, e.target as usize)
@@ -159,7 +175,8 @@ fn copy_of(base: usize, set: &[u64; 16], e: Edge) -> Edge
 
 // Adds the copies of the blocks of n nodes.
 pub fn add_clone_blocks(g: &mut Words, bases: &[u16], parts: &[u64], n: usize)
-    requires { SetsIn (held_in g.old).graph parts.now n × (n ≤ length bases.now) }
+    requires sets_in { SetsIn (held_in g.old).graph parts.now n }
+    requires bases_fit { n ≤ length bases.now }
     ensures { Stored g.old g.new (with_blocks (held_in g.old) (block_copies (held_in g.old).graph bases.now parts.now n)) }
 {
     for i in 0..n {
@@ -175,13 +192,9 @@ fn copy_blocks(g: &mut Words, set: &[u64; 16])
     requires { (b : ℕ) → member set.now b ≡ true → b < length (held_in g.old).graph.blocks }
     ensures { Stored g.old g.new (with_blocks (held_in g.old) (map (block (held_in g.old).graph) (list_of set.now))) }
 {
-    sixteen(set);
     let blocks = block_count(g);
     let mut from = 0;
-    loop {
-        let Lowest::At(b) = next_in(set, from, blocks) else {
-            return;
-        };
+    while let Some(b) = next_in(set, from, blocks) {
         from = b + 1;
         let copy = block_in(g, b);
         add_block(g, copy);

@@ -5,7 +5,7 @@ ghost use Rattle.unwind.specs.HopWords.{list_row, hop_at, rows_in, with_hop, wit
 
 pub type Hops = [u64; 18440];
 
-// A source, an end block or none, and where the lists of the hop stand.
+// A source, an end block or none, and where the lists of the hop stand: the five words of a row, as the C interface has them.
 #[derive(Clone, Copy)]
 pub struct HopRow {
     pub source: u64,
@@ -156,8 +156,7 @@ fn rows_in(h: &Hops, count: usize, most: usize) -> usize
     requires { count < 18440 }
     ensures { result ≡ min (get_or h.now count 0) most }
 {
-    let n = h[count] as usize;
-    if n < most { n } else { most }
+    (h[count] as usize).min(most)
 }
 
 // The words of w, stored from `at` on.
@@ -166,7 +165,5 @@ fn put_row(h: &mut Hops, at: usize, w: &[u64])
     ensures { (length h.old ≡ 18440) × (h.new ≡ sets h.old at w.now) }
 {
     whole(h);
-    for k in 0..w.len() {
-        h[at + k] = w[k];
-    }
+    h[at..at + w.len()].copy_from_slice(w);
 }

@@ -1,5 +1,6 @@
-// The checks of the trie's nodes, in creation order: 14 and 17 of the funclet, and then of the handlers at its ends.
-ghost use Rattle.std.specs.Prelude.{◌≡◌, List, ℕ, ◌+◌, ◌*◌, ◌≤◌, ◌<◌, length, set};
+// The checks of the trie's nodes, in creation order: 14 and 17 of the funclet, and then of the handlers at its ends. A node is a number,
+// with six numbers in one slice; an end has three in another.
+ghost use Rattle.std.specs.Prelude.{◌≡◌, OnOk, List, ℕ, ◌+◌, ◌*◌, ◌≤◌, ◌<◌, length, set};
 ghost use Rattle.image.specs.Refusal.{clear};
 ghost use Rattle.image.specs.Image.{routes_in};
 ghost use Rattle.image.specs.Deal.{end_of};
@@ -15,11 +16,10 @@ ghost use Rattle.unwind.specs.Placed.{funclet_at, Entered};
 ghost use Rattle.addition.specs.Instance.{entry_block};
 ghost use Rattle.addition.specs.Add.{funclet_check, end_check, node_check};
 
-use crate::blocks::{leading_block, led_block};
-use crate::checks::check_lead;
+use crate::blocks::leading_block;
 use crate::routes::{path_of, step_of};
 use crate::tries::store::{branch_in, node_in};
-use graph::error::Checked;
+use graph::error::AddressBuildError;
 use graph::resume::HANDLER;
 use graph::store::Words;
 use image::section::RouteLayout;
@@ -36,17 +36,19 @@ pub fn check_nodes(
     ends: &[u16],
     n: usize,
     entries: &mut [u16],
-) -> Checked
-    requires { Stands (held_in g.now).graph × Built (held_in g.now).graph built × RoutesThere s.now y × ((i : ℕ) → i < n → EndsThere nodes.now ends.now i) × (n ≤ length entries.old) }
-    ensures { ((edges : List ℕ) → check_of result ≡ checks (λ i. node_check (held_in g.now).graph (node_at (nodes_in (routes_in s.now y) nodes.now edges ends.now n) i)) n) × (check_of result ≡ clear → Entered (held_in g.now).graph (routes_in s.now y) nodes.now entries.new n) }
+) -> Result<(), AddressBuildError>
+    requires stands { Stands (held_in g.now).graph }
+    requires built { Built (held_in g.now).graph built }
+    requires there { RoutesThere s.now y }
+    requires ends_there { (i : ℕ) → i < n → EndsThere nodes.now ends.now i }
+    requires entries_fit { n ≤ length entries.old }
+    ensures check { (edges : List ℕ) → check_of result ≡ checks (λ i. node_check (held_in g.now).graph (node_at (nodes_in (routes_in s.now y) nodes.now edges ends.now n) i)) n }
+    ensures enters { OnOk result (Entered (held_in g.now).graph (routes_in s.now y) nodes.now entries.new n) }
 {
     for i in 0..n {
-        let found = check_node(g, built, hints, s, y, nodes, ends, i, entries);
-        let Checked::Clear = found else {
-            return found;
-        };
+        check_node(g, built, hints, s, y, nodes, ends, i, entries)?;
     }
-    Checked::Clear
+    Ok(())
 }
 
 // Node i: the funclet before the ends.
@@ -60,19 +62,21 @@ fn check_node(
     ends: &[u16],
     i: usize,
     entries: &mut [u16],
-) -> Checked
-    requires { Stands (held_in g.now).graph × Built (held_in g.now).graph built × RoutesThere s.now y × EndsThere nodes.now ends.now i × (i < length entries.old) }
-    ensures { ((edges : List ℕ) → check_of result ≡ node_check (held_in g.now).graph (node_in (routes_in s.now y) edges ends.now (record_in nodes.now i))) × (entries.new ≡ set entries.old i (entry_block (held_in g.now).graph (funclet_at (routes_in s.now y) nodes.now i))) }
+) -> Result<(), AddressBuildError>
+    requires stands { Stands (held_in g.now).graph }
+    requires built { Built (held_in g.now).graph built }
+    requires there { RoutesThere s.now y }
+    requires ends_there { EndsThere nodes.now ends.now i }
+    requires entries_fit { i < length entries.old }
+    ensures check { (edges : List ℕ) → check_of result ≡ node_check (held_in g.now).graph (node_in (routes_in s.now y) edges ends.now (record_in nodes.now i)) }
+    ensures entry { OnOk result (entries.new ≡ set entries.old i (entry_block (held_in g.now).graph (funclet_at (routes_in s.now y) nodes.now i))) }
 {
     let x = node_in(nodes, i);
-    let found = check_funclet(g, built, hints, s, y, x.funclet, i, entries);
-    let Checked::Clear = found else {
-        return found;
-    };
+    check_funclet(g, built, hints, s, y, x.funclet, i, entries)?;
     check_ends(g, built, hints, s, y, ends, x.first_end, x.ends)
 }
 
-// The funclet that step f - 1 names, whose entry is stored as that of node i; the root of a route, with 0, has none.
+// The funclet that step f - 1 names, whose entry is stored as that of node i unless it is refused; the root of a route, with 0, has none.
 fn check_funclet(
     g: &Words,
     built: usize,
@@ -82,18 +86,22 @@ fn check_funclet(
     f: usize,
     i: usize,
     entries: &mut [u16],
-) -> Checked
-    requires { Stands (held_in g.now).graph × Built (held_in g.now).graph built × RoutesThere s.now y × (i < length entries.old) }
-    ensures { (check_of result ≡ funclet_check (held_in g.now).graph (funclet_in (routes_in s.now y) f)) × (entries.new ≡ set entries.old i (entry_block (held_in g.now).graph (funclet_in (routes_in s.now y) f))) }
+) -> Result<(), AddressBuildError>
+    requires stands { Stands (held_in g.now).graph }
+    requires built { Built (held_in g.now).graph built }
+    requires there { RoutesThere s.now y }
+    requires entries_fit { i < length entries.old }
+    ensures check { check_of result ≡ funclet_check (held_in g.now).graph (funclet_in (routes_in s.now y) f) }
+    ensures entry { OnOk result (entries.new ≡ set entries.old i (entry_block (held_in g.now).graph (funclet_in (routes_in s.now y) f))) }
 {
     if f == 0 {
         entries[i] = 0;
-        return Checked::Clear;
+        return Ok(());
     }
     let a = step_of(s, y, f - 1).value;
-    let found = leading_block(g, built, hints, a);
-    entries[i] = led_block(found) as u16;
-    check_lead(found, a)
+    let b = leading_block(g, built, hints, a)?;
+    entries[i] = b as u16;
+    Ok(())
 }
 
 // The n ends from `first` on.
@@ -106,28 +114,36 @@ fn check_ends(
     ends: &[u16],
     first: usize,
     n: usize,
-) -> Checked
-    requires { Stands (held_in g.now).graph × Built (held_in g.now).graph built × RoutesThere s.now y × (3 * (first + n) ≤ length ends.now) }
+) -> Result<(), AddressBuildError>
+    requires stands { Stands (held_in g.now).graph }
+    requires built { Built (held_in g.now).graph built }
+    requires there { RoutesThere s.now y }
+    requires ends_fit { 3 * (first + n) ≤ length ends.now }
     ensures { check_of result ≡ checks (λ k. end_check (held_in g.now).graph (end_of (path_record (routes_in s.now y) (branch_in ends.now (first + k)).what))) n }
 {
     for k in 0..n {
-        let found = check_end(g, built, hints, s, y, branch_in(ends, first + k).what);
-        let Checked::Clear = found else {
-            return found;
-        };
+        check_end(g, built, hints, s, y, branch_in(ends, first + k).what)?;
     }
-    Checked::Clear
+    Ok(())
 }
 
 // The end of path p.
-fn check_end(g: &Words, built: usize, hints: &[u16], s: &[u8], y: RouteLayout, p: usize) -> Checked
-    requires { Stands (held_in g.now).graph × Built (held_in g.now).graph built × RoutesThere s.now y }
+fn check_end(
+    g: &Words,
+    built: usize,
+    hints: &[u16],
+    s: &[u8],
+    y: RouteLayout,
+    p: usize,
+) -> Result<(), AddressBuildError>
+    requires stands { Stands (held_in g.now).graph }
+    requires built { Built (held_in g.now).graph built }
+    requires there { RoutesThere s.now y }
     ensures { check_of result ≡ end_check (held_in g.now).graph (end_of (path_record (routes_in s.now y) p)) }
 {
     let path = path_of(s, y, p);
     if path.end == HANDLER {
-        let found = leading_block(g, built, hints, path.handler);
-        return check_lead(found, path.handler);
+        leading_block(g, built, hints, path.handler)?;
     }
-    Checked::Clear
+    Ok(())
 }

@@ -12,19 +12,20 @@ ghost use Rattle.addition.specs.Lists.{keep, is_empty};
 ghost use Rattle.addition.specs.Part.{ordinary, outgoing, returning as is_returning};
 ghost use Rattle.addition.specs.Add.{funclet_check};
 ghost use Rattle.unwind.specs.Stands.{Stands};
-ghost use Rattle.unwind.specs.PartSearch.{Barriers, Returners, PartFrom, bounded, Takes};
+ghost use Rattle.unwind.specs.PartSearch.{Barriers, Returners, PartFrom, bounded, followed, Takes};
 ghost use Rattle.unwind.specs.Placed.{set_at, SetChanged, funclet_at, Named, Entered};
 
 use crate::blocks::last_of;
 use crate::slots::{in_set, put_block};
 use crate::tries::store::{node_in, number_in};
-use graph::blockset::{Lowest, has_in, lowest_below, put_in, take_from};
+use graph::blockset::{has_in, lowest_below, put_in, take_from};
+use graph::record::Edge;
 use graph::store::Words;
 use graph::store::blocks::block_count;
 use graph::store::edges::edge_in;
 use image::section::RouteLayout;
 
-// 'without an ExceptionUnwind or Call edge'
+// Kinds and flows are numbers, since C reads the graph. 'without an ExceptionUnwind or Call edge'
 const CALL: u64 = 5;
 
 pub const EXCEPTION_UNWIND: u64 = 7;
@@ -37,7 +38,7 @@ const JUMP: u64 = 6;
 fn is_ordinary(kind: u64) -> bool
     ensures { result ≡ (not (eqb kind 7) && not (eqb kind 5)) }
 {
-    (kind != EXCEPTION_UNWIND) & (kind != CALL)
+    kind != EXCEPTION_UNWIND && kind != CALL
 }
 
 // The built blocks that start a funclet of the routes, put into an empty set: the entries of the n nodes but the roots.
@@ -51,9 +52,16 @@ pub fn funclet_entries(
     heads: &[u16],
     set: &mut [u64; 16],
 )
-    requires { Stands (held_in g.now).graph × Named (routes_in s.now y) nodes.now n × ((i : ℕ) → i < n → funclet_check (held_in g.now).graph (funclet_at (routes_in s.now y) nodes.now i) ≡ clear) × Entered (held_in g.now).graph (routes_in s.now y) nodes.now heads.now n × (6 * n ≤ length nodes.now) × (n ≤ length heads.now) × (set.old ≡ none) }
+    requires stands { Stands (held_in g.now).graph }
+    requires named { Named (routes_in s.now y) nodes.now n }
+    requires leads { (i : ℕ) → i < n → funclet_check (held_in g.now).graph (funclet_at (routes_in s.now y) nodes.now i) ≡ clear }
+    requires entered { Entered (held_in g.now).graph (routes_in s.now y) nodes.now heads.now n }
+    requires nodes_fit { 6 * n ≤ length nodes.now }
+    requires heads_fit { n ≤ length heads.now }
+    requires empty { set.old ≡ none }
     ensures { Barriers (held_in g.now).graph (routes_of (routes_in s.now y)) set.new }
 {
+    // A node is a number: it has six numbers in one slice, and one in the other.
     for i in 0..n {
         if node_in(nodes, i).funclet != 0 {
             put_in(set, number_in(heads, i));
@@ -63,9 +71,13 @@ pub fn funclet_entries(
 
 // Whether an ordinary edge goes out of block b, along edges that are linked by their source.
 fn leads_on(g: &Words, head: &[u16], next: &[u16], b: usize) -> bool
-    requires { Stands (held_in g.now).graph × Roomy (held_in g.now).graph head.now next.now × Linked (held_in g.now).graph head.now next.now 0 × (b < length (held_in g.now).graph.blocks) }
+    requires stands { Stands (held_in g.now).graph }
+    requires roomy { Roomy (held_in g.now).graph head.now next.now }
+    requires linked { Linked (held_in g.now).graph head.now next.now 0 }
+    requires block { b < length (held_in g.now).graph.blocks }
     ensures { result ≡ not (is_empty (keep ordinary (outgoing (held_in g.now).graph b))) }
 {
+    // There is no slice to go over: each link says where the next one stands.
     let mut at = number_in(head, b);
     while at != 0 {
         let e = at - 1;
@@ -78,23 +90,24 @@ fn leads_on(g: &Words, head: &[u16], next: &[u16], b: usize) -> bool
 }
 
 // Whether block b returns. Its edges are looked at only if it ends in a jump.
+#[tactic(auto, unfolding(addition::specs::Part::returning))]
 fn returning(g: &Words, head: &[u16], next: &[u16], b: usize) -> bool
-    requires { Stands (held_in g.now).graph × Roomy (held_in g.now).graph head.now next.now × Linked (held_in g.now).graph head.now next.now 0 × (b < length (held_in g.now).graph.blocks) }
+    requires stands { Stands (held_in g.now).graph }
+    requires roomy { Roomy (held_in g.now).graph head.now next.now }
+    requires linked { Linked (held_in g.now).graph head.now next.now 0 }
+    requires block { b < length (held_in g.now).graph.blocks }
     ensures { result ≡ is_returning (held_in g.now).graph b }
 {
     let flow = last_of(g, b).flow;
-    if flow == RETURN {
-        return true;
-    }
-    if flow != JUMP {
-        return false;
-    }
-    !leads_on(g, head, next, b)
+    flow == RETURN || flow == JUMP && !leads_on(g, head, next, b)
 }
 
 // The blocks that return, put into an empty set.
 pub fn returning_blocks(g: &Words, head: &[u16], next: &[u16], set: &mut [u64; 16])
-    requires { Stands (held_in g.now).graph × (set.old ≡ none) × Roomy (held_in g.now).graph head.now next.now × Linked (held_in g.now).graph head.now next.now 0 }
+    requires stands { Stands (held_in g.now).graph }
+    requires empty { set.old ≡ none }
+    requires roomy { Roomy (held_in g.now).graph head.now next.now }
+    requires linked { Linked (held_in g.now).graph head.now next.now 0 }
     ensures { Returners (held_in g.now).graph set.new }
 {
     let n = block_count(g);
@@ -116,17 +129,21 @@ pub fn part_of(
     parts: &mut [u64],
     i: usize,
 )
-    requires { Stands (held_in g.now).graph × Roomy (held_in g.now).graph head.now next.now × Linked (held_in g.now).graph head.now next.now 0 × (start < length (held_in g.now).graph.blocks) × (is_built (held_in g.now).graph start ≡ true) × (16 * i + 16 ≤ length parts.old) × (set_at parts.old i ≡ none) }
-    ensures { PartFrom (held_in g.now).graph barriers.now start (set_at parts.new i) × SetChanged parts.old i parts.new }
+    requires stands { Stands (held_in g.now).graph }
+    requires roomy { Roomy (held_in g.now).graph head.now next.now }
+    requires linked { Linked (held_in g.now).graph head.now next.now 0 }
+    requires start_in { start < length (held_in g.now).graph.blocks }
+    requires start_built { is_built (held_in g.now).graph start ≡ true }
+    requires parts_fit { 16 * i + 16 ≤ length parts.old }
+    requires empty { set_at parts.old i ≡ none }
+    ensures part { PartFrom (held_in g.now).graph barriers.now start (set_at parts.new i) }
+    ensures others { SetChanged parts.old i parts.new }
 {
     let blocks = block_count(g);
     let mut pending = [0u64; 16];
     put_block(parts, i, start);
     put_in(&mut pending, start);
-    loop {
-        let Lowest::At(b) = lowest_below(&pending, blocks) else {
-            return;
-        };
+    while let Some(b) = lowest_below(&pending, blocks) {
         take_from(&mut pending, b);
         follow(g, head, next, barriers, b, parts, i, &mut pending);
     }
@@ -143,9 +160,15 @@ fn follow(
     i: usize,
     pending: &mut [u64; 16],
 )
-    requires { Stands (held_in g.now).graph × Roomy (held_in g.now).graph head.now next.now × Linked (held_in g.now).graph head.now next.now 0 × (b < length (held_in g.now).graph.blocks) × (16 * i + 16 ≤ length parts.old) }
-    ensures { ((e : ℕ) → Follows (bounded (held_in g.now).graph barriers.now e) b (length (held_in g.now).graph.edges) (set_at parts.old i) pending.old (set_at parts.new i) pending.new) × SetChanged parts.old i parts.new }
+    requires stands { Stands (held_in g.now).graph }
+    requires roomy { Roomy (held_in g.now).graph head.now next.now }
+    requires linked { Linked (held_in g.now).graph head.now next.now 0 }
+    requires block { b < length (held_in g.now).graph.blocks }
+    requires parts_fit { 16 * i + 16 ≤ length parts.old }
+    ensures follows { (e : ℕ) → Follows (bounded (held_in g.now).graph barriers.now e) b (length (held_in g.now).graph.edges) (set_at parts.old i) pending.old (set_at parts.new i) pending.new }
+    ensures others { SetChanged parts.old i parts.new }
 {
+    // There is no slice to go over: each link says where the next one stands.
     let mut at = head[b] as usize;
     while at != 0 {
         let e = at - 1;
@@ -163,20 +186,24 @@ fn take_edge(
     i: usize,
     pending: &mut [u64; 16],
 )
-    requires { (k < length (held_in g.now).graph.edges) × Ends (held_in g.now).graph × (16 * i + 16 ≤ length parts.old) }
-    ensures { Takes barriers.now (edge (held_in g.now).graph k) (set_at parts.old i) pending.old (set_at parts.new i) pending.new × SetChanged parts.old i parts.new }
+    requires edge { k < length (held_in g.now).graph.edges }
+    requires ends { Ends (held_in g.now).graph }
+    requires parts_fit { 16 * i + 16 ≤ length parts.old }
+    ensures takes { Takes barriers.now (edge (held_in g.now).graph k) (set_at parts.old i) pending.old (set_at parts.new i) pending.new }
+    ensures others { SetChanged parts.old i parts.new }
 {
     let e = edge_in(g, k);
-    if !is_ordinary(e.kind) {
-        return;
-    }
     let t = e.target as usize;
-    if has_in(barriers, t) {
-        return;
+    if is_followed(barriers, &e) && !in_set(parts, i, t) {
+        put_block(parts, i, t);
+        put_in(pending, t);
     }
-    if in_set(parts, i, t) {
-        return;
-    }
-    put_block(parts, i, t);
-    put_in(pending, t);
+}
+
+// Whether an edge is followed: it is ordinary and enters no barrier.
+#[tactic(auto, unfolding(crate::specs::PartSearch::followed, addition::specs::Part::ordinary))]
+fn is_followed(barriers: &[u64; 16], e: &Edge) -> bool
+    ensures { result ≡ followed barriers.now e.now }
+{
+    is_ordinary(e.kind) && !has_in(barriers, e.target as usize)
 }

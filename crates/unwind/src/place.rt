@@ -1,4 +1,5 @@
-// Instances in scratch: for each node of the trie the first of its copies, its entry and its blocks.
+// Instances in scratch: for each node of the trie the first of its copies, its entry and its blocks. A node is a number, the same in
+// each slice.
 ghost use Rattle.std.specs.Prelude.{◌≡◌, true, ℕ, ◌+◌, ◌*◌, ◌≤◌, ◌<◌, length, get_or};
 ghost use Rattle.image.specs.Refusal.{clear};
 ghost use Rattle.image.specs.Image.{routes_in};
@@ -19,7 +20,7 @@ use crate::part::part_of;
 use crate::slots::{empty_set, members_of, put_set, set_at};
 use crate::tries::store::{node_in, number_in};
 use graph::blockset::rank_in;
-use graph::error::{AddressBuildError, Checked};
+use graph::error::AddressBuildError;
 use graph::store::Words;
 use graph::store::blocks::block_count;
 use image::section::RouteLayout;
@@ -42,8 +43,14 @@ pub fn place_nodes(
     entries: &mut [u16],
     parts: &mut [u64],
     firsts: &mut [u16],
-) -> Checked
-    requires { Ready (held_in g.now).graph (routes_in s.now y) head.now next.now barriers.now × ((i : ℕ) → i < n → funclet_check (held_in g.now).graph (funclet_at (routes_in s.now y) nodes.now i) ≡ clear) × Slots n bases.old entries.old parts.old × Firsts (held_in g.now).graph (routes_in s.now y) nodes.now firsts.old 0 × (n ≤ 544) × (6 * n ≤ length nodes.now) × Entered (held_in g.now).graph (routes_in s.now y) nodes.now entries.old n }
+) -> Result<(), AddressBuildError>
+    requires ready { Ready (held_in g.now).graph (routes_in s.now y) head.now next.now barriers.now }
+    requires leads { (i : ℕ) → i < n → funclet_check (held_in g.now).graph (funclet_at (routes_in s.now y) nodes.now i) ≡ clear }
+    requires slots { Slots n bases.old entries.old parts.old }
+    requires firsts { Firsts (held_in g.now).graph (routes_in s.now y) nodes.now firsts.old 0 }
+    requires few { n ≤ 544 }
+    requires nodes_fit { 6 * n ≤ length nodes.now }
+    requires entered { Entered (held_in g.now).graph (routes_in s.now y) nodes.now entries.old n }
     ensures { PlacedAll (held_in g.now).graph (routes_in s.now y) nodes.now n bases.new entries.new parts.new (check_of result) }
 {
     let mut base = block_count(g);
@@ -52,10 +59,10 @@ pub fn place_nodes(
             g, s, y, nodes, head, next, barriers, i, base, bases, entries, parts, firsts,
         );
         if MOST < base {
-            return Checked::Refused(AddressBuildError::TooManyBlocks);
+            return Err(AddressBuildError::TooManyBlocks);
         }
     }
-    Checked::Clear
+    Ok(())
 }
 
 // Node i: the first of its funclet has the original blocks, a later one copies, which begin with block `base`; how many.
@@ -74,8 +81,16 @@ fn place_node(
     parts: &mut [u64],
     firsts: &mut [u16],
 ) -> usize
-    requires { Ready (held_in g.now).graph (routes_in s.now y) head.now next.now barriers.now × ((j : ℕ) → j ≤ i → funclet_check (held_in g.now).graph (funclet_at (routes_in s.now y) nodes.now j) ≡ clear) × Slots (i + 1) bases.old entries.old parts.old × Firsts (held_in g.now).graph (routes_in s.now y) nodes.now firsts.old i × (i < 544) × (base ≤ 1024) × (6 * i + 6 ≤ length nodes.now) × (get_or entries.old i 0 ≡ entry_block (held_in g.now).graph (funclet_at (routes_in s.now y) nodes.now i)) }
-    ensures { Placing (held_in g.now).graph (routes_in s.now y) nodes.now i base result bases.old entries.old parts.old bases.new entries.new parts.new × Firsts (held_in g.now).graph (routes_in s.now y) nodes.now firsts.new (i + 1) }
+    requires ready { Ready (held_in g.now).graph (routes_in s.now y) head.now next.now barriers.now }
+    requires leads { (j : ℕ) → j ≤ i → funclet_check (held_in g.now).graph (funclet_at (routes_in s.now y) nodes.now j) ≡ clear }
+    requires slots { Slots (i + 1) bases.old entries.old parts.old }
+    requires firsts { Firsts (held_in g.now).graph (routes_in s.now y) nodes.now firsts.old i }
+    requires few { i < 544 }
+    requires base_most { base ≤ 1024 }
+    requires nodes_fit { 6 * i + 6 ≤ length nodes.now }
+    requires entry_is { get_or entries.old i 0 ≡ entry_block (held_in g.now).graph (funclet_at (routes_in s.now y) nodes.now i) }
+    ensures placing { Placing (held_in g.now).graph (routes_in s.now y) nodes.now i base result bases.old entries.old parts.old bases.new entries.new parts.new }
+    ensures firsts { Firsts (held_in g.now).graph (routes_in s.now y) nodes.now firsts.new (i + 1) }
 {
     let f = node_in(nodes, i).funclet;
     let entry = number_in(entries, i);
@@ -104,8 +119,15 @@ fn place_first(
     entries: &mut [u16],
     parts: &mut [u64],
 )
-    requires { Stands (held_in g.now).graph × Roomy (held_in g.now).graph head.now next.now × Linked (held_in g.now).graph head.now next.now 0 × ((f ≡ 0 → ⊥) → (entry < length (held_in g.now).graph.blocks) × (is_built (held_in g.now).graph entry ≡ true)) × Slots (i + 1) bases.old entries.old parts.old × (entry ≤ 1024) }
-    ensures { NodePlaced i 0 entry (set_at parts.new i) bases.old entries.old parts.old bases.new entries.new parts.new × (f ≡ 0 → set_at parts.new i ≡ none) × ((f ≡ 0 → ⊥) → PartFrom (held_in g.now).graph barriers.now entry (set_at parts.new i)) }
+    requires stands { Stands (held_in g.now).graph }
+    requires roomy { Roomy (held_in g.now).graph head.now next.now }
+    requires linked { Linked (held_in g.now).graph head.now next.now 0 }
+    requires leads { (f ≡ 0 → ⊥) → (entry < length (held_in g.now).graph.blocks) × (is_built (held_in g.now).graph entry ≡ true) }
+    requires slots { Slots (i + 1) bases.old entries.old parts.old }
+    requires entry_most { entry ≤ 1024 }
+    ensures placed { NodePlaced i 0 entry (set_at parts.new i) bases.old entries.old parts.old bases.new entries.new parts.new }
+    ensures root { f ≡ 0 → set_at parts.new i ≡ none }
+    ensures part { (f ≡ 0 → ⊥) → PartFrom (held_in g.now).graph barriers.now entry (set_at parts.new i) }
 {
     bases[i] = 0;
     entries[i] = entry as u16;
@@ -126,8 +148,13 @@ fn place_clone(
     entries: &mut [u16],
     parts: &mut [u64],
 ) -> usize
-    requires { (first < i) × Slots (i + 1) bases.old entries.old parts.old × (base ≤ 1024) × (blocks ≤ 1024) }
-    ensures { NodePlaced i base (base + count (member (set_at parts.old first)) (get_or entries.old first 0)) (set_at parts.old first) bases.old entries.old parts.old bases.new entries.new parts.new × (members_of parts.old blocks first ≤ result) × (result ≤ size_of (set_at parts.old first)) }
+    requires earlier { first < i }
+    requires slots { Slots (i + 1) bases.old entries.old parts.old }
+    requires base_most { base ≤ 1024 }
+    requires blocks_most { blocks ≤ 1024 }
+    ensures placed { NodePlaced i base (base + count (member (set_at parts.old first)) (get_or entries.old first 0)) (set_at parts.old first) bases.old entries.old parts.old bases.new entries.new parts.new }
+    ensures members { members_of parts.old blocks first ≤ result }
+    ensures size { result ≤ size_of (set_at parts.old first) }
 {
     let part = set_at(parts, first);
     let entry = base + rank_in(&part, number_in(entries, first));
@@ -139,7 +166,8 @@ fn place_clone(
 // The slot of the funclet that step f - 1 names, by its entry; 0 at the root of a route.
 fn slot_of(f: usize, entry: usize) -> usize
     requires { entry ≤ 1024 }
-    ensures { (f ≡ 0 → result ≡ 0) × ((f ≡ 0 → ⊥) → result ≡ entry + 1) }
+    ensures root { f ≡ 0 → result ≡ 0 }
+    ensures funclet { (f ≡ 0 → ⊥) → result ≡ entry + 1 }
 {
     if f == 0 {
         return 0;
@@ -157,7 +185,11 @@ fn store_node(
     entries: &mut [u16],
     parts: &mut [u64],
 )
-    requires { (i < length bases.old) × (i < length entries.old) × (16 * i + 16 ≤ length parts.old) × (base < 65536) × (entry < 65536) }
+    requires bases_fit { i < length bases.old }
+    requires entries_fit { i < length entries.old }
+    requires parts_fit { 16 * i + 16 ≤ length parts.old }
+    requires base_small { base < 65536 }
+    requires entry_small { entry < 65536 }
     ensures { NodePlaced i base entry part.now bases.old entries.old parts.old bases.new entries.new parts.new }
 {
     bases[i] = base as u16;

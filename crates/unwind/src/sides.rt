@@ -9,7 +9,7 @@ ghost use Rattle.unwind.specs.Stands.{Stands};
 ghost use Rattle.unwind.specs.Nodes.{path_record};
 ghost use Rattle.unwind.specs.Sides.{landing, Lands, GuardsIn};
 
-use crate::blocks::{guard_blocks, leading_block, led_block};
+use crate::blocks::{guard_blocks, leading_block};
 use crate::emit::entries::LEAVE;
 use crate::routes::path_of;
 use crate::tries::store::branch_in;
@@ -18,14 +18,18 @@ use graph::store::Words;
 use image::access::route_in;
 use image::section::RouteLayout;
 
-// Where it resumes: in the block that it came from.
+// Where it resumes: in the block that it came from. A landing is one number, as it is kept in a slice of numbers.
 pub const STAY: usize = 65534;
 
 const PROPAGATE: u64 = 1;
 
 // The blocks that each route guards, a set for each.
+#[tactic(auto, using(crate::proofs::RouteChecks::counted))]
 pub fn guard_routes(g: &Words, built: usize, s: &[u8], y: RouteLayout, guards: &mut [u64])
-    requires { Stands (held_in g.now).graph × Built (held_in g.now).graph built × (16 * length (routes_in s.now y).routes ≤ length guards.old) × RoutesThere s.now y }
+    requires stands { Stands (held_in g.now).graph }
+    requires built { Built (held_in g.now).graph built }
+    requires guards_fit { 16 * length (routes_in s.now y).routes ≤ length guards.old }
+    requires there { RoutesThere s.now y }
     ensures { GuardsIn (held_in g.now).graph (routes_in s.now y) guards.new (length (routes_in s.now y).routes) }
 {
     let n = y.routes.count as usize;
@@ -46,9 +50,14 @@ pub fn land_ends(
     n: usize,
     landings: &mut [u16],
 )
-    requires { Stands (held_in g.now).graph × Built (held_in g.now).graph built × (n ≤ length landings.old) × RoutesThere s.now y × (3 * n ≤ length ends.now) }
+    requires stands { Stands (held_in g.now).graph }
+    requires built { Built (held_in g.now).graph built }
+    requires landings_fit { n ≤ length landings.old }
+    requires there { RoutesThere s.now y }
+    requires ends_fit { 3 * n ≤ length ends.now }
     ensures { Lands (held_in g.now).graph (routes_in s.now y) ends.now landings.new n }
 {
+    // An end is a number: it has three numbers in one slice, and one in the other.
     for k in 0..n {
         let b = land(g, built, hints, s, y, branch_in(ends, k).what);
         landings[k] = b as u16;
@@ -57,8 +66,11 @@ pub fn land_ends(
 
 // Where the end of path p lands: at the block of its handler, or LEAVE where it propagates, or STAY where it resumes.
 fn land(g: &Words, built: usize, hints: &[u16], s: &[u8], y: RouteLayout, p: usize) -> usize
-    requires { Stands (held_in g.now).graph × Built (held_in g.now).graph built × RoutesThere s.now y }
-    ensures { (result ≡ landing (held_in g.now).graph (end_of (path_record (routes_in s.now y) p))) × (result < 65536) }
+    requires stands { Stands (held_in g.now).graph }
+    requires built { Built (held_in g.now).graph built }
+    requires there { RoutesThere s.now y }
+    ensures lands { result ≡ landing (held_in g.now).graph (end_of (path_record (routes_in s.now y) p)) }
+    ensures small { result < 65536 }
 {
     let path = path_of(s, y, p);
     if path.end == PROPAGATE {
@@ -67,5 +79,5 @@ fn land(g: &Words, built: usize, hints: &[u16], s: &[u8], y: RouteLayout, p: usi
     if path.end != HANDLER {
         return STAY;
     }
-    led_block(leading_block(g, built, hints, path.handler))
+    leading_block(g, built, hints, path.handler).unwrap_or(0)
 }

@@ -15,9 +15,7 @@ pub fn set_at(sets: &[u64], i: usize) -> [u64; 16]
 {
     let at = 16 * i;
     let mut w = [0u64; 16];
-    for k in 0..16 {
-        w[k] = sets[at + k];
-    }
+    w.copy_from_slice(&sets[at..at + 16]);
     w
 }
 
@@ -40,9 +38,7 @@ pub fn put_set(sets: &mut [u64], i: usize, w: &[u64; 16])
 {
     sixteen(w);
     let at = 16 * i;
-    for k in 0..16 {
-        sets[at + k] = w[k];
-    }
+    sets[at..at + 16].copy_from_slice(w);
 }
 
 // Empties set i.
@@ -51,9 +47,7 @@ pub fn empty_set(sets: &mut [u64], i: usize)
     ensures { SetPut sets.old i none sets.new }
 {
     let at = 16 * i;
-    for k in 0..16 {
-        sets[at + k] = 0;
-    }
+    sets[at..at + 16].fill(0);
 }
 
 // Block b into set i.

@@ -5,7 +5,7 @@ mod keys;
 mod lay;
 pub mod nodes;
 mod paths;
-mod runs;
+pub mod runs;
 pub mod store;
 
 ghost use Rattle.std.specs.Prelude.{◌≡◌};
@@ -17,7 +17,7 @@ ghost use Rattle.unwind.specs.Routed.{Scratch, TriesIn};
 
 use crate::tries::intern::intern;
 use crate::tries::paths::{Group, path_starts};
-use crate::tries::store::{Counts, counts_in};
+use crate::tries::store::Counts;
 use image::access::route_in;
 use image::section::RouteLayout;
 
@@ -37,19 +37,33 @@ pub fn intern_routes(
 {
     path_starts(s, y, starts);
     let n = y.routes.count as usize;
-    let mut tally = [0; 3];
+    let mut counts = Counts {
+        nodes: 0,
+        edges: 0,
+        ends: 0,
+    };
     let mut seen = [0u64; 16];
     let mut first = 0;
     for r in 0..n {
         let count = route_in(s, y.routes, r).paths;
         let group = root_group(r, first, count);
         let root = intern(
-            s, y, starts, group, nodes, edges, ends, stack, &mut seen, &mut tally, 0,
+            s,
+            y,
+            starts,
+            group,
+            nodes,
+            edges,
+            ends,
+            stack,
+            &mut seen,
+            &mut counts,
+            0,
         );
         roots[r] = root as u16;
         first += count;
     }
-    counts_in(&tally)
+    counts
 }
 
 // All paths of a route: none has gone a step yet.

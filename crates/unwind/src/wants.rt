@@ -31,7 +31,7 @@ use crate::tries::store::{Counts, branch_in, node_in, number_in};
 use crate::wants::find::find_hop;
 use crate::wants::flags::{Flags, likely_hop, mark_wanted};
 use crate::wants::wanter::{Wanter, is_idle, next_block, wanter_of};
-use graph::blockset::{Lowest, rank_in};
+use graph::blockset::rank_in;
 use graph::record::Edge;
 use graph::store::Words;
 use graph::store::edges::add_edge;
@@ -123,10 +123,7 @@ fn want_set(
     ensures { AllWanted h.now g.old done.old (λ m ends. set_ways m nodes.now edges.now ends heads.now landings.now x.node x.route x.base (set_at parts.now x.node) (wanter_set guards.now (returns_in parts.now returners.now) routes k)) g.new done.new }
 {
     let mut from = 0;
-    loop {
-        let Lowest::At(o) = next_block(guards, parts, returners, routes, k, from, blocks) else {
-            return;
-        };
+    while let Some(o) = next_block(guards, parts, returners, routes, k, from, blocks) {
         from = o + 1;
         let b = place_of(x, parts, o);
         want_from(

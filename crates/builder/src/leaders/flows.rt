@@ -7,14 +7,13 @@ ghost use Rattle.builder.specs.Cursor.{cursor_at, given_for};
 ghost use Rattle.builder.specs.Slots.{slot_in};
 ghost use Rattle.builder.specs.Marks.{Marked, Passed, slot_mark, case_mark, edge_mark, switch_cases, names_mark, lead_mark, case_target, edge_target};
 
-use crate::cursor::{Cursor, Given};
+use crate::cursor::Cursor;
+use crate::flow::{SWITCH, ends_block, flow_under};
 use crate::marks::{mark_at, mark_target};
-use crate::transfer::{Origin, Slot, ends_block, flow_under, slots_of};
+use crate::transfer::{Origin, Slot, slots_of};
 use image::access::{case_in, edge_in};
 use image::record::Instruction;
 use image::section::Layout;
-
-const SWITCH: u64 = 12;
 
 // Where a block ends at the cursor's instruction: the targets that it names, and the next instruction. The start at its
 // end is that one, or else a gap or an overlap marks it.
@@ -24,21 +23,30 @@ pub fn mark_lead(
     y: Layout,
     hints: &[u16],
     c: Cursor,
-    given: Given,
+    given: Option<usize>,
     i: Instruction,
 )
-    requires { Passed (image_in s.now y) × (c ≡ cursor_at (image_in s.now y) c.at) × (c.at < y.code.instructions.count) × (given ≡ given_for (image_in s.now y) c.at) × (i ≡ instruction_at (image_in s.now y) c.at) × ImageThere s.now y }
+    requires passed { Passed (image_in s.now y) }
+    requires cursor { c ≡ cursor_at (image_in s.now y) c.at }
+    requires at_in { c.at < y.code.instructions.count }
+    requires given { given ≡ given_for (image_in s.now y) c.at }
+    requires instruction { i ≡ instruction_at (image_in s.now y) c.at }
+    requires there { ImageThere s.now y }
     ensures { Marked y.code.instructions.count (lead_mark (image_in s.now y) c.at) marks.old marks.new }
 {
     match given {
-        Given::Edges(n) => mark_given(marks, s, y, hints, c, n),
-        Given::Flow => mark_flow(marks, s, y, hints, c, i),
+        Some(n) => mark_given(marks, s, y, hints, c, n),
+        None => mark_flow(marks, s, y, hints, c, i),
     }
 }
 
 // The targets of n given edges, and the next instruction.
 fn mark_given(marks: &mut [bool; 512], s: &[u8], y: Layout, hints: &[u16], c: Cursor, n: usize)
-    requires { Passed (image_in s.now y) × (c ≡ cursor_at (image_in s.now y) c.at) × (c.at < y.code.instructions.count) × (given_for (image_in s.now y) c.at ≡ Given.Edges n) × ImageThere s.now y }
+    requires passed { Passed (image_in s.now y) }
+    requires cursor { c ≡ cursor_at (image_in s.now y) c.at }
+    requires at_in { c.at < y.code.instructions.count }
+    requires given { given_for (image_in s.now y) c.at ≡ Some n }
+    requires there { ImageThere s.now y }
     ensures { Marked y.code.instructions.count (lead_mark (image_in s.now y) c.at) marks.old marks.new }
 {
     let at = c.at;
@@ -48,7 +56,12 @@ fn mark_given(marks: &mut [bool; 512], s: &[u8], y: Layout, hints: &[u16], c: Cu
 
 // The targets of a flow that ends its block, and the next instruction.
 fn mark_flow(marks: &mut [bool; 512], s: &[u8], y: Layout, hints: &[u16], c: Cursor, i: Instruction)
-    requires { Passed (image_in s.now y) × (c ≡ cursor_at (image_in s.now y) c.at) × (c.at < y.code.instructions.count) × (given_for (image_in s.now y) c.at ≡ Given.Flow) × (i ≡ instruction_at (image_in s.now y) c.at) × ImageThere s.now y }
+    requires passed { Passed (image_in s.now y) }
+    requires cursor { c ≡ cursor_at (image_in s.now y) c.at }
+    requires at_in { c.at < y.code.instructions.count }
+    requires given { given_for (image_in s.now y) c.at ≡ None }
+    requires instruction { i ≡ instruction_at (image_in s.now y) c.at }
+    requires there { ImageThere s.now y }
     ensures { Marked y.code.instructions.count (lead_mark (image_in s.now y) c.at) marks.old marks.new }
 {
     let header = y.header;
@@ -68,7 +81,10 @@ fn mark_names(
     first: usize,
     i: Instruction,
 )
-    requires { Passed (image_in s.now y) × (i.flow ≤ 12) × (first + i.cases ≤ y.code.cases.count) × ImageThere s.now y }
+    requires passed { Passed (image_in s.now y) }
+    requires flow { i.flow ≤ 12 }
+    requires cases_in { first + i.cases ≤ y.code.cases.count }
+    requires there { ImageThere s.now y }
     ensures { Marked y.code.instructions.count (names_mark (image_in s.now y) first i) marks.old marks.new }
 {
     let header = y.header;
@@ -92,21 +108,19 @@ fn mark_slot(
     i: Instruction,
     slot: Slot,
 )
-    requires { Passed (image_in s.now y) × ImageThere s.now y }
+    requires passed { Passed (image_in s.now y) }
+    requires there { ImageThere s.now y }
     ensures { Marked y.code.instructions.count (slot_mark (image_in s.now y) i (slot_in slot)) marks.old marks.new }
 {
-    let table = y.code.instructions;
-    let from = slot.1;
-    match from {
-        Origin::Named => mark_target(marks, s, table, hints, i.target),
-        Origin::Nowhere => {},
-        Origin::Computed => {},
-        Origin::End => {},
+    if let Origin::Named = slot.1 {
+        mark_target(marks, s, y.code.instructions, hints, i.target);
     }
 }
 
 fn mark_cases(marks: &mut [bool; 512], s: &[u8], y: Layout, hints: &[u16], first: usize, n: usize)
-    requires { Passed (image_in s.now y) × (first + n ≤ y.code.cases.count) × ImageThere s.now y }
+    requires passed { Passed (image_in s.now y) }
+    requires cases_in { first + n ≤ y.code.cases.count }
+    requires there { ImageThere s.now y }
     ensures { Marked y.code.instructions.count (case_mark (image_in s.now y) first n) marks.old marks.new }
 {
     for k in 0..n {
@@ -115,7 +129,9 @@ fn mark_cases(marks: &mut [bool; 512], s: &[u8], y: Layout, hints: &[u16], first
 }
 
 fn mark_case(marks: &mut [bool; 512], s: &[u8], y: Layout, hints: &[u16], k: usize)
-    requires { Passed (image_in s.now y) × ImageThere s.now y × (k < y.code.cases.count) }
+    requires passed { Passed (image_in s.now y) }
+    requires there { ImageThere s.now y }
+    requires k_in { k < y.code.cases.count }
     ensures { Marked y.code.instructions.count (case_target (image_in s.now y) k) marks.old marks.new }
 {
     let table = y.code.instructions;
@@ -125,7 +141,9 @@ fn mark_case(marks: &mut [bool; 512], s: &[u8], y: Layout, hints: &[u16], k: usi
 }
 
 fn mark_edges(marks: &mut [bool; 512], s: &[u8], y: Layout, hints: &[u16], first: usize, n: usize)
-    requires { Passed (image_in s.now y) × (first + n ≤ y.code.edges.count) × ImageThere s.now y }
+    requires passed { Passed (image_in s.now y) }
+    requires edges_in { first + n ≤ y.code.edges.count }
+    requires there { ImageThere s.now y }
     ensures { Marked y.code.instructions.count (edge_mark (image_in s.now y) first n) marks.old marks.new }
 {
     for k in 0..n {
@@ -134,7 +152,9 @@ fn mark_edges(marks: &mut [bool; 512], s: &[u8], y: Layout, hints: &[u16], first
 }
 
 fn mark_edge(marks: &mut [bool; 512], s: &[u8], y: Layout, hints: &[u16], k: usize)
-    requires { Passed (image_in s.now y) × ImageThere s.now y × (k < y.code.edges.count) }
+    requires passed { Passed (image_in s.now y) }
+    requires there { ImageThere s.now y }
+    requires k_in { k < y.code.edges.count }
     ensures { Marked y.code.instructions.count (edge_target (image_in s.now y) k) marks.old marks.new }
 {
     let table = y.code.instructions;

@@ -9,15 +9,14 @@ ghost use Rattle.builder.specs.Marks.{Marked, Passed, route_range, route_range_m
 
 use crate::marks::{mark_range, mark_target_if};
 use crate::ranges::range_check;
+use graph::resume::{FUNCLET, HANDLER};
 use image::access::{path_in, route_in, step_in};
 use image::section::Layout;
 
-const FUNCLET: u64 = 0;
-
-const HANDLER: u64 = 0;
-
 pub fn mark_routes(marks: &mut [bool; 512], s: &[u8], y: Layout, hints: &[u16], code_end: u64)
-    requires { Passed (image_in s.now y) × (code_end ≡ code_end_of (table_of (image_in s.now y))) × ImageThere s.now y }
+    requires passed { Passed (image_in s.now y) }
+    requires code_ends { code_end ≡ code_end_of (table_of (image_in s.now y)) }
+    requires there { ImageThere s.now y }
     ensures { Marked y.code.instructions.count (route_mark (image_in s.now y)) marks.old marks.new }
 {
     mark_route_ranges(marks, s, y, hints, code_end);
@@ -26,7 +25,9 @@ pub fn mark_routes(marks: &mut [bool; 512], s: &[u8], y: Layout, hints: &[u16], 
 }
 
 fn mark_route_ranges(marks: &mut [bool; 512], s: &[u8], y: Layout, hints: &[u16], code_end: u64)
-    requires { Passed (image_in s.now y) × (code_end ≡ code_end_of (table_of (image_in s.now y))) × ImageThere s.now y }
+    requires passed { Passed (image_in s.now y) }
+    requires code_ends { code_end ≡ code_end_of (table_of (image_in s.now y)) }
+    requires there { ImageThere s.now y }
     ensures { Marked y.code.instructions.count (route_range_mark (image_in s.now y)) marks.old marks.new }
 {
     let n = y.routes.routes.count as usize;
@@ -43,7 +44,10 @@ fn mark_route_range(
     code_end: u64,
     r: usize,
 )
-    requires { Passed (image_in s.now y) × (code_end ≡ code_end_of (table_of (image_in s.now y))) × (r < y.routes.routes.count) × ImageThere s.now y }
+    requires passed { Passed (image_in s.now y) }
+    requires code_ends { code_end ≡ code_end_of (table_of (image_in s.now y)) }
+    requires r_in { r < y.routes.routes.count }
+    requires there { ImageThere s.now y }
     ensures { Marked y.code.instructions.count (route_range (image_in s.now y) r) marks.old marks.new }
 {
     let route = route_in(s, y.routes.routes, r);
@@ -54,7 +58,8 @@ fn mark_route_range(
 
 // The funclets that the routes' paths enter.
 fn mark_funclets(marks: &mut [bool; 512], s: &[u8], y: Layout, hints: &[u16])
-    requires { Passed (image_in s.now y) × ImageThere s.now y }
+    requires passed { Passed (image_in s.now y) }
+    requires there { ImageThere s.now y }
     ensures { Marked y.code.instructions.count (funclet_mark (image_in s.now y)) marks.old marks.new }
 {
     let n = y.routes.steps.count as usize;
@@ -64,7 +69,9 @@ fn mark_funclets(marks: &mut [bool; 512], s: &[u8], y: Layout, hints: &[u16])
 }
 
 fn mark_funclet(marks: &mut [bool; 512], s: &[u8], y: Layout, hints: &[u16], k: usize)
-    requires { Passed (image_in s.now y) × ImageThere s.now y × (k < y.routes.steps.count) }
+    requires passed { Passed (image_in s.now y) }
+    requires there { ImageThere s.now y }
+    requires k_in { k < y.routes.steps.count }
     ensures { Marked y.code.instructions.count (step_mark (image_in s.now y) k) marks.old marks.new }
 {
     let step = step_in(s, y.routes.steps, k);
@@ -80,7 +87,8 @@ fn mark_funclet(marks: &mut [bool; 512], s: &[u8], y: Layout, hints: &[u16], k: 
 
 // The handlers at which they end.
 fn mark_path_ends(marks: &mut [bool; 512], s: &[u8], y: Layout, hints: &[u16])
-    requires { Passed (image_in s.now y) × ImageThere s.now y }
+    requires passed { Passed (image_in s.now y) }
+    requires there { ImageThere s.now y }
     ensures { Marked y.code.instructions.count (path_end_mark (image_in s.now y)) marks.old marks.new }
 {
     let n = y.routes.paths.count as usize;
@@ -90,7 +98,9 @@ fn mark_path_ends(marks: &mut [bool; 512], s: &[u8], y: Layout, hints: &[u16])
 }
 
 fn mark_path_end(marks: &mut [bool; 512], s: &[u8], y: Layout, hints: &[u16], k: usize)
-    requires { Passed (image_in s.now y) × ImageThere s.now y × (k < y.routes.paths.count) }
+    requires passed { Passed (image_in s.now y) }
+    requires there { ImageThere s.now y }
+    requires k_in { k < y.routes.paths.count }
     ensures { Marked y.code.instructions.count (path_mark (image_in s.now y) k) marks.old marks.new }
 {
     let path = path_in(s, y.routes.paths, k);

@@ -13,7 +13,6 @@ ghost use Rattle.addition.specs.Add.{funclet_check};
 ghost use Rattle.unwind.specs.Answers.{Adds, Sized, RoutesChecked};
 ghost use Rattle.unwind.specs.Frames.{Frame, Room, Placements};
 
-use crate::add::AddedRoutes;
 use crate::add::store::add_placed;
 use crate::blocks::hint_blocks;
 use crate::hops::Hops;
@@ -23,7 +22,7 @@ use crate::place::place_nodes;
 use crate::sides::{guard_routes, land_ends};
 use crate::tries::intern_routes;
 use crate::tries::store::Counts;
-use graph::error::Checked;
+use graph::error::AddressBuildError;
 use graph::reach::link;
 use graph::store::Words;
 use image::section::RouteLayout;
@@ -49,8 +48,10 @@ pub fn add_framed(
     guards: &mut [u64],
     landings: &mut [u16],
     exits: &mut [u16],
-) -> AddedRoutes
-    requires { RoutesChecked (held_in g.old) built (routes_in s.now y) × RoutesThere s.now y × Frame y (held_in g.old).graph starts.old nodes.old edges.old ends.old stack.old roots.old head.old next.old bases.old heads.old parts.old guards.old landings.old exits.old }
+) -> Result<(), AddressBuildError>
+    requires checked { RoutesChecked (held_in g.old) built (routes_in s.now y) }
+    requires there { RoutesThere s.now y }
+    requires frame { Frame y (held_in g.old).graph starts.old nodes.old edges.old ends.old stack.old roots.old head.old next.old bases.old heads.old parts.old guards.old landings.old exits.old }
     ensures { Adds (routes_in s.now y) g.old g.new h.old h.new result }
 {
     let stored = intern_routes(s, y, starts, nodes, edges, ends, stack, roots);
@@ -81,19 +82,19 @@ fn add_tries(
     guards: &mut [u64],
     landings: &mut [u16],
     exits: &mut [u16],
-) -> AddedRoutes
-    requires { RoutesChecked (held_in g.old) built (routes_in s.now y) × TriesIn (routes_in s.now y) nodes.now edges.now ends.now roots.now stored × Room (held_in g.old).graph (routes_in s.now y) edges.now ends.now head.old next.old bases.old heads.old parts.old guards.old landings.old exits.old stored × RoutesThere s.now y × (stored.nodes ≤ length hints.old) }
+) -> Result<(), AddressBuildError>
+    requires checked { RoutesChecked (held_in g.old) built (routes_in s.now y) }
+    requires tries { TriesIn (routes_in s.now y) nodes.now edges.now ends.now roots.now stored }
+    requires room { Room (held_in g.old).graph (routes_in s.now y) edges.now ends.now head.old next.old bases.old heads.old parts.old guards.old landings.old exits.old stored }
+    requires there { RoutesThere s.now y }
+    requires hints_fit { stored.nodes ≤ length hints.old }
     ensures { Adds (routes_in s.now y) g.old g.new h.old h.new result }
 {
     let n = stored.nodes;
     hint_blocks(g, built, hints);
-    if let Checked::Refused(e) = check_nodes(g, built, hints, s, y, nodes, ends, n, heads) {
-        return AddedRoutes::Refused(e);
-    }
+    check_nodes(g, built, hints, s, y, nodes, ends, n, heads)?;
     link(g, head, next);
-    if let Checked::Refused(e) = place(g, s, y, nodes, n, head, next, bases, heads, parts, exits) {
-        return AddedRoutes::Refused(e);
-    }
+    place(g, s, y, nodes, n, head, next, bases, heads, parts, exits)?;
     add_instances(
         g, built, hints, s, y, h, nodes, edges, ends, roots, stored, head, next, bases, heads,
         parts, guards, landings, exits,
@@ -113,8 +114,17 @@ fn place(
     heads: &mut [u16],
     parts: &mut [u64],
     firsts: &mut [u16],
-) -> Checked
-    requires { Stands (held_in g.now).graph × Roomy (held_in g.now).graph head.now next.now × Linked (held_in g.now).graph head.now next.now 0 × ((i : ℕ) → i < n → funclet_check (held_in g.now).graph (funclet_at (routes_in s.now y) nodes.now i) ≡ clear) × Slots n bases.old heads.old parts.old × Firsts (held_in g.now).graph (routes_in s.now y) nodes.now firsts.old 0 × (n ≤ 544) × (6 * n ≤ length nodes.now) × Named (routes_in s.now y) nodes.now n × Entered (held_in g.now).graph (routes_in s.now y) nodes.now heads.old n }
+) -> Result<(), AddressBuildError>
+    requires stands { Stands (held_in g.now).graph }
+    requires roomy { Roomy (held_in g.now).graph head.now next.now }
+    requires linked { Linked (held_in g.now).graph head.now next.now 0 }
+    requires leads { (i : ℕ) → i < n → funclet_check (held_in g.now).graph (funclet_at (routes_in s.now y) nodes.now i) ≡ clear }
+    requires slots { Slots n bases.old heads.old parts.old }
+    requires firsts { Firsts (held_in g.now).graph (routes_in s.now y) nodes.now firsts.old 0 }
+    requires few { n ≤ 544 }
+    requires nodes_fit { 6 * n ≤ length nodes.now }
+    requires named { Named (routes_in s.now y) nodes.now n }
+    requires entered { Entered (held_in g.now).graph (routes_in s.now y) nodes.now heads.old n }
     ensures { PlacedAll (held_in g.now).graph (routes_in s.now y) nodes.now n bases.new heads.new parts.new (check_of result) }
 {
     let mut barriers = [0u64; 16];
@@ -146,8 +156,11 @@ fn add_instances(
     guards: &mut [u64],
     landings: &mut [u16],
     exits: &mut [u16],
-) -> AddedRoutes
-    requires { RoutesChecked (held_in g.old) built (routes_in s.now y) × Placements (held_in g.old).graph (routes_in s.now y) nodes.now edges.now ends.now roots.now head.now next.now bases.now heads.now parts.now guards.old landings.old exits.old stored × RoutesThere s.now y × (stored.nodes ≤ length hints.old) }
+) -> Result<(), AddressBuildError>
+    requires checked { RoutesChecked (held_in g.old) built (routes_in s.now y) }
+    requires placements { Placements (held_in g.old).graph (routes_in s.now y) nodes.now edges.now ends.now roots.now head.now next.now bases.now heads.now parts.now guards.old landings.old exits.old stored }
+    requires there { RoutesThere s.now y }
+    requires hints_fit { stored.nodes ≤ length hints.old }
     ensures { Sized (routes_in s.now y) g.old g.new h.old h.new result }
 {
     let mut returners = [0u64; 16];

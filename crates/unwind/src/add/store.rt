@@ -13,16 +13,14 @@ ghost use Rattle.addition.specs.Add.{addition, size_check};
 ghost use Rattle.unwind.specs.Answers.{Sized};
 ghost use Rattle.unwind.specs.Frames.{AtHand};
 
-use crate::add::AddedRoutes;
 use crate::add::most::most_ways;
 use crate::clones::{add_clone_blocks, add_clone_edges, clone_edge_count};
-use crate::emit::all::add_hops;
+use crate::emit::all::{add_hops, count_hops};
 use crate::emit::count::Sizes;
-use crate::emit::total::count_hops;
 use crate::hops::{HOP_MOST, Hops, LIST_MOST};
 use crate::tries::store::Counts;
 use crate::wants::add_route_edges;
-use graph::error::{AddressBuildError, Checked};
+use graph::error::AddressBuildError;
 use graph::store::Words;
 use graph::store::blocks::block_count;
 use graph::store::edges::{EDGE_MOST, edge_count};
@@ -49,24 +47,25 @@ pub fn add_placed(
     stored: Counts,
     originals: &mut [u16],
     exits: &mut [u16],
-) -> AddedRoutes
-    requires { AtHand (held_in g.old) (routes_in s.now y) nodes.now edges.now ends.now roots.now head.now next.now bases.now heads.now parts.now (returns_in parts.now returners.now) guards.now landings.now exits.old stored × RoutesThere s.now y × (stored.nodes ≤ length originals.old) }
+) -> Result<(), AddressBuildError>
+    requires at_hand { AtHand (held_in g.old) (routes_in s.now y) nodes.now edges.now ends.now roots.now head.now next.now bases.now heads.now parts.now (returns_in parts.now returners.now) guards.now landings.now exits.old stored }
+    requires there { RoutesThere s.now y }
+    requires originals_fit { stored.nodes ≤ length originals.old }
     ensures { Sized (routes_in s.now y) g.old g.new h.old h.new result }
 {
-    if let Checked::Refused(e) = check_sizes(
+    check_sizes(
         g, s, y, nodes, edges, ends, roots, head, next, bases, heads, parts, returners, guards,
         landings, stored, originals, exits,
-    ) {
-        return AddedRoutes::Refused(e);
-    }
+    )?;
     store_addition(
         g, s, y, h, nodes, edges, ends, roots, head, next, bases, heads, parts, returners, guards,
         landings, stored, originals, exits,
     );
-    AddedRoutes::Stored
+    Ok(())
 }
 
 // 19 and 20 of what is to be stored; 18 let it pass. Hops are counted where the most that there can be would be too many.
+#[tactic(auto, using(crate::proofs::RouteChecks::counted))]
 fn check_sizes(
     g: &Words,
     s: &[u8],
@@ -86,8 +85,10 @@ fn check_sizes(
     stored: Counts,
     originals: &mut [u16],
     exits: &mut [u16],
-) -> Checked
-    requires { AtHand (held_in g.now) (routes_in s.now y) nodes.now edges.now ends.now roots.now head.now next.now bases.now heads.now parts.now (returns_in parts.now returners.now) guards.now landings.now exits.old stored × RoutesThere s.now y × (stored.nodes ≤ length originals.old) }
+) -> Result<(), AddressBuildError>
+    requires at_hand { AtHand (held_in g.now) (routes_in s.now y) nodes.now edges.now ends.now roots.now head.now next.now bases.now heads.now parts.now (returns_in parts.now returners.now) guards.now landings.now exits.old stored }
+    requires there { RoutesThere s.now y }
+    requires originals_fit { stored.nodes ≤ length originals.old }
     ensures { check_of result ≡ size_check (addition (held_in g.now).graph (routes_of (routes_in s.now y))) }
 {
     let copies = clone_edge_count(g, head, next, bases, parts, stored.nodes);
@@ -106,8 +107,8 @@ fn check_sizes(
         lists: most,
         blocks: most,
     };
-    if let Checked::Clear = check_counts(g, copies, bound) {
-        return Checked::Clear;
+    if check_counts(g, copies, bound).is_ok() {
+        return Ok(());
     }
     let sizes = count_hops(
         g, s, y, nodes, edges, ends, heads, landings, roots, guards, bases, parts, returners,
@@ -118,23 +119,17 @@ fn check_sizes(
 
 // So many copies of edges, and hops of these sizes, beside the edges that there are.
 #[tactic(auto, using(crate::proofs::StoreLaws::hops_over, crate::proofs::StoreLaws::edges_held))]
-fn check_counts(g: &Words, copies: usize, sizes: Sizes) -> Checked
+fn check_counts(g: &Words, copies: usize, sizes: Sizes) -> Result<(), AddressBuildError>
     ensures { check_of result ≡ (unless (leb (length (held_in g.now).graph.edges + copies + sizes.blocks) 4096) (refusal 19 0 0) then unless (leb sizes.hops 2048 && leb sizes.lists 4096) (refusal 20 0 0)) }
 {
     let left = EDGE_MOST - edge_count(g);
-    if left < copies {
-        return Checked::Refused(AddressBuildError::TooManyEdges);
+    if left < copies || left - copies < sizes.blocks {
+        return Err(AddressBuildError::TooManyEdges);
     }
-    if left - copies < sizes.blocks {
-        return Checked::Refused(AddressBuildError::TooManyEdges);
+    if HOP_MOST < sizes.hops || LIST_MOST < sizes.lists {
+        return Err(AddressBuildError::TooManyHops);
     }
-    if HOP_MOST < sizes.hops {
-        return Checked::Refused(AddressBuildError::TooManyHops);
-    }
-    if LIST_MOST < sizes.lists {
-        return Checked::Refused(AddressBuildError::TooManyHops);
-    }
-    Checked::Clear
+    Ok(())
 }
 
 // An addition that has room: the hops, the copies of edges before those of blocks, and the route edges.
@@ -159,8 +154,12 @@ fn store_addition(
     originals: &mut [u16],
     exits: &mut [u16],
 )
-    requires { AtHand (held_in g.old) (routes_in s.now y) nodes.now edges.now ends.now roots.now head.now next.now bases.now heads.now parts.now (returns_in parts.now returners.now) guards.now landings.now exits.old stored × (size_check (addition (held_in g.old).graph (routes_of (routes_in s.now y))) ≡ clear) × RoutesThere s.now y × (stored.nodes ≤ length originals.old) }
-    ensures { Laid g.old g.new (addition (held_in g.old).graph (routes_of (routes_in s.now y))).graph × HopsLaid (routes_in s.now y) h.old h.new (addition (held_in g.old).graph (routes_of (routes_in s.now y))).hops }
+    requires at_hand { AtHand (held_in g.old) (routes_in s.now y) nodes.now edges.now ends.now roots.now head.now next.now bases.now heads.now parts.now (returns_in parts.now returners.now) guards.now landings.now exits.old stored }
+    requires sizes { size_check (addition (held_in g.old).graph (routes_of (routes_in s.now y))) ≡ clear }
+    requires there { RoutesThere s.now y }
+    requires originals_fit { stored.nodes ≤ length originals.old }
+    ensures graph { Laid g.old g.new (addition (held_in g.old).graph (routes_of (routes_in s.now y))).graph }
+    ensures hops { HopsLaid (routes_in s.now y) h.old h.new (addition (held_in g.old).graph (routes_of (routes_in s.now y))).hops }
 {
     let blocks = block_count(g);
     add_hops(

@@ -16,15 +16,7 @@ pub fn is_worth(nodes: usize, landings: &[u16], ends: usize) -> bool
     requires { ends ≤ length landings.now }
     ensures { result ≡ true → Moves landings.now ends }
 {
-    if nodes < WORTH {
-        return false;
-    }
-    for k in 0..ends {
-        if number_in(landings, k) == STAY {
-            return false;
-        }
-    }
-    true
+    nodes >= WORTH && landings[..ends].iter().all(|&l| l as usize != STAY)
 }
 
 // Whether block b has the ways out of block `last`.

@@ -13,7 +13,7 @@ pub fn guarded_in(guards: &[u64], routes: usize, w: usize) -> u64
 {
     let mut all = 0;
     for r in 0..routes {
-        all = all | guards[16 * r + w];
+        all |= guards[16 * r + w];
     }
     all
 }
@@ -56,9 +56,8 @@ pub fn busy_in(
     ensures { BusyIn guarded (returns_in parts.now returners.now) originals.now listed w result }
 {
     let mut all = 0;
-    for k in 0..listed {
-        let i = number_in(originals, k);
-        all = all | parts[16 * i + w];
+    for &i in &originals[..listed] {
+        all |= parts[16 * i as usize + w];
     }
     guarded | (all & returners[w])
 }
@@ -75,6 +74,5 @@ pub fn word_end(w: usize, blocks: usize) -> usize
     requires { w < 16 }
     ensures { result ≡ min (64 * w + 64) blocks }
 {
-    let end = 64 * w + 64;
-    if end <= blocks { end } else { blocks }
+    (64 * w + 64).min(blocks)
 }

@@ -1,22 +1,9 @@
 // The sizes of what is added, before any of it is stored.
-ghost use Rattle.std.specs.Prelude.{◌≡◌, ◌+◌, ◌*◌, ◌≤◌, ◌<◌, min, length};
-ghost use Rattle.image.specs.Image.{routes_in};
-ghost use Rattle.image.specs.There.{RoutesThere};
-ghost use Rattle.graph.specs.Fold.{flat};
-ghost use Rattle.unwind.specs.Routed.{TriesIn};
-ghost use Rattle.unwind.specs.Placed.{returns_in};
-ghost use Rattle.unwind.specs.Lent.{Roomy, block_hops};
-ghost use Rattle.unwind.specs.Sizes.{SizesOf, Summed, sizes_then, sizes_both};
-ghost use Rattle.unwind.specs.Copies.{SumSize};
-ghost use Rattle.unwind.specs.Members.{BlockSets};
-ghost use Rattle.unwind.specs.Blockwise.{Ready};
+ghost use Rattle.std.specs.Prelude.{◌≡◌, ◌*◌, ◌≤◌, ◌<◌, length};
+ghost use Rattle.unwind.specs.Sizes.{SizesOf, sizes_then, sizes_both};
 
-use crate::emit::alike::{goes_on, is_worth, mark_turns};
-use crate::emit::block::gather_block;
-use crate::emit::busy::{busy_in, guarded_in, has_block, original_nodes, word_end};
 use crate::emit::entries::LEAVE;
-use crate::tries::store::{Counts, branch_in};
-use image::section::RouteLayout;
+use crate::tries::store::branch_in;
 
 // Hops, the lists that they have, and the hops that end at a block: one route edge each.
 #[derive(Clone, Copy)]
@@ -28,111 +15,6 @@ pub struct Sizes {
 
 // No end: what stands before the first entry.
 const NOWHERE: usize = 65536;
-
-// Those of the hops out of the first `blocks` blocks, which stood before: of each that has a way out. `originals` is
-// room for a list of nodes.
-pub fn count_blocks(
-    s: &[u8],
-    y: RouteLayout,
-    nodes: &[u16],
-    edges: &[u16],
-    ends: &[u16],
-    heads: &[u16],
-    landings: &[u16],
-    roots: &[u16],
-    guards: &[u64],
-    bases: &[u16],
-    parts: &[u64],
-    returners: &[u64; 16],
-    stored: Counts,
-    blocks: usize,
-    originals: &mut [u16],
-    exits: &mut [u16],
-) -> Sizes
-    requires { TriesIn (routes_in s.now y) nodes.now edges.now ends.now roots.now stored × (blocks ≤ 1024) × Roomy edges.now ends.now exits.old × BlockSets guards.now (returns_in parts.now returners.now) blocks (length (routes_in s.now y).routes) stored.nodes × RoutesThere s.now y × (stored.nodes ≤ length heads.now) × (stored.ends ≤ length landings.now) × (stored.nodes ≤ length bases.now) × (stored.nodes ≤ length originals.old) }
-    ensures { SumSize (flat (block_hops (routes_in s.now y) nodes.now edges.now ends.now heads.now landings.now roots.now guards.now bases.now (returns_in parts.now returners.now) stored) blocks) exits.old exits.new result }
-{
-    let routes = y.routes.count as usize;
-    let worth = is_worth(stored.nodes, landings, stored.ends);
-    let mut turns = [0u64; 16];
-    if worth {
-        mark_turns(
-            guards,
-            routes,
-            parts,
-            returners,
-            stored.nodes,
-            blocks,
-            &mut turns,
-        );
-    }
-    let words = (blocks + 63) / 64;
-    let mut sizes = Sizes {
-        hops: 0,
-        lists: 0,
-        blocks: 0,
-    };
-    for w in 0..words {
-        sizes = count_word(
-            s, y, nodes, edges, ends, heads, landings, roots, guards, bases, parts, returners,
-            stored, blocks, worth, &turns, w, sizes, originals, exits,
-        );
-    }
-    sizes
-}
-
-// With those of the blocks before, those of the blocks of word w.
-fn count_word(
-    s: &[u8],
-    y: RouteLayout,
-    nodes: &[u16],
-    edges: &[u16],
-    ends: &[u16],
-    heads: &[u16],
-    landings: &[u16],
-    roots: &[u16],
-    guards: &[u64],
-    bases: &[u16],
-    parts: &[u64],
-    returners: &[u64; 16],
-    stored: Counts,
-    blocks: usize,
-    worth: bool,
-    turns: &[u64; 16],
-    w: usize,
-    before: Sizes,
-    originals: &mut [u16],
-    exits: &mut [u16],
-) -> Sizes
-    requires { Ready s.now y nodes.now edges.now ends.now heads.now landings.now roots.now guards.now bases.now parts.now returners.now stored blocks originals.old exits.old worth turns.now × (64 * w < blocks) × Summed (block_hops (routes_in s.now y) nodes.now edges.now ends.now heads.now landings.now roots.now guards.now bases.now (returns_in parts.now returners.now) stored) (64 * w) 65536 before }
-    ensures { Summed (block_hops (routes_in s.now y) nodes.now edges.now ends.now heads.now landings.now roots.now guards.now bases.now (returns_in parts.now returners.now) stored) (min (64 * w + 64) blocks) 65536 result }
-{
-    let routes = y.routes.count as usize;
-    let guarded = guarded_in(guards, routes, w);
-    let listed = original_nodes(bases, parts, returners, stored.nodes, w, originals);
-    let busy = busy_in(guarded, parts, returners, originals, listed, w);
-    if busy == 0 {
-        return before;
-    }
-    let past = word_end(w, blocks);
-    let mut sizes = before;
-    let mut last = 1024;
-    let mut n = 0;
-    for b in 64 * w..past {
-        if has_block(busy, b) {
-            if !goes_on(worth, turns, last, b) {
-                n = gather_block(
-                    s, y, nodes, edges, ends, heads, landings, roots, guards, guarded, bases,
-                    parts, returners, originals, listed, stored, b, exits,
-                );
-            }
-            last = b;
-            let more = sizes_of(exits, n);
-            sizes = sizes_both(sizes, more);
-        }
-    }
-    sizes
-}
 
 pub fn sizes_both(p: Sizes, q: Sizes) -> Sizes
     requires { (p.hops < 1099511627776) × (p.lists < 1099511627776) × (p.blocks < 1099511627776) × (q.hops < 1099511627776) × (q.lists < 1099511627776) × (q.blocks < 1099511627776) }

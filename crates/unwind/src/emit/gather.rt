@@ -25,7 +25,12 @@ pub fn gather_node(
     exits: &mut [u16],
     held: usize,
 ) -> usize
-    requires { Ordered (routes_in s.now y) exits.old held × (b < 65536) × (3 * (held + ((record_in nodes.now i).edges + (record_in nodes.now i).ends)) ≤ length exits.old) × RoutesThere s.now y × NodeFits edges.now ends.now (record_in nodes.now i) × NodeThere nodes.now edges.now heads.now landings.now i }
+    requires ordered { Ordered (routes_in s.now y) exits.old held }
+    requires block { b < 65536 }
+    requires room { 3 * (held + ((record_in nodes.now i).edges + (record_in nodes.now i).ends)) ≤ length exits.old }
+    requires there { RoutesThere s.now y }
+    requires fits { NodeFits edges.now ends.now (record_in nodes.now i) }
+    requires node { NodeThere nodes.now edges.now heads.now landings.now i }
     ensures { Gathers (routes_in s.now y) b exits.old held (record_exits (routes_in s.now y) b edges.now ends.now heads.now landings.now (record_in nodes.now i)) exits.new result }
 {
     let node = node_in(nodes, i);
@@ -44,7 +49,11 @@ fn gather_edges(
     exits: &mut [u16],
     held: usize,
 ) -> usize
-    requires { Ordered (routes_in s.now y) exits.old held × (3 * (held + count) ≤ length exits.old) × RoutesThere s.now y × (3 * (first + count) ≤ length edges.now) × ((k : ℕ) → k < count → (branch_in edges.now (first + k)).what < length heads.now) }
+    requires ordered { Ordered (routes_in s.now y) exits.old held }
+    requires room { 3 * (held + count) ≤ length exits.old }
+    requires there { RoutesThere s.now y }
+    requires edges { 3 * (first + count) ≤ length edges.now }
+    requires heads { (k : ℕ) → k < count → (branch_in edges.now (first + k)).what < length heads.now }
     ensures { GathersEdges (routes_in s.now y) exits.old held edges.now heads.now first count exits.new result }
 {
     let mut n = held;
@@ -68,7 +77,12 @@ fn gather_ends(
     exits: &mut [u16],
     held: usize,
 ) -> usize
-    requires { Ordered (routes_in s.now y) exits.old held × (b < 65536) × (3 * (held + count) ≤ length exits.old) × RoutesThere s.now y × (3 * (first + count) ≤ length ends.now) × (first + count ≤ length landings.now) }
+    requires ordered { Ordered (routes_in s.now y) exits.old held }
+    requires block { b < 65536 }
+    requires room { 3 * (held + count) ≤ length exits.old }
+    requires there { RoutesThere s.now y }
+    requires ends { 3 * (first + count) ≤ length ends.now }
+    requires landings { first + count ≤ length landings.now }
     ensures { Gathers (routes_in s.now y) b exits.old held (end_exits (routes_in s.now y) b ends.now landings.now first count) exits.new result }
 {
     let mut n = held;

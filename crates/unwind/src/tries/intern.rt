@@ -7,14 +7,14 @@ ghost use Rattle.unwind.specs.Interning.{paths_of};
 ghost use Rattle.unwind.specs.Laid.{ends_list};
 ghost use Rattle.unwind.specs.Lower.{Lower};
 ghost use Rattle.unwind.specs.Seen.{Seen};
-ghost use Rattle.unwind.specs.Tallied.{counts_in, interned_in};
+ghost use Rattle.unwind.specs.Kept.{interned_at};
 ghost use Rattle.unwind.specs.Interns.{weight, group_behind, funclet_of, Grouped, Room, Closes, Interns};
 
-use crate::tries::keys::{Key, NextKey, next_key};
+use crate::tries::keys::{Key, next_key};
 use crate::tries::lay::{lay_edges, lay_ends_beside};
 use crate::tries::nodes::{Interned, keep_node};
 use crate::tries::paths::Group;
-use crate::tries::store::{Branch, Counts, NodeRecord, Tally, counts_in, put_branch, put_counts};
+use crate::tries::store::{Branch, Counts, NodeRecord, put_branch};
 use image::section::RouteLayout;
 
 // The node of a group. It calls itself for each group that its paths lead to, which has fewer steps left; the edges of the
@@ -30,24 +30,21 @@ pub fn intern(
     ends: &mut [u16],
     stack: &mut [u16],
     seen: &mut [u64; 16],
-    tally: &mut Tally,
+    counts: &mut Counts,
     top: usize,
 ) -> usize
-    requires { Grouped (routes_in s.now y) starts.now g × Stored nodes.old edges.old ends.old (counts_in tally.old) × Room nodes.old edges.old ends.old stack.old (counts_in tally.old) top (suc (weight (paths_of (routes_in s.now y) g))) (weight (paths_of (routes_in s.now y) g)) (length (paths_of (routes_in s.now y) g)) × Lower (nodes_in (routes_in s.now y) nodes.old edges.old ends.old (counts_in tally.old).nodes) × Seen (routes_in s.now y) nodes.old (counts_in tally.old).nodes seen.old × RoutesThere s.now y }
-    ensures { Interns (routes_in s.now y) g nodes.old edges.old ends.old stack.old (counts_in tally.old) top nodes.new edges.new ends.new stack.new (interned_in result tally.new) × Seen (routes_in s.now y) nodes.new (counts_in tally.new).nodes seen.new }
+    requires grouped { Grouped (routes_in s.now y) starts.now g }
+    requires stored { Stored nodes.old edges.old ends.old counts.old }
+    requires room { Room nodes.old edges.old ends.old stack.old counts.old top (suc (weight (paths_of (routes_in s.now y) g))) (weight (paths_of (routes_in s.now y) g)) (length (paths_of (routes_in s.now y) g)) }
+    requires lower { Lower (nodes_in (routes_in s.now y) nodes.old edges.old ends.old counts.old.nodes) }
+    requires seen { Seen (routes_in s.now y) nodes.old counts.old.nodes seen.old }
+    requires there { RoutesThere s.now y }
+    ensures interns { Interns (routes_in s.now y) g nodes.old edges.old ends.old stack.old counts.old top nodes.new edges.new ends.new stack.new (interned_at result counts.new) }
+    ensures seen { Seen (routes_in s.now y) nodes.new counts.new.nodes seen.new }
 {
     let mut n = 0;
-    let mut last = NextKey::Nothing;
-    loop {
-        let next = next_key(s, y, starts, g, last);
-        let NextKey::At(key) = next else {
-            let counts = counts_in(tally);
-            let closed = close_node(
-                s, y, starts, g, nodes, edges, ends, stack, seen, counts, top, n,
-            );
-            put_counts(tally, closed.counts);
-            return closed.place;
-        };
+    let mut last = None;
+    while let Some(key) = next_key(s, y, starts, g, last) {
         let behind = group_behind(g, key);
         let child = intern(
             s,
@@ -59,7 +56,7 @@ pub fn intern(
             ends,
             stack,
             seen,
-            tally,
+            counts,
             top + n,
         );
         put_branch(
@@ -72,8 +69,13 @@ pub fn intern(
             },
         );
         n += 1;
-        last = next;
+        last = Some(key);
     }
+    let closed = close_node(
+        s, y, starts, g, nodes, edges, ends, stack, seen, *counts, top, n,
+    );
+    *counts = closed.counts;
+    closed.place
 }
 
 // The node of a group whose edges are the n of the stack from `top` on.
@@ -91,8 +93,15 @@ fn close_node(
     top: usize,
     n: usize,
 ) -> Interned
-    requires { Grouped (routes_in s.now y) starts.now g × Stored nodes.old edges.old ends.old counts × Room nodes.old edges.old ends.old stack.now counts top 1 n (length (ends_list (paths_of (routes_in s.now y) g))) × Lower (nodes_in (routes_in s.now y) nodes.old edges.old ends.old counts.nodes) × Seen (routes_in s.now y) nodes.old counts.nodes seen.old × RoutesThere s.now y × (n + length (ends_list (paths_of (routes_in s.now y) g)) ≤ g.count) }
-    ensures { Closes (routes_in s.now y) g nodes.old edges.old ends.old stack.now counts top n nodes.new edges.new ends.new result × Seen (routes_in s.now y) nodes.new result.counts.nodes seen.new }
+    requires grouped { Grouped (routes_in s.now y) starts.now g }
+    requires stored { Stored nodes.old edges.old ends.old counts }
+    requires room { Room nodes.old edges.old ends.old stack.now counts top 1 n (length (ends_list (paths_of (routes_in s.now y) g))) }
+    requires lower { Lower (nodes_in (routes_in s.now y) nodes.old edges.old ends.old counts.nodes) }
+    requires seen { Seen (routes_in s.now y) nodes.old counts.nodes seen.old }
+    requires there { RoutesThere s.now y }
+    requires few { n + length (ends_list (paths_of (routes_in s.now y) g)) ≤ g.count }
+    ensures closes { Closes (routes_in s.now y) g nodes.old edges.old ends.old stack.now counts top n nodes.new edges.new ends.new result }
+    ensures seen { Seen (routes_in s.now y) nodes.new result.counts.nodes seen.new }
 {
     let first_edge = counts.edges;
     let first_end = counts.ends;
@@ -111,7 +120,10 @@ fn close_node(
 
 // The paths that go on behind a key.
 fn group_behind(g: Group, key: Key) -> Group
-    requires { (g.depth ≤ key.step) × (key.step + key.calls < 512) × (key.first ≤ key.last) × (key.last < 128) }
+    requires behind { g.depth ≤ key.step }
+    requires steps { key.step + key.calls < 512 }
+    requires order { key.first ≤ key.last }
+    requires paths { key.last < 128 }
     ensures { result ≡ group_behind g key }
 {
     Group {

@@ -7,17 +7,10 @@ ghost use Rattle.unwind.specs.Interning.{Starts, GroupIn, left_at, paths_of};
 ghost use Rattle.unwind.specs.Laid.{ends_list, EndOf, EndLaid, EndsLaid, EdgesLaid};
 
 use crate::tries::compare::Kind;
-use crate::tries::paths::{CutAt, Group, Left, cut_at, left_of};
+use crate::tries::paths::{Group, cut_at, left_of};
 use crate::tries::runs::put_sorted;
 use crate::tries::store::{Branch, branch_in};
 use image::section::RouteLayout;
-
-// The end of a path that enters no funclet any more.
-#[derive(Clone, Copy)]
-pub enum Ending {
-    At(Branch),
-    Nothing,
-}
 
 // The ends of the paths of a group that has n edges, from `at` on; how many there are. A path that leads on does not end here:
 // where there are as many edges as paths, no end is looked for.
@@ -30,7 +23,12 @@ pub fn lay_ends_beside(
     at: usize,
     n: usize,
 ) -> usize
-    requires { AcceptedRoutes (routes_in s.now y) × Starts (routes_in s.now y) starts.now × GroupIn (routes_in s.now y) g × (3 * (at + length (ends_list (paths_of (routes_in s.now y) g))) ≤ length ends.old) × RoutesThere s.now y × (n + length (ends_list (paths_of (routes_in s.now y) g)) ≤ g.count) }
+    requires accepted { AcceptedRoutes (routes_in s.now y) }
+    requires starts { Starts (routes_in s.now y) starts.now }
+    requires group { GroupIn (routes_in s.now y) g }
+    requires room { 3 * (at + length (ends_list (paths_of (routes_in s.now y) g))) ≤ length ends.old }
+    requires there { RoutesThere s.now y }
+    requires few { n + length (ends_list (paths_of (routes_in s.now y) g)) ≤ g.count }
     ensures { EndsLaid (routes_in s.now y) g ends.old at ends.new result }
 {
     if n == g.count {
@@ -48,14 +46,16 @@ fn lay_ends(
     ends: &mut [u16],
     at: usize,
 ) -> usize
-    requires { AcceptedRoutes (routes_in s.now y) × Starts (routes_in s.now y) starts.now × GroupIn (routes_in s.now y) g × (3 * (at + length (ends_list (paths_of (routes_in s.now y) g))) ≤ length ends.old) × RoutesThere s.now y }
+    requires accepted { AcceptedRoutes (routes_in s.now y) }
+    requires starts { Starts (routes_in s.now y) starts.now }
+    requires group { GroupIn (routes_in s.now y) g }
+    requires room { 3 * (at + length (ends_list (paths_of (routes_in s.now y) g))) ≤ length ends.old }
+    requires there { RoutesThere s.now y }
     ensures { EndsLaid (routes_in s.now y) g ends.old at ends.new result }
 {
-    let first = g.first;
-    let count = g.count;
     let mut n = 0;
-    for k in 0..count {
-        n = lay_end(s, y, starts, g, ends, at, n, first + k);
+    for k in 0..g.count {
+        n = lay_end(s, y, starts, g, ends, at, n, g.first + k);
     }
     n
 }
@@ -71,28 +71,35 @@ fn lay_end(
     n: usize,
     q: usize,
 ) -> usize
-    requires { AcceptedRoutes (routes_in s.now y) × Starts (routes_in s.now y) starts.now × GroupIn (routes_in s.now y) g × (q < length (routes_in s.now y).paths) × (3 * (at + n + length (ends_list (left_at (routes_in s.now y) g q))) ≤ length ends.old) × RoutesThere s.now y }
+    requires accepted { AcceptedRoutes (routes_in s.now y) }
+    requires starts { Starts (routes_in s.now y) starts.now }
+    requires group { GroupIn (routes_in s.now y) g }
+    requires path { q < length (routes_in s.now y).paths }
+    requires room { 3 * (at + n + length (ends_list (left_at (routes_in s.now y) g q))) ≤ length ends.old }
+    requires there { RoutesThere s.now y }
     ensures { EndLaid (routes_in s.now y) g q ends.old at n ends.new result }
 {
     match end_of(s, y, starts, g, q) {
-        Ending::Nothing => n,
-        Ending::At(b) => put_sorted(s, y, Kind::Ends, ends, at, n, b),
+        None => n,
+        Some(b) => put_sorted(s, y, Kind::Ends, ends, at, n, b),
     }
 }
 
 // The end of path q, if it is one of the group's and enters no funclet.
-fn end_of(s: &[u8], y: RouteLayout, starts: &[u16], g: Group, q: usize) -> Ending
-    requires { AcceptedRoutes (routes_in s.now y) × Starts (routes_in s.now y) starts.now × GroupIn (routes_in s.now y) g × (q < length (routes_in s.now y).paths) × RoutesThere s.now y }
+fn end_of(s: &[u8], y: RouteLayout, starts: &[u16], g: Group, q: usize) -> Option<Branch>
+    requires accepted { AcceptedRoutes (routes_in s.now y) }
+    requires starts { Starts (routes_in s.now y) starts.now }
+    requires group { GroupIn (routes_in s.now y) g }
+    requires path { q < length (routes_in s.now y).paths }
+    requires there { RoutesThere s.now y }
     ensures { EndOf (routes_in s.now y) g q result }
 {
-    let Left::Steps { first, count } = left_of(s, y, starts, g, q) else {
-        return Ending::Nothing;
-    };
-    match cut_at(s, y, first, count) {
-        CutAt::Enters(_) => Ending::Nothing,
-        CutAt::Over => Ending::At(Branch {
-            step: first,
-            calls: count,
+    let left = left_of(s, y, starts, g, q)?;
+    match cut_at(s, y, left.first, left.count) {
+        Some(_) => None,
+        None => Some(Branch {
+            step: left.first,
+            calls: left.count,
             what: q,
         }),
     }
@@ -108,7 +115,10 @@ pub fn lay_edges(
     edges: &mut [u16],
     at: usize,
 ) -> usize
-    requires { AcceptedRoutes (routes_in s.now y) × (3 * (at + n) ≤ length edges.old) × RoutesThere s.now y × (3 * (top + n) ≤ length stack.now) }
+    requires accepted { AcceptedRoutes (routes_in s.now y) }
+    requires room { 3 * (at + n) ≤ length edges.old }
+    requires there { RoutesThere s.now y }
+    requires stack { 3 * (top + n) ≤ length stack.now }
     ensures { EdgesLaid (routes_in s.now y) stack.now top n edges.old at edges.new result }
 {
     let mut count = 0;

@@ -1,30 +1,21 @@
 // Nodes by what they are: a node that stands already is not stored again.
 ghost use Rattle.std.specs.Prelude.{◌≡◌, ◌&&◌, map, ◌+◌, ◌*◌, ◌≤◌, eqb, length};
-ghost use Rattle.std.proofs.Math.Dec.{compare_is_eq};
 ghost use Rattle.image.specs.Image.{routes_in};
 ghost use Rattle.image.specs.Accepted.{AcceptedRoutes};
 ghost use Rattle.image.specs.There.{RoutesThere};
 ghost use Rattle.addition.specs.Order.{same};
 ghost use Rattle.addition.specs.Trie.{same_funclet, same_node, place_of};
-ghost use Rattle.unwind.specs.declared.tries.compare.Kind.TheVariants.{Edges, Ends};
-ghost use Rattle.unwind.specs.Nodes.{record_in, branches, funclet_in, value_of, node_in, nodes_in, Stored, NodeFits, AllFit, BranchSmall};
+ghost use Rattle.unwind.specs.Nodes.{record_in, branches, funclet_in, value_of, node_in, nodes_in, Stored, NodeFits, AllFit};
 ghost use Rattle.unwind.specs.Interning.{ordered, meaning};
 ghost use Rattle.unwind.specs.Kept.{place_in, Behind, Kept};
 ghost use Rattle.unwind.specs.Lower.{Lower, BehindChildren};
 ghost use Rattle.unwind.specs.Seen.{mark_of, Seen};
 
 use crate::routes::step_of;
-use crate::tries::compare::{Kind, Order, compare_branches};
-use crate::tries::store::{Branch, Counts, NodeRecord, branch_in, node_in, number_in, put_node};
+use crate::tries::compare::{Kind, compare_branches};
+use crate::tries::store::{Counts, NodeRecord, branch_in, node_in, number_in, put_node};
 use graph::blockset::{has_in, put_in};
 use image::section::RouteLayout;
-
-// Where a node stands.
-#[derive(Clone, Copy)]
-pub enum Place {
-    At(usize),
-    Nothing,
-}
 
 // A node's place, and how many nodes, edges and ends are stored then.
 #[derive(Clone, Copy)]
@@ -45,24 +36,28 @@ pub fn keep_node(
     counts: Counts,
     x: NodeRecord,
 ) -> Interned
-    requires { AcceptedRoutes (routes_in s.now y) × Stored nodes.old edges.now ends.now counts × Behind nodes.old edges.now ends.now counts x × Lower (nodes_in (routes_in s.now y) nodes.old edges.now ends.now counts.nodes) × Seen (routes_in s.now y) nodes.old counts.nodes seen.old × RoutesThere s.now y }
-    ensures { Kept (routes_in s.now y) nodes.old edges.now ends.now counts x nodes.new result × Seen (routes_in s.now y) nodes.new result.counts.nodes seen.new }
+    requires accepted { AcceptedRoutes (routes_in s.now y) }
+    requires stored { Stored nodes.old edges.now ends.now counts }
+    requires behind { Behind nodes.old edges.now ends.now counts x }
+    requires lower { Lower (nodes_in (routes_in s.now y) nodes.old edges.now ends.now counts.nodes) }
+    requires seen { Seen (routes_in s.now y) nodes.old counts.nodes seen.old }
+    requires there { RoutesThere s.now y }
+    ensures kept { Kept (routes_in s.now y) nodes.old edges.now ends.now counts x nodes.new result }
+    ensures seen { Seen (routes_in s.now y) nodes.new result.counts.nodes seen.new }
 {
     let n = counts.nodes;
-    match find_node(s, y, nodes, edges, ends, seen, n, x) {
-        Place::At(i) => Interned { place: i, counts },
-        Place::Nothing => {
-            put_node(nodes, n, x);
-            put_in(seen, mark_of(funclet_value(s, y, x.funclet)));
-            Interned {
-                place: n,
-                counts: Counts {
-                    nodes: n + 1,
-                    edges: counts.edges + x.edges,
-                    ends: counts.ends + x.ends,
-                },
-            }
-        }
+    if let Some(place) = find_node(s, y, nodes, edges, ends, seen, n, x) {
+        return Interned { place, counts };
+    }
+    put_node(nodes, n, x);
+    put_in(seen, mark_of(funclet_value(s, y, x.funclet)));
+    Interned {
+        place: n,
+        counts: Counts {
+            nodes: n + 1,
+            edges: counts.edges + x.edges,
+            ends: counts.ends + x.ends,
+        },
     }
 }
 
@@ -76,24 +71,30 @@ fn find_node(
     seen: &[u64; 16],
     n: usize,
     x: NodeRecord,
-) -> Place
-    requires { AcceptedRoutes (routes_in s.now y) × (6 * n ≤ length nodes.now) × Lower (nodes_in (routes_in s.now y) nodes.now edges.now ends.now n) × Seen (routes_in s.now y) nodes.now n seen.now × RoutesThere s.now y × NodeFits edges.now ends.now x × AllFit nodes.now edges.now ends.now (λ i. i) n }
+) -> Option<usize>
+    requires accepted { AcceptedRoutes (routes_in s.now y) }
+    requires nodes_fit { 6 * n ≤ length nodes.now }
+    requires lower { Lower (nodes_in (routes_in s.now y) nodes.now edges.now ends.now n) }
+    requires seen { Seen (routes_in s.now y) nodes.now n seen.now }
+    requires there { RoutesThere s.now y }
+    requires fits { NodeFits edges.now ends.now x }
+    requires all_fit { AllFit nodes.now edges.now ends.now (λ i. i) n }
     ensures { place_in result ≡ place_of (node_in (routes_in s.now y) edges.now ends.now x) (nodes_in (routes_in s.now y) nodes.now edges.now ends.now n) }
 {
     let low = behind_children(edges, x.first_edge, x.edges);
     if n <= low {
-        return Place::Nothing;
+        return None;
     }
     let value = funclet_value(s, y, x.funclet);
     if !has_in(seen, mark_of(value)) {
-        return Place::Nothing;
+        return None;
     }
     for i in low..n {
         if stands_at(s, y, nodes, edges, ends, i, x, value) {
-            return Place::At(i);
+            return Some(i);
         }
     }
-    Place::Nothing
+    None
 }
 
 // Behind the greatest node that the n edges from `first` on lead to.
@@ -122,15 +123,19 @@ fn stands_at(
     x: NodeRecord,
     value: u64,
 ) -> bool
-    requires { AcceptedRoutes (routes_in s.now y) × (6 * i + 6 ≤ length nodes.now) × (value ≡ value_of (funclet_in (routes_in s.now y) x.funclet)) × RoutesThere s.now y × NodeFits edges.now ends.now x × NodeFits edges.now ends.now (record_in nodes.now i) }
+    requires accepted { AcceptedRoutes (routes_in s.now y) }
+    requires node { 6 * i + 6 ≤ length nodes.now }
+    requires named { value ≡ value_of (funclet_in (routes_in s.now y) x.funclet) }
+    requires there { RoutesThere s.now y }
+    requires fits { NodeFits edges.now ends.now x }
+    requires node_fits { NodeFits edges.now ends.now (record_in nodes.now i) }
     ensures { result ≡ same_node (node_in (routes_in s.now y) edges.now ends.now x) (node_in (routes_in s.now y) edges.now ends.now (record_in nodes.now i)) }
 {
-    if counts_match(nodes, i, x.edges, x.ends) {
-        if funclet_value(s, y, number_in(nodes, 6 * i)) == value {
-            return same_node(s, y, edges, ends, x, node_in(nodes, i));
-        }
+    if !counts_match(nodes, i, x.edges, x.ends) {
+        return false;
     }
-    false
+    funclet_value(s, y, number_in(nodes, 6 * i)) == value
+        && same_node(s, y, edges, ends, x, node_in(nodes, i))
 }
 
 // Whether node i has so many edges and ends.
@@ -139,10 +144,7 @@ fn counts_match(nodes: &[u16], i: usize, edges: usize, ends: usize) -> bool
     ensures { result ≡ (eqb (record_in nodes.now i).edges edges && eqb (record_in nodes.now i).ends ends) }
 {
     let at = 6 * i;
-    if number_in(nodes, at + 3) == edges {
-        return number_in(nodes, at + 5) == ends;
-    }
-    false
+    number_in(nodes, at + 3) == edges && number_in(nodes, at + 5) == ends
 }
 
 // The number that names a funclet, or 0 if there is none.
@@ -172,15 +174,26 @@ fn same_node(
     a: NodeRecord,
     b: NodeRecord,
 ) -> bool
-    requires { AcceptedRoutes (routes_in s.now y) × RoutesThere s.now y × NodeFits edges.now ends.now a × NodeFits edges.now ends.now b × (a.edges ≡ b.edges) × (a.ends ≡ b.ends) }
+    requires accepted { AcceptedRoutes (routes_in s.now y) }
+    requires there { RoutesThere s.now y }
+    requires fits_a { NodeFits edges.now ends.now a }
+    requires fits_b { NodeFits edges.now ends.now b }
+    requires edges { a.edges ≡ b.edges }
+    requires ends { a.ends ≡ b.ends }
     ensures { result ≡ same_node (node_in (routes_in s.now y) edges.now ends.now a) (node_in (routes_in s.now y) edges.now ends.now b) }
 {
-    if same_funclet(s, y, a.funclet, b.funclet) {
-        if same_edges(s, y, edges, a.first_edge, b.first_edge, a.edges) {
-            return same_ends(s, y, ends, a.first_end, b.first_end, a.ends);
-        }
+    if !same_funclet(s, y, a.funclet, b.funclet) {
+        return false;
     }
-    false
+    same_branches(
+        s,
+        y,
+        Kind::Edges,
+        edges,
+        a.first_edge,
+        b.first_edge,
+        a.edges,
+    ) && same_branches(s, y, Kind::Ends, ends, a.first_end, b.first_end, a.ends)
 }
 
 fn same_funclet(s: &[u8], y: RouteLayout, a: usize, b: usize) -> bool
@@ -198,52 +211,29 @@ fn same_funclet(s: &[u8], y: RouteLayout, a: usize, b: usize) -> bool
     x.value == z.value
 }
 
-// Whether the n edges from a on are those from b on. Ends have a function of their own: each is then copied into its caller.
-fn same_edges(s: &[u8], y: RouteLayout, edges: &[u16], a: usize, b: usize, n: usize) -> bool
-    requires { AcceptedRoutes (routes_in s.now y) × RoutesThere s.now y × (3 * (a + n) ≤ length edges.now) × (3 * (b + n) ≤ length edges.now) }
-    ensures { result ≡ same (ordered Edges) (map (meaning (routes_in s.now y) Edges) (branches edges.now a n)) (map (meaning (routes_in s.now y) Edges) (branches edges.now b n)) }
+// Whether the n branches of a kind from a on are those from b on. Each caller has its own copy, for its one kind.
+#[inline(always)]
+fn same_branches(
+    s: &[u8],
+    y: RouteLayout,
+    kind: Kind,
+    list: &[u16],
+    a: usize,
+    b: usize,
+    n: usize,
+) -> bool
+    requires accepted { AcceptedRoutes (routes_in s.now y) }
+    requires there { RoutesThere s.now y }
+    requires first { 3 * (a + n) ≤ length list.now }
+    requires second { 3 * (b + n) ≤ length list.now }
+    ensures { result ≡ same (ordered kind) (map (meaning (routes_in s.now y) kind) (branches list.now a n)) (map (meaning (routes_in s.now y) kind) (branches list.now b n)) }
 {
     for i in 0..n {
-        if !is_same(
-            s,
-            y,
-            Kind::Edges,
-            branch_in(edges, a + i),
-            branch_in(edges, b + i),
-        ) {
+        let x = branch_in(list, a + i);
+        let z = branch_in(list, b + i);
+        if compare_branches(s, y, kind, x, z).is_ne() {
             return false;
         }
     }
     true
-}
-
-// The same of ends.
-fn same_ends(s: &[u8], y: RouteLayout, ends: &[u16], a: usize, b: usize, n: usize) -> bool
-    requires { AcceptedRoutes (routes_in s.now y) × RoutesThere s.now y × (3 * (a + n) ≤ length ends.now) × (3 * (b + n) ≤ length ends.now) }
-    ensures { result ≡ same (ordered Ends) (map (meaning (routes_in s.now y) Ends) (branches ends.now a n)) (map (meaning (routes_in s.now y) Ends) (branches ends.now b n)) }
-{
-    for i in 0..n {
-        if !is_same(
-            s,
-            y,
-            Kind::Ends,
-            branch_in(ends, a + i),
-            branch_in(ends, b + i),
-        ) {
-            return false;
-        }
-    }
-    true
-}
-
-// Whether two branches of a kind are the same.
-fn is_same(s: &[u8], y: RouteLayout, kind: Kind, a: Branch, b: Branch) -> bool
-    requires { AcceptedRoutes (routes_in s.now y) × BranchSmall a × BranchSmall b × RoutesThere s.now y }
-    ensures { result ≡ compare_is_eq (ordered kind (meaning (routes_in s.now y) kind a) (meaning (routes_in s.now y) kind b)) }
-{
-    match compare_branches(s, y, kind, a, b) {
-        Order::Less => false,
-        Order::Greater => false,
-        Order::Equal => true,
-    }
 }

@@ -22,23 +22,18 @@ pub struct Group {
     pub depth: usize,
 }
 
-// The steps that are left of a path, unless it is none of the group's.
+// Consecutive steps.
 #[derive(Clone, Copy)]
-pub enum Left {
-    Steps { first: usize, count: usize },
-    Nothing,
-}
-
-// Steps up to the first funclet: calls alone, or so many calls before it.
-#[derive(Clone, Copy)]
-pub enum CutAt {
-    Over,
-    Enters(usize),
+pub struct Steps {
+    pub first: usize,
+    pub count: usize,
 }
 
 // Where the steps of each path start, and where those of the last one end.
 pub fn path_starts(s: &[u8], y: RouteLayout, starts: &mut [u16])
-    requires { AcceptedRoutes (routes_in s.now y) × (length (routes_in s.now y).paths < length starts.old) × RoutesThere s.now y }
+    requires accepted { AcceptedRoutes (routes_in s.now y) }
+    requires room { length (routes_in s.now y).paths < length starts.old }
+    requires there { RoutesThere s.now y }
     ensures { Starts (routes_in s.now y) starts.new }
 {
     let n = y.paths.count as usize;
@@ -50,29 +45,36 @@ pub fn path_starts(s: &[u8], y: RouteLayout, starts: &mut [u16])
     starts[n] = next as u16;
 }
 
-// What is left of path q of a group.
-pub fn left_of(s: &[u8], y: RouteLayout, starts: &[u16], g: Group, q: usize) -> Left
-    requires { AcceptedRoutes (routes_in s.now y) × Starts (routes_in s.now y) starts.now × GroupIn (routes_in s.now y) g × (q < length (routes_in s.now y).paths) × RoutesThere s.now y }
+// The steps that are left of path q, if it is one of the group's.
+pub fn left_of(s: &[u8], y: RouteLayout, starts: &[u16], g: Group, q: usize) -> Option<Steps>
+    requires accepted { AcceptedRoutes (routes_in s.now y) }
+    requires starts { Starts (routes_in s.now y) starts.now }
+    requires group { GroupIn (routes_in s.now y) g }
+    requires path { q < length (routes_in s.now y).paths }
+    requires there { RoutesThere s.now y }
     ensures { LeftOf (routes_in s.now y) g q result }
 {
     let first = number_in(starts, q);
     let count = number_in(starts, q + 1) - first;
     let depth = g.depth;
     if count < depth {
-        return Left::Nothing;
+        return None;
     }
-    if same_steps(s, y, g.from, first, depth) {
-        return Left::Steps {
-            first: first + depth,
-            count: count - depth,
-        };
+    if !same_steps(s, y, g.from, first, depth) {
+        return None;
     }
-    Left::Nothing
+    Some(Steps {
+        first: first + depth,
+        count: count - depth,
+    })
 }
 
 // Whether the n steps from a on are those from b on.
 fn same_steps(s: &[u8], y: RouteLayout, a: usize, b: usize, n: usize) -> bool
-    requires { AcceptedRoutes (routes_in s.now y) × RoutesThere s.now y × (a + n ≤ length (routes_in s.now y).steps) × (b + n ≤ length (routes_in s.now y).steps) }
+    requires accepted { AcceptedRoutes (routes_in s.now y) }
+    requires there { RoutesThere s.now y }
+    requires first { a + n ≤ length (routes_in s.now y).steps }
+    requires second { b + n ≤ length (routes_in s.now y).steps }
     ensures { result ≡ same_steps (routes_in s.now y) a b n }
 {
     if a == b {
@@ -81,25 +83,24 @@ fn same_steps(s: &[u8], y: RouteLayout, a: usize, b: usize, n: usize) -> bool
     for i in 0..n {
         let x = step_in(s, y.steps, a + i);
         let z = step_in(s, y.steps, b + i);
-        if x.code != z.code {
-            return false;
-        }
-        if x.value != z.value {
+        if x.code != z.code || x.value != z.value {
             return false;
         }
     }
     true
 }
 
-// The n steps from a on, cut at the first funclet.
-pub fn cut_at(s: &[u8], y: RouteLayout, a: usize, n: usize) -> CutAt
-    requires { (a + n ≤ 1024) × RoutesThere s.now y × (a + n ≤ length (routes_in s.now y).steps) }
+// How many of the n steps from a on are calls before the first funclet, if there is one.
+pub fn cut_at(s: &[u8], y: RouteLayout, a: usize, n: usize) -> Option<usize>
+    requires few { a + n ≤ 1024 }
+    requires there { RoutesThere s.now y }
+    requires within { a + n ≤ length (routes_in s.now y).steps }
     ensures { Cuts (routes_in s.now y) a n result }
 {
     for i in 0..n {
         if step_in(s, y.steps, a + i).code == FUNCLET {
-            return CutAt::Enters(i);
+            return Some(i);
         }
     }
-    CutAt::Over
+    None
 }

@@ -7,16 +7,10 @@ ghost use Rattle.unwind.specs.Nodes.{branches, BranchSmall};
 ghost use Rattle.unwind.specs.Interning.{ordered, meaning};
 ghost use Rattle.unwind.specs.Runs.{SpotOf, Inserted, RunPut};
 
-use crate::tries::compare::{Kind, Order, compare_branches};
+use crate::tries::compare::{Kind, compare_branches};
 use crate::tries::store::{Branch, branch_in, put_branch};
 use image::section::RouteLayout;
-
-// The branch before which another goes, or it stands there.
-#[derive(Clone, Copy)]
-pub enum Spot {
-    At(usize),
-    Present,
-}
+use std::cmp::Ordering;
 
 // Puts a branch into the n from `at` on; how many there are then.
 pub fn put_sorted(
@@ -28,19 +22,20 @@ pub fn put_sorted(
     n: usize,
     b: Branch,
 ) -> usize
-    requires { AcceptedRoutes (routes_in s.now y) × BranchSmall b × (3 * (at + n) + 3 ≤ length list.old) × RoutesThere s.now y }
+    requires accepted { AcceptedRoutes (routes_in s.now y) }
+    requires small { BranchSmall b }
+    requires room { 3 * (at + n) + 3 ≤ length list.old }
+    requires there { RoutesThere s.now y }
     ensures { RunPut (ordered kind) (meaning (routes_in s.now y) kind) list.old at n b list.new result }
 {
-    match spot_of(s, y, kind, list, at, n, b) {
-        Spot::Present => n,
-        Spot::At(j) => {
-            insert(list, at, n, j, b);
-            n + 1
-        }
-    }
+    let Some(j) = spot_of(s, y, kind, list, at, n, b) else {
+        return n;
+    };
+    insert(list, at + j, at + n, b);
+    n + 1
 }
 
-// Where a branch goes among the n from `at` on.
+// Where a branch goes among the n from `at` on, unless it stands there.
 fn spot_of(
     s: &[u8],
     y: RouteLayout,
@@ -49,30 +44,32 @@ fn spot_of(
     at: usize,
     n: usize,
     b: Branch,
-) -> Spot
-    requires { AcceptedRoutes (routes_in s.now y) × BranchSmall b × RoutesThere s.now y × (3 * (at + n) ≤ length list.now) }
+) -> Option<usize>
+    requires accepted { AcceptedRoutes (routes_in s.now y) }
+    requires small { BranchSmall b }
+    requires there { RoutesThere s.now y }
+    requires within { 3 * (at + n) ≤ length list.now }
     ensures { SpotOf (ordered kind) (meaning (routes_in s.now y) kind b) (map (meaning (routes_in s.now y) kind) (branches list.now at n)) result }
 {
     for j in 0..n {
         match compare_branches(s, y, kind, b, branch_in(list, at + j)) {
-            Order::Less => return Spot::At(j),
-            Order::Equal => return Spot::Present,
-            Order::Greater => {}
+            Ordering::Less => return Some(j),
+            Ordering::Equal => return None,
+            Ordering::Greater => {}
         }
     }
-    Spot::At(n)
+    Some(n)
 }
 
-// The branch in place j of the n from `at` on: those from there on move up by one.
-fn insert(list: &mut [u16], at: usize, n: usize, j: usize, b: Branch)
-    requires { BranchSmall b × (j ≤ n) × (3 * (at + n) + 3 ≤ length list.old) }
-    ensures { Inserted list.old at n j b list.new }
+// Puts b in place p of n branches: those from there on move up by one.
+pub fn insert(list: &mut [u16], p: usize, n: usize, b: Branch)
+    requires small { BranchSmall b }
+    requires within { p ≤ n }
+    requires room { 3 * n + 3 ≤ length list.old }
+    ensures { Inserted list.old p n b list.new }
 {
-    let mut next = b;
-    for k in j..n {
-        let moved = branch_in(list, at + k);
-        put_branch(list, at + k, next);
-        next = moved;
+    for k in (p..n).rev() {
+        put_branch(list, k + 1, branch_in(list, k));
     }
-    put_branch(list, at + n, next);
+    put_branch(list, p, b);
 }

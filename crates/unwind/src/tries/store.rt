@@ -1,7 +1,6 @@
 // The nodes of the trie, and their edges and ends, as numbers in slices: six for a node, three for an edge or an end.
 // What a function `_in` reads is there, by its contract; one `_at` reads 0 past the end.
 ghost use Rattle.std.specs.Prelude.{◌≡◌, ◌+◌, ◌*◌, ◌≤◌, ◌<◌, length, get_or};
-ghost use Rattle.unwind.specs.Tallied.{counts_in};
 ghost use Rattle.unwind.specs.Nodes.{NodeRead, BranchRead, NodeSmall, BranchSmall, NodePut, BranchPut, ThreePut};
 
 // The step that names the funclet, plus 1, or 0 at the root of a route; the route whose interning created the node; where
@@ -30,25 +29,6 @@ pub struct Counts {
     pub nodes: usize,
     pub edges: usize,
     pub ends: usize,
-}
-
-// The same, where it is lent to be changed.
-pub type Tally = [usize; 3];
-
-pub fn counts_in(tally: &Tally) -> Counts
-    ensures { result ≡ counts_in tally.now }
-{
-    Counts {
-        nodes: tally[0],
-        edges: tally[1],
-        ends: tally[2],
-    }
-}
-
-pub fn put_counts(tally: &mut Tally, c: Counts)
-    ensures { counts_in tally.new ≡ c }
-{
-    *tally = [c.nodes, c.edges, c.ends];
 }
 
 // Node i, one of those that there is room for.

@@ -9,7 +9,7 @@ ghost use Rattle.unwind.specs.Wanters.{wanter_of, wanter_set};
 
 use crate::emit::entries::LEAVE;
 use crate::tries::store::{node_in, number_in};
-use graph::blockset::{Lowest, digits_from, zeros_of};
+use graph::blockset::{digits_from, zeros_of};
 
 // Its node, the route that it wants edges for, and the first copy of the node's blocks, 0 where it has the original ones.
 #[derive(Clone, Copy)]
@@ -56,17 +56,9 @@ fn is_over(nodes: &[u16], landings: &[u16], i: usize) -> bool
     ensures { result ≡ true → Over nodes.now landings.now i }
 {
     let node = node_in(nodes, i);
-    if node.edges != 0 {
-        return false;
-    }
     let first = node.first_end;
-    let n = node.ends;
-    for k in 0..n {
-        if number_in(landings, first + k) != LEAVE {
-            return false;
-        }
-    }
-    true
+    let ends = &landings[first..first + node.ends];
+    node.edges == 0 && ends.iter().all(|&l| l as usize == LEAVE)
 }
 
 // The first of its blocks from `from` on; all are below `past`.
@@ -78,27 +70,27 @@ pub fn next_block(
     k: usize,
     from: usize,
     past: usize,
-) -> Lowest
+) -> Option<usize>
     requires { (past ≤ 1024) × ((b : ℕ) → member (wanter_set guards.now (returns_in parts.now returners.now) routes k) b ≡ true → b < past) × (16 * routes ≤ length guards.now) × (16 * (k - routes) + 16 ≤ length parts.now) }
     ensures { LowestFrom (wanter_set guards.now (returns_in parts.now returners.now) routes k) from result }
 {
     if past <= from {
-        return Lowest::Nothing;
+        return None;
     }
     let at = from / 64;
     let first = word_of(guards, parts, returners, routes, k, at);
     let rest = digits_from(first, from % 64);
     if rest != 0 {
-        return Lowest::At(from + zeros_of(rest));
+        return Some(from + zeros_of(rest));
     }
     let words = (past + 63) / 64;
     for i in at + 1..words {
         let word = word_of(guards, parts, returners, routes, k, i);
         if word != 0 {
-            return Lowest::At(64 * i + zeros_of(word));
+            return Some(64 * i + zeros_of(word));
         }
     }
-    Lowest::Nothing
+    None
 }
 
 // Word j of its blocks.

@@ -20,11 +20,11 @@ pub loop-p-preserved : goal.loop-p-preserved
 unfolding flat
 loop-p-preserved c = let stored = c.store_block-first.ensures in (
   search rules,
-  stored.0,
+  stored.within,
   λ m sized leading.
       let before = c.loop-p.invariant.2 m sized leading in
-      let now = stored.1 m sized leading (before.1 c.loop-p-test.true) in
-      (rw (add-one c.loop-p.p) (blocks_then _ (block_end m c.loop-p.p) before.0 now.0), λ h. rw (add-one c.loop-p.p) (now.1 (rw (add-one c.loop-p.p) at h))),
+      let here = before.1 c.loop-p-test.true in
+      (rw (add-one c.loop-p.p) (blocks_then _ (block_end m c.loop-p.p) before.0 (stored.stored m sized leading here)), λ h. rw (add-one c.loop-p.p) (stored.first m sized leading here (rw (add-one c.loop-p.p) at h))),
 )
 
 pub returns : goal.returns

@@ -1,100 +1,31 @@
 -- The checks in their order, the leaders, and then the stores. Assumes nothing.
-use mathlib.Core.Path.{◌≡◌, refl, sym}
-use Rattle.image.specs.Refusal.{clear}
+use mathlib.Core.Path.{sym}
 use Rattle.image.specs.Image.{image_in}
-use Rattle.graph.specs.Transfer.{table_of}
-use Rattle.graph.specs.Build.{input_check}
 use Rattle.graph.proofs.BuiltChecks.{parts}
-use Rattle.builder.specs.Marks.{Passed}
-use Rattle.builder.specs.Ranges.{Ended}
-use Rattle.builder.specs.Answers.{Building}
-use Rattle.builder.proofs.MarkLaws.{leading}
-use Rattle.builder.proofs.BuildLaws.{passed, build_refused, build_late, build_built}
+use Rattle.builder.proofs.BuildLaws.{building, passed, build_tabled, build_refused, build_late, build_built}
 use borrow.Author.Rules.{rules}
 use Rattle.builder.proofs.build.build_in.Goals as goal
 
-pub shape_of-hints-in-Refused : goal.shape_of-hints-in-Refused
-shape_of-hints-in-Refused c = c.check_table.auto.hints
+pub returns-in_err-end-clause-answer : goal.returns-in_err-end-clause-answer
+returns-in_err-end-clause-answer c = rw (sym (build_tabled (image_in c.args.s.now c.args.y) _ c.in_err-end.ensures.check)) (search rules)
 
-pub returns-in-Refused : goal.returns-in-Refused
-unfolding input_check
-returns-in-Refused c = (build_refused (image_in c.args.s.now c.args.y) _ (rw (rw c.in-Refused.is at c.check_table.ensures)), refl)
+pub returns-in_err-check_input-clause-answer : goal.returns-in_err-check_input-clause-answer
+returns-in_err-check_input-clause-answer c = rw (sym (build_refused (image_in c.args.s.now c.args.y) _ c.in_err-check_input.ensures)) (search rules)
 
-pub check_input-requires : goal.check_input-requires
-check_input-requires c =
-    let ended : Ended (table_of (image_in c.args.s.now c.args.y)) c.in-Ends.end = rw c.in-Ends.is at c.check_table.ensures in
-    (c.requires.0, ended, search rules)
+pub mark_leaders-marks-requires-clause-passed : goal.mark_leaders-marks-requires-clause-passed
+mark_leaders-marks-requires-clause-passed c = passed (image_in c.args.s.now c.args.y) c.requires.accepted (parts _ (sym c.in_ok-check_input.ensures))
 
-pub shape_of-hints-in-Refused-check_input : goal.shape_of-hints-in-Refused-check_input
-shape_of-hints-in-Refused-check_input c = c.check_table.auto.hints
+pub check_result-requires-clause-building : goal.check_result-requires-clause-building
+check_result-requires-clause-building c = building c.args.s.now c.args.y c.in_ok-end.end c.requires.accepted c.in_ok-end.ensures.ended (sym c.in_ok-check_input.ensures) c.mark_leaders-marks.ensures
 
-pub returns-in-Refused-check_input : goal.returns-in-Refused-check_input
-returns-in-Refused-check_input c = (build_refused (image_in c.args.s.now c.args.y) _ (rw c.in-Refused-check_input.is at c.check_input.ensures), refl)
+pub returns-in_err-check_result-clause-answer : goal.returns-in_err-check_result-clause-answer
+returns-in_err-check_result-clause-answer c = rw (sym (build_late (image_in c.args.s.now c.args.y) _ (sym c.in_ok-check_input.ensures) c.in_err-check_result.ensures)) (search rules)
 
-pub mark_leaders-marks-requires : goal.mark_leaders-marks-requires
-mark_leaders-marks-requires c =
-    let clears : input_check (image_in c.args.s.now c.args.y) ≡ clear = sym (rw c.in_default.is at c.check_input.ensures) in
-    let passes : Passed (image_in c.args.s.now c.args.y) = let m = image_in c.args.s.now c.args.y in passed m c.requires.0 (parts m (clears)) in
-    let ended : Ended (table_of (image_in c.args.s.now c.args.y)) c.in-Ends.end = rw c.in-Ends.is at c.check_table.ensures in
-    (passes, (ended).1, c.requires.2)
+pub store_graph-requires-clause-building : goal.store_graph-requires-clause-building
+store_graph-requires-clause-building c = building c.args.s.now c.args.y c.in_ok-end.end c.requires.accepted c.in_ok-end.ensures.ended (sym c.in_ok-check_input.ensures) c.mark_leaders-marks.ensures
 
-pub check_result-requires : goal.check_result-requires
-check_result-requires c =
-    let clears : input_check (image_in c.args.s.now c.args.y) ≡ clear = sym (rw c.in_default.is at c.check_input.ensures) in
-    let ended : Ended (table_of (image_in c.args.s.now c.args.y)) c.in-Ends.end = rw c.in-Ends.is at c.check_table.ensures in
-    let passes : Passed (image_in c.args.s.now c.args.y) = let m = image_in c.args.s.now c.args.y in passed m c.requires.0 (parts m (clears)) in
-    let ready : Building (image_in c.args.s.now c.args.y) c.in-Ends.end c.mark_leaders-marks.result = record {
-      accepted = c.requires.0;
-      passed = clears;
-      ended = (ended).1;
-      leading = leading c.args.s.now c.args.y (passes) c.mark_leaders-marks.ensures;
-    } in
-    (ready, c.requires.2)
+pub returns-clause-answer : goal.returns-clause-answer
+returns-clause-answer c = (build_built (image_in c.args.s.now c.args.y) (sym c.in_ok-check_input.ensures) (sym c.in_ok-check_result.ensures) c.store_graph.ensures).0
 
-pub shape_of-hints-in-Refused-check_result : goal.shape_of-hints-in-Refused-check_result
-shape_of-hints-in-Refused-check_result c = c.check_table.auto.hints
-
-pub returns-in-Refused-check_result : goal.returns-in-Refused-check_result
-returns-in-Refused-check_result c =
-    let clears : input_check (image_in c.args.s.now c.args.y) ≡ clear = sym (rw c.in_default.is at c.check_input.ensures) in
-    let ended : Ended (table_of (image_in c.args.s.now c.args.y)) c.in-Ends.end = rw c.in-Ends.is at c.check_table.ensures in
-    let passes : Passed (image_in c.args.s.now c.args.y) = let m = image_in c.args.s.now c.args.y in passed m c.requires.0 (parts m (clears)) in
-    let ready : Building (image_in c.args.s.now c.args.y) c.in-Ends.end c.mark_leaders-marks.result = record {
-      accepted = c.requires.0;
-      passed = clears;
-      ended = (ended).1;
-      leading = leading c.args.s.now c.args.y (passes) c.mark_leaders-marks.ensures;
-    } in
-    (build_late (image_in c.args.s.now c.args.y) _ (ready).passed (rw c.in-Refused-check_result.is at c.check_result.ensures), refl)
-
-pub store_graph-requires : goal.store_graph-requires
-store_graph-requires c =
-    let clears : input_check (image_in c.args.s.now c.args.y) ≡ clear = sym (rw c.in_default.is at c.check_input.ensures) in
-    let ended : Ended (table_of (image_in c.args.s.now c.args.y)) c.in-Ends.end = rw c.in-Ends.is at c.check_table.ensures in
-    let passes : Passed (image_in c.args.s.now c.args.y) = let m = image_in c.args.s.now c.args.y in passed m c.requires.0 (parts m (clears)) in
-    let ready : Building (image_in c.args.s.now c.args.y) c.in-Ends.end c.mark_leaders-marks.result = record {
-      accepted = c.requires.0;
-      passed = clears;
-      ended = (ended).1;
-      leading = leading c.args.s.now c.args.y (passes) c.mark_leaders-marks.ensures;
-    } in
-    (ready, sym (rw c.in_default-check_result.is at c.check_result.ensures), c.requires.1, c.requires.2)
-
-pub shape_of-hints : goal.shape_of-hints
-shape_of-hints c = c.check_table.auto.hints
-
-pub shape_of-blocks : goal.shape_of-blocks
-shape_of-blocks c = c.store_graph.auto.blocks
-
-pub returns : goal.returns
-returns c =
-    let clears : input_check (image_in c.args.s.now c.args.y) ≡ clear = sym (rw c.in_default.is at c.check_input.ensures) in
-    let ended : Ended (table_of (image_in c.args.s.now c.args.y)) c.in-Ends.end = rw c.in-Ends.is at c.check_table.ensures in
-    let passes : Passed (image_in c.args.s.now c.args.y) = let m = image_in c.args.s.now c.args.y in passed m c.requires.0 (parts m (clears)) in
-    let ready : Building (image_in c.args.s.now c.args.y) c.in-Ends.end c.mark_leaders-marks.result = record {
-      accepted = c.requires.0;
-      passed = clears;
-      ended = (ended).1;
-      leading = leading c.args.s.now c.args.y (passes) c.mark_leaders-marks.ensures;
-    } in
-    build_built (image_in c.args.s.now c.args.y) (ready).passed (sym (rw c.in_default-check_result.is at c.check_result.ensures)) c.store_graph.ensures
+pub returns-clause-leaves : goal.returns-clause-leaves
+returns-clause-leaves c = (build_built (image_in c.args.s.now c.args.y) (sym c.in_ok-check_input.ensures) (sym c.in_ok-check_result.ensures) c.store_graph.ensures).1

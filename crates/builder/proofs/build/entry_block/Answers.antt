@@ -3,11 +3,10 @@ use mathlib.Core.Path.{◌∙◌}
 use Rattle.image.specs.Image.{image_in}
 use Rattle.graph.proofs.BuiltChecks.{entry_starts}
 use Rattle.graph.proofs.BuiltBlocks.{entry_is, entry_none}
-use borrow.Author.Rules.{rules}
 use Rattle.builder.proofs.build.entry_block.Goals as goal
 
-pub block_at-requires : goal.block_at-requires
-block_at-requires c = (c.requires.0, entry_starts (image_in c.args.s.now c.args.y) c.if-header.true c.requires.1, search rules)
+pub block_at-requires-clause-start : goal.block_at-requires-clause-start
+block_at-requires-clause-start c = entry_starts (image_in c.args.s.now c.args.y) c.if-header.true c.requires.entry_clear
 
 pub returns-then-header : goal.returns-then-header
 returns-then-header c = c.block_at.ensures ∙ entry_is (image_in c.args.s.now c.args.y) c.if-header.true

@@ -7,9 +7,9 @@ use native.Mathlib.Omega.{arith}
 use Rattle.builder.proofs.build.store_code.Goals as goal
 
 pub store_blocks-requires : goal.store_blocks-requires
-store_blocks-requires c = omega (arith, c.requires.0, length-records instruction_from c.args.s.now c.args.y.code.instructions)
+store_blocks-requires c = omega (arith, c.requires.size_most, length-records instruction_from c.args.s.now c.args.y.code.instructions)
 
 pub returns : goal.returns
 returns c = let m = image_in c.args.s.now c.args.y in
-    code_laid m c.requires.0 c.empty.ensures c.store_table.ensures
-    (c.store_blocks.ensures m (length-records instruction_from c.args.s.now c.args.y.code.instructions) c.requires.1)
+    code_laid m c.requires.size_most c.empty.ensures c.store_table.ensures
+    (c.store_blocks.ensures m (length-records instruction_from c.args.s.now c.args.y.code.instructions) c.requires.leading)

@@ -1,56 +1,17 @@
-use mathlib.Core.Path.{◌≡◌, sym, ap, ◌∙◌}
-use Prim.Native.Nat.{◌<◌}
-use Rattle.image.specs.Record.{instruction_from}
+-- The cursor goes on by what is given. Assumes nothing.
 use Rattle.image.specs.Image.{image_in}
-use Rattle.image.proofs.Checks.{checks-more, checks_stop}
-use Rattle.image.proofs.Tables.{length-records}
-use Rattle.graph.specs.Error.{check_of}
-use Rattle.graph.specs.Fold.{checks}
-use Rattle.graph.specs.Transfer.{size}
 use Rattle.graph.specs.Build.{given_check}
-use Rattle.builder.specs.declared.cursor.Cursor.{Cursor}
-use Rattle.builder.proofs.ScanLaws.{scan_fits, scan_next, scan_visit}
-use Rattle.builder.proofs.GivenLaws.{not_given}
-use native.Mathlib.Omega.{arith}
+use Rattle.builder.proofs.Row.{row_more}
+use Rattle.builder.proofs.ScanLaws.{scan_at, scan_fits, scan_next}
 use borrow.Author.Rules.{rules}
 use Rattle.builder.proofs.checks.check_given.Goals as goal
 
-pub returns-then-y-ne2 : goal.returns-then-y-ne2
-returns-then-y-ne2 c = let m = image_in c.args.s.now c.args.y in
-    sym (not_given m c.requires.0.accepted c.if-y-ne2.true (size m))
-
-pub loop-c-init : goal.loop-c-init
-unfolding checks
-loop-c-init c = let here = c.cursor_start-c.ensures (image_in c.args.s.now c.args.y) in
-    (omega (arith, ap (λ (x : Cursor). x.at) here), rw here, rw here)
-
-pub instruction_in-i-requires : goal.instruction_in-i-requires
-instruction_in-i-requires c = (search rules, c.loop-c-test.true)
-
 pub cursor_after-next-requires : goal.cursor_after-next-requires
-cursor_after-next-requires c = scan_fits c.args.s.now c.args.y c.requires.0 c.loop-c.c c.loop-c.invariant.1 c.loop-c-test.true c.instruction_in-i.result c.instruction_in-i.ensures c.given_at-given.result c.given_at-given.ensures
+cursor_after-next-requires c = scan_fits c.args.s.now c.args.y c.requires.sourced c.loop-p.p c.loop-p.c c.loop-p.invariant.1 c.loop-p-test.true _ c.instruction_in-i.ensures _ c.given_at-given.ensures
 
-pub check_visit-found-requires : goal.check_visit-found-requires
-check_visit-found-requires c = let visited = scan_visit c.args.s.now c.args.y c.requires.0 c.loop-c.c c.loop-c.invariant.1 c.loop-c-test.true c.instruction_in-i.result c.instruction_in-i.ensures c.given_at-given.result c.given_at-given.ensures _ c.cursor_after-next.ensures in
-    record { sourced = (c.requires.0, c.if-y-ne2.false, search rules); c_value = (c.loop-c.invariant.1, c.loop-c-test.true, visited) }
-
-pub returns-in_default : goal.returns-in_default
-returns-in_default c = let m = image_in c.args.s.now c.args.y in
-    let inside : c.loop-c.c.at < size m = rw (length-records instruction_from c.args.s.now c.args.y.code.instructions) c.loop-c-test.true in
-    let told = ap check_of c.in_default.is in
-    told ∙ sym (checks_stop (given_check m) c.loop-c.c.at _ _ inside c.loop-c.invariant.2 (sym c.check_visit-found.ensures ∙ told))
-
-pub loop-c-smaller : goal.loop-c-smaller
-loop-c-smaller c = let next = scan_next c.args.s.now c.args.y c.requires.0 c.loop-c.c c.loop-c.invariant.1 c.loop-c-test.true c.instruction_in-i.result c.instruction_in-i.ensures c.given_at-given.result c.given_at-given.ensures _ c.cursor_after-next.ensures in
-    omega (arith, ap (λ (x : Cursor). x.at) next, c.loop-c-test.true)
-
-pub loop-c-preserved : goal.loop-c-preserved
-loop-c-preserved c = let m = image_in c.args.s.now c.args.y in
-    let next = scan_next c.args.s.now c.args.y c.requires.0 c.loop-c.c c.loop-c.invariant.1 c.loop-c-test.true c.instruction_in-i.result c.instruction_in-i.ensures c.given_at-given.result c.given_at-given.ensures _ c.cursor_after-next.ensures in
-    let passed = sym c.check_visit-found.ensures ∙ ap check_of c.in-Clear.is in
-    (omega (arith, ap (λ (x : Cursor). x.at) next, c.loop-c-test.true), rw next, rw next (checks-more (given_check m) c.loop-c.c.at c.loop-c.invariant.2 ∙ passed))
-
-pub returns : goal.returns
-returns c = let m = image_in c.args.s.now c.args.y in
-    let all : c.loop-c.c.at ≡ size m = rw (length-records instruction_from c.args.s.now c.args.y.code.instructions) (omega arith) in
-    sym (rw all at c.loop-c.invariant.2)
+pub loop-p-preserved : goal.loop-p-preserved
+loop-p-preserved c = (
+  search rules,
+  scan_next c.args.s.now c.args.y c.requires.sourced c.loop-p.p c.loop-p.c c.loop-p.invariant.1 c.loop-p-test.true _ c.instruction_in-i.ensures _ c.given_at-given.ensures _ c.cursor_after-next.ensures,
+  row_more (given_check (image_in c.args.s.now c.args.y)) c.loop-p.p c.loop-p.invariant.2 (rw (scan_at _ _ _ c.loop-p.invariant.1) at c.in_ok-check_visit.ensures),
+)

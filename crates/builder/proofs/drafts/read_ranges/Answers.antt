@@ -11,7 +11,7 @@ use Rattle.builder.proofs.drafts.read_ranges.Goals as goal
 
 pub loop-h-init : goal.loop-h-init
 loop-h-init c = let size = length-records handler_from c.args.s.now c.args.y.code.handlers in
-    (search rules, omega arith, rw c.requires.0 (filled_none _), rw c.requires.1 (filled_none _))
+    (search rules, omega arith, rw c.requires.no_starts (filled_none _), rw c.requires.no_ends (filled_none _))
 
 pub loop-h-preserved : goal.loop-h-preserved
 loop-h-preserved c = let own = c.handler-own.ensures in (

@@ -1,10 +1,7 @@
--- `span` meets its contract: where a range ends before it starts, the difference is 0. Assumes nothing.
+-- Where a range ends before it starts, the difference is 0. Assumes nothing.
+use mathlib.Core.Path.{◌∙◌}
 use Rattle.builder.proofs.DraftLaws.{span_is}
-use native.Mathlib.Omega.{arith}
 use Rattle.builder.proofs.drafts.span.Goals as goal
 
-pub returns-then-start-end : goal.returns-then-start-end
-returns-then-start-end c = λ m e. span_is e c.args.h
-
-pub returns-else-start-end : goal.returns-else-start-end
-returns-else-start-end c = λ m e. omega (arith, span_is e c.args.h)
+pub returns : goal.returns
+returns c = λ m e. c.saturating_sub.ensures ∙ span_is e c.args.h

@@ -1,4 +1,4 @@
-use mathlib.Core.Path.{◌≡◌, refl, ap, ◌∙◌}
+use mathlib.Core.Path.{refl, ap, ◌∙◌}
 use mathlib.Core.List.{[]}
 use Prim.Native.Nat.{◌+◌}
 use lib.ListN.{get_or}
@@ -22,14 +22,10 @@ loop-k-init c = (search rules, refl)
 pub overflow_add-edges : goal.overflow_add-edges
 overflow_add-edges c = let m = image_in c.args.s.now c.args.y in
     omega
-    (arith, c.resolves-edges.ensures, word_most (resolved m (transfer_in c.case_transfer.result)), c.loop-k.invariant.1, count_le (λ i. resolved m (case_transfer (get_or m.cases (c.args.first + i) (case_from [] 0)) i)) c.loop-k.k, c.requires.1)
+    (arith, c.resolves-edges.ensures, word_most (resolved m (transfer_in c.case_transfer.result)), c.loop-k.invariant.1, count_le (λ i. resolved m (case_transfer (get_or m.cases (c.args.first + i) (case_from [] 0)) i)) c.loop-k.k, c.requires.most)
 
 pub loop-k-preserved : goal.loop-k-preserved
 loop-k-preserved c = let m = image_in c.args.s.now c.args.y in
     let is = c.case_transfer.ensures ∙ ap (λ (x : Case). case_transfer x c.loop-k.k) c.case_in-case.ensures in
     let now = c.resolves-edges.ensures ∙ ap (λ (x : Transfer). word (resolved m x)) is in
     (search rules, omega (arith, now, c.loop-k.invariant.1, count_next (λ i. resolved m (case_transfer (get_or m.cases (c.args.first + i) (case_from [] 0)) i)) c.loop-k.k))
-
-pub returns : goal.returns
-returns c = let all : c.loop-k.k ≡ c.args.n = omega arith in
-    rw all at c.loop-k.invariant.1

@@ -3,49 +3,29 @@ use mathlib.Core.Path.{sym}
 use Rattle.image.specs.Image.{image_in}
 use Rattle.builder.proofs.CountLaws.{other_modes_within, count-within, count_beyond, bounds}
 use native.Mathlib.Omega.{arith}
-use borrow.Author.Rules.{rules}
 use Rattle.builder.proofs.edge_count.check_edge_count.Goals as goal
 
 pub returns-then-y-ne0 : goal.returns-then-y-ne0
-returns-then-y-ne0 c = sym (other_modes_within (image_in c.args.s.now c.args.y) _ c.requires.0.sourced c.if-y-ne0.true)
-
-pub overflow_cast-cases : goal.overflow_cast-cases
-overflow_cast-cases c = let b = bounds c.args.s.now c.args.y c.requires.0.sourced c.if-y-ne0.false in
-    omega (arith, b.cases)
-
-pub overflow_cast-handlers : goal.overflow_cast-handlers
-overflow_cast-handlers c = let b = bounds c.args.s.now c.args.y c.requires.0.sourced c.if-y-ne0.false in
-    omega (arith, b.handlers)
-
-pub overflow_add-normal_most : goal.overflow_add-normal_most
-overflow_add-normal_most c = let b = bounds c.args.s.now c.args.y c.requires.0.sourced c.if-y-ne0.false in
-    omega (arith, b.instructions, b.cases)
-
-pub overflow_mul-handlers : goal.overflow_mul-handlers
-overflow_mul-handlers c = let b = bounds c.args.s.now c.args.y c.requires.0.sourced c.if-y-ne0.false in
-    omega (arith, b.pairs)
+returns-then-y-ne0 c = sym (other_modes_within (image_in c.args.s.now c.args.y) _ c.requires.passed.sourced c.if-y-ne0.true)
 
 pub overflow_add-normal_most-2 : goal.overflow_add-normal_most-2
-overflow_add-normal_most-2 c = let b = bounds c.args.s.now c.args.y c.requires.0.sourced c.if-y-ne0.false in
+overflow_add-normal_most-2 c = let b = bounds c.args.s.now c.args.y c.requires.passed.sourced c.if-y-ne0.false in
     omega (arith, b.instructions, b.cases, b.pairs)
 
 pub returns-then-normal_most-handlers-le-EDGE_MOST : goal.returns-then-normal_most-handlers-le-EDGE_MOST
-returns-then-normal_most-handlers-le-EDGE_MOST c = let b = bounds c.args.s.now c.args.y c.requires.0.sourced c.if-y-ne0.false in
+returns-then-normal_most-handlers-le-EDGE_MOST c = let b = bounds c.args.s.now c.args.y c.requires.passed.sourced c.if-y-ne0.false in
     sym (count-within (image_in c.args.s.now c.args.y) _ (omega (arith, b.normal, b.exceptional, c.if-normal_most-handlers-le-EDGE_MOST.true)))
 
 pub overflow_add-normal_most-3 : goal.overflow_add-normal_most-3
-overflow_add-normal_most-3 c = let b = bounds c.args.s.now c.args.y c.requires.0.sourced c.if-y-ne0.false in
+overflow_add-normal_most-3 c = let b = bounds c.args.s.now c.args.y c.requires.passed.sourced c.if-y-ne0.false in
     omega (arith, b.instructions, b.cases, b.pairs, b.exceptional, c.exception_count-exceptional.ensures)
 
 pub returns-then-normal_most-exceptional-le-EDGE_MOST : goal.returns-then-normal_most-exceptional-le-EDGE_MOST
-returns-then-normal_most-exceptional-le-EDGE_MOST c = let b = bounds c.args.s.now c.args.y c.requires.0.sourced c.if-y-ne0.false in
+returns-then-normal_most-exceptional-le-EDGE_MOST c = let b = bounds c.args.s.now c.args.y c.requires.passed.sourced c.if-y-ne0.false in
     sym (count-within (image_in c.args.s.now c.args.y) _ (omega (arith, b.normal, c.exception_count-exceptional.ensures, c.if-normal_most-exceptional-le-EDGE_MOST.true)))
 
-pub normal_count-requires : goal.normal_count-requires
-normal_count-requires c = (c.requires.0.sourced, c.requires.1, c.if-y-ne0.false, search rules)
-
 pub overflow_add-normal_count : goal.overflow_add-normal_count
-overflow_add-normal_count c = let b = bounds c.args.s.now c.args.y c.requires.0.sourced c.if-y-ne0.false in
+overflow_add-normal_count c = let b = bounds c.args.s.now c.args.y c.requires.passed.sourced c.if-y-ne0.false in
     omega
     (arith, b.instructions, b.cases, b.pairs, b.normal, b.exceptional, c.normal_count.ensures, c.exception_count-exceptional.ensures)
 

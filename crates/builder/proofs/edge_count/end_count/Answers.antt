@@ -6,7 +6,4 @@ use Rattle.builder.proofs.edge_count.end_count.Goals as goal
 
 pub returns-then-ends : goal.returns-then-ends
 returns-then-ends c = let m = image_in c.args.s.now c.args.y in
-    rw (c.if-ends.true, flow_edges m c.args.c.at ((none-given m c.requires.sourced.0.accepted c.requires.sourced.1).1 c.args.c.at)) c.transfer_count.ensures
-
-pub returns : goal.returns
-returns c = rw c.if-ends.false
+    rw (c.if-ends.true, flow_edges m c.args.c.at ((none-given m c.requires.sourced.accepted c.requires.mode).1 c.args.c.at)) c.transfer_count.ensures

@@ -13,23 +13,18 @@ use native.Mathlib.Omega.{arith}
 use borrow.Author.Rules.{rules}
 use Rattle.builder.proofs.edge_count.exception_count.Goals as goal
 
-pub kept_before-kept-requires : goal.kept_before-kept-requires
-kept_before-kept-requires c = (c.requires.0.sourced.accepted.instructions_most, search rules)
-
-pub overflow_cast-n : goal.overflow_cast-n
-overflow_cast-n c = omega (arith, c.requires.0.sourced.accepted.handlers_most, length-records handler_from c.args.s.now c.args.y.code.handlers)
-
 pub loop-h-init : goal.loop-h-init
 unfolding flat
-loop-h-init c = (search rules, omega (arith, c.requires.0.sourced.accepted.handlers_most, length-records handler_from c.args.s.now c.args.y.code.handlers), refl)
+loop-h-init c = (search rules, omega (arith, c.requires.passed.sourced.accepted.handlers_most, length-records handler_from c.args.s.now c.args.y.code.handlers), refl)
 
-pub kept_by-edges-requires : goal.kept_by-edges-requires
-kept_by-edges-requires c = let m = image_in c.args.s.now c.args.y in
-    let size = length-records handler_from c.args.s.now c.args.y.code.handlers in record { ended = ((c.requires.0.table, c.requires.2), checks_at (handler_check m) (length m.handlers) c.loop-h.h c.requires.0.handlers (omega arith), search rules, search rules); y_bound = (c.requires.0.sourced.accepted.instructions_most, c.kept_before-kept.ensures) }
+pub kept_by-edges-requires-clause-checked : goal.kept_by-edges-requires-clause-checked
+kept_by-edges-requires-clause-checked c = let m = image_in c.args.s.now c.args.y in
+    let size = length-records handler_from c.args.s.now c.args.y.code.handlers in
+    checks_at (handler_check m) (length m.handlers) c.loop-h.h c.requires.passed.handlers (omega arith)
 
 pub overflow_add-edges : goal.overflow_add-edges
 overflow_add-edges c = let m = image_in c.args.s.now c.args.y in
-    let most = c.requires.0.sourced.accepted.instructions_most in
+    let most = c.requires.passed.sourced.accepted.instructions_most in
     omega
     (arith, c.loop-h.invariant.2, c.kept_by-edges.ensures, handler_most m c.loop-h.h, flat_most (λ k. handler_edges m k) 512 c.loop-h.h (λ k _. omega (arith, handler_most m k)))
 
@@ -40,4 +35,4 @@ loop-h-preserved c = let m = image_in c.args.s.now c.args.y in
 pub returns : goal.returns
 returns c = let m = image_in c.args.s.now c.args.y in
     let all : c.loop-h.h ≡ length m.handlers = omega (arith, length-records handler_from c.args.s.now c.args.y.code.handlers) in
-    rw (handlers_edges m c.requires.1, ← all) c.loop-h.invariant.2
+    rw (handlers_edges m c.requires.mode, ← all) c.loop-h.invariant.2

@@ -18,29 +18,21 @@ pub loop-p-init : goal.loop-p-init
 unfolding flat
 loop-p-init c = (search rules, c.cursor_start-c.ensures _, refl)
 
-pub visit_at-visit-requires : goal.visit_at-visit-requires
-visit_at-visit-requires c = let m = image_in c.args.s.now c.args.y in
-    let at = ap (λ (x : Cursor). x.at) c.loop-p.invariant.1 in
-    (c.requires.0, c.loop-p.invariant.1 ∙ ap (cursor_at m) (sym at), omega arith, search rules)
+pub is_terminator-requires-clause-n_most : goal.is_terminator-requires-clause-n_most
+is_terminator-requires-clause-n_most c = omega (arith, length-records instruction_from c.args.s.now c.args.y.code.instructions, c.requires.sourced.accepted.instructions_most)
 
-pub is_terminator-requires : goal.is_terminator-requires
-is_terminator-requires c = omega (arith, length-records instruction_from c.args.s.now c.args.y.code.instructions, c.requires.0.accepted.instructions_most)
-
-pub end_count-edges-requires : goal.end_count-edges-requires
-end_count-edges-requires c = let m = image_in c.args.s.now c.args.y in
+pub end_count-edges-requires-clause-at_in : goal.end_count-edges-requires-clause-at_in
+end_count-edges-requires-clause-at_in c = let m = image_in c.args.s.now c.args.y in
     let at = ap (λ (x : Cursor). x.at) c.loop-p.invariant.1 in
     let size_is = length-records instruction_from c.args.s.now c.args.y.code.instructions in
-    record { sourced = (c.requires.0, c.requires.2, search rules); c_value = (c.loop-p.invariant.1 ∙ ap (cursor_at m) (sym at), omega arith, ap (λ (x : Visit). x.instruction) c.visit_at-visit.ensures) }
+    omega arith
 
 pub overflow_add-edges : goal.overflow_add-edges
 overflow_add-edges c = let m = image_in c.args.s.now c.args.y in
     let here = c.loop-p-test.true in
     let size_is = length-records instruction_from c.args.s.now c.args.y.code.instructions in
     omega
-    (arith, normal_next m c.args.marks.now c.loop-p.p _ _ _ _ _ c.requires.1 here (sym size_is) (ap (λ (x : Cursor). x.at) c.loop-p.invariant.1) c.loop-p.invariant.2 c.is_terminator.ensures c.end_count-edges.ensures, normal_fits m c.requires.0 c.loop-p.p (omega arith))
-
-pub overflow_step-p : goal.overflow_step-p
-overflow_step-p c = omega (arith, length-records instruction_from c.args.s.now c.args.y.code.instructions, c.requires.0.accepted.instructions_most)
+    (arith, normal_next m c.args.marks.now c.loop-p.p _ _ _ _ _ c.requires.leading here (sym size_is) (ap (λ (x : Cursor). x.at) c.loop-p.invariant.1) c.loop-p.invariant.2 c.is_terminator.ensures c.end_count-edges.ensures, normal_fits m c.requires.sourced c.loop-p.p (omega arith))
 
 pub loop-p-preserved : goal.loop-p-preserved
 loop-p-preserved c = let m = image_in c.args.s.now c.args.y in
@@ -48,7 +40,7 @@ loop-p-preserved c = let m = image_in c.args.s.now c.args.y in
     let size_is = length-records instruction_from c.args.s.now c.args.y.code.instructions in (
       search rules,
       ap (λ (x : Visit). x.next) c.visit_at-visit.ensures ∙ ap (λ (i : ℕ). cursor_at m (i + 1)) at,
-      normal_next m c.args.marks.now c.loop-p.p _ _ _ _ _ c.requires.1 c.loop-p-test.true (sym size_is) at c.loop-p.invariant.2 c.is_terminator.ensures c.end_count-edges.ensures,
+      normal_next m c.args.marks.now c.loop-p.p _ _ _ _ _ c.requires.leading c.loop-p-test.true (sym size_is) at c.loop-p.invariant.2 c.is_terminator.ensures c.end_count-edges.ensures,
     )
 
 pub returns : goal.returns

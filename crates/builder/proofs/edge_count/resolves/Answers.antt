@@ -1,10 +1,10 @@
 -- By what the look-up answers. Assumes nothing.
-use mathlib.Core.Path.{refl}
+use mathlib.Core.Path.{refl, ap, ◌∙◌}
+use mir.Val.{bool_byte}
 use Rattle.image.specs.Image.{image_in}
+use Rattle.builder.proofs.CountLaws.{resolved_told}
+use Rattle.builder.specs.Slots.{transfer_in}
 use Rattle.builder.proofs.edge_count.resolves.Goals as goal
 
-pub returns-in-At : goal.returns-in-At
-returns-in-At c = rw (rw c.in-At.is at (c.resolve.ensures (image_in c.args.s.now c.args.y) refl)).0
-
-pub returns-in-Nothing : goal.returns-in-Nothing
-returns-in-Nothing c = rw (rw c.in-Nothing.is at (c.resolve.ensures (image_in c.args.s.now c.args.y) refl))
+pub returns : goal.returns
+returns c = c.from.ensures ∙ ap bool_byte c.is_some.ensures ∙ resolved_told (image_in c.args.s.now c.args.y) (transfer_in c.args.x) c.resolve.result (c.resolve.ensures (image_in c.args.s.now c.args.y) refl)

@@ -14,42 +14,42 @@ use Rattle.builder.specs.Slots.{transfer_in}
 use Rattle.builder.proofs.EdgeLaws.{case_inside, case_fits, flow_is, flow_most, first_is, second_is}
 use Rattle.builder.proofs.CountLaws.{word_most, switch_count, two_count}
 use native.Mathlib.Omega.{arith}
-use borrow.Author.Rules.{rules}
 use Rattle.builder.proofs.edge_count.transfer_count.Goals as goal
 
 pub slots_of-slots-requires : goal.slots_of-slots-requires
-slots_of-slots-requires c = flow_most (image_in c.args.s.now c.args.y) c.args.c.at c.args.i c.requires.3 _ c.flow_under-flow.ensures c.requires.0.accepted
+slots_of-slots-requires c = flow_most (image_in c.args.s.now c.args.y) c.args.c.at c.args.i c.requires.instruction _ c.flow_under-flow.ensures c.requires.sourced.accepted
 
-pub case_count-requires : goal.case_count-requires
-case_count-requires c = let m = image_in c.args.s.now c.args.y in
-    let inside = case_inside m c.requires.0 c.args.c c.requires.1 c.requires.2 in
-    let cases = ap (λ (x : Instruction). x.cases) c.requires.3 in
-    (c.requires.0.rising, omega (arith, inside, cases, c.requires.0.accepted.cases_most), search rules, omega (arith, inside, cases, length-records case_from c.args.s.now c.args.y.code.cases))
+pub case_count-requires-clause-most : goal.case_count-requires-clause-most
+case_count-requires-clause-most c = let m = image_in c.args.s.now c.args.y in
+    let inside = case_inside m c.requires.sourced c.args.c c.requires.cursor c.requires.at_in in
+    let cases = ap (λ (x : Instruction). x.cases) c.requires.instruction in
+    omega (arith, inside, cases, c.requires.sourced.accepted.cases_most)
+
+pub case_count-requires-clause-cases_in : goal.case_count-requires-clause-cases_in
+case_count-requires-clause-cases_in c = let m = image_in c.args.s.now c.args.y in
+    let inside = case_inside m c.requires.sourced c.args.c c.requires.cursor c.requires.at_in in
+    let cases = ap (λ (x : Instruction). x.cases) c.requires.instruction in
+    omega (arith, inside, cases, length-records case_from c.args.s.now c.args.y.code.cases)
 
 pub overflow_add-result : goal.overflow_add-result
 overflow_add-result c = let m = image_in c.args.s.now c.args.y in
     omega
-    (arith, c.resolves-first.ensures, word_most (resolved m (transfer_in c.slot_transfer.result)), c.case_count.ensures, count_le (λ k. resolved m (case_transfer (get_or m.cases (c.args.c.case + k) (case_from [] 0)) k)) c.args.i.cases, case_fits m c.requires.0 c.args.c c.requires.1 c.requires.2, ap (λ (x : Instruction). x.cases) c.requires.3)
+    (arith, c.resolves-first.ensures, word_most (resolved m (transfer_in c.slot_transfer.result)), c.case_count.ensures, count_le (λ k. resolved m (case_transfer (get_or m.cases (c.args.c.case + k) (case_from [] 0)) k)) c.args.i.cases, case_fits m c.requires.sourced c.args.c c.requires.cursor c.requires.at_in, ap (λ (x : Instruction). x.cases) c.requires.instruction)
 
 pub returns-then-flow-eq-SWITCH : goal.returns-then-flow-eq-SWITCH
 returns-then-flow-eq-SWITCH c = let m = image_in c.args.s.now c.args.y in
     let flow = c.flow_under-flow.ensures in
-    let first = first_is m c.args.c.at c.args.i c.requires.3 _ flow _ _ c.slots_of-slots.ensures c.slot_transfer.ensures in
-    let switch = sym (flow_is m c.args.c.at c.args.i c.requires.3 _ flow) ∙ c.if-flow-eq-SWITCH.true in
+    let first = first_is m c.args.c.at c.args.i c.requires.instruction _ flow _ _ c.slots_of-slots.ensures c.slot_transfer.ensures in
+    let switch = sym (flow_is m c.args.c.at c.args.i c.requires.instruction _ flow) ∙ c.if-flow-eq-SWITCH.true in
     omega
-    (arith, c.resolves-first.ensures ∙ ap (λ (x : Transfer). word (resolved m x)) first, c.case_count.ensures, switch_count m c.requires.0 c.args.c c.requires.1 c.requires.2 c.args.i c.requires.3 switch)
-
-pub overflow_add-result-2 : goal.overflow_add-result-2
-overflow_add-result-2 c = let m = image_in c.args.s.now c.args.y in
-    omega
-    (arith, c.resolves-first.ensures, word_most (resolved m (transfer_in c.slot_transfer.result)), c.resolves.ensures, word_most (resolved m (transfer_in c.slot_transfer-2.result)))
+    (arith, c.resolves-first.ensures ∙ ap (λ (x : Transfer). word (resolved m x)) first, c.case_count.ensures, switch_count m c.requires.sourced c.args.c c.requires.cursor c.requires.at_in c.args.i c.requires.instruction switch)
 
 pub returns : goal.returns
 returns c = let m = image_in c.args.s.now c.args.y in
     let flow = c.flow_under-flow.ensures in
     let slots = c.slots_of-slots.ensures in
-    let first = first_is m c.args.c.at c.args.i c.requires.3 _ flow _ _ slots c.slot_transfer.ensures in
-    let second = second_is m c.args.c.at c.args.i c.requires.3 _ flow _ _ slots c.if-flow-eq-SWITCH.false c.slot_transfer-2.ensures in
-    let is = flow_is m c.args.c.at c.args.i c.requires.3 _ flow in
+    let first = first_is m c.args.c.at c.args.i c.requires.instruction _ flow _ _ slots c.slot_transfer.ensures in
+    let second = second_is m c.args.c.at c.args.i c.requires.instruction _ flow _ _ slots c.if-flow-eq-SWITCH.false c.slot_transfer-2.ensures in
+    let is = flow_is m c.args.c.at c.args.i c.requires.instruction _ flow in
     omega
-    (arith, c.resolves-first.ensures ∙ ap (λ (x : Transfer). word (resolved m x)) first, c.resolves.ensures ∙ ap (λ (x : Transfer). word (resolved m x)) second, two_count m c.requires.0 c.args.c c.requires.1 c.requires.2 c.args.i c.requires.3 (λ e. c.if-flow-eq-SWITCH.false (is ∙ e)))
+    (arith, c.resolves-first.ensures ∙ ap (λ (x : Transfer). word (resolved m x)) first, c.resolves.ensures ∙ ap (λ (x : Transfer). word (resolved m x)) second, two_count m c.requires.sourced c.args.c c.requires.cursor c.requires.at_in c.args.i c.requires.instruction (λ e. c.if-flow-eq-SWITCH.false (is ∙ e)))

@@ -20,21 +20,20 @@ unfolding flat
 loop-k-init c = (search rules, added_none _)
 
 pub overflow_add-first : goal.overflow_add-first
-overflow_add-first c = omega (arith, given_fits (image_in c.args.s.now c.args.y) c.requires.emitting.sourced c.args.c c.requires.c_value.0 c.requires.c_value.1 c.requires.at_value.0)
+overflow_add-first c = omega (arith, given_fits (image_in c.args.s.now c.args.y) c.requires.emitting.sourced c.args.c c.requires.cursor c.requires.at_in c.requires.is_given)
 
-pub add_given-requires : goal.add_given-requires
-add_given-requires c = let m = image_in c.args.s.now c.args.y in
+pub add_given-requires-clause-target : goal.add_given-requires-clause-target
+add_given-requires-clause-target c = let m = image_in c.args.s.now c.args.y in
     let k = c.loop-k.k in
-    let h : k < length (given_at m c.args.c.at) = omega arith in record {
-      emitting = c.requires.emitting;
-      p_bound = (
-        c.requires.c_value.1,
-        rw (given_next m c.requires.emitting.sourced c.args.c c.requires.c_value.0 c.requires.c_value.1 c.requires.at_value.0 k h)
-            (given_starts m c.requires.emitting.given c.args.c.at c.requires.c_value.1 c.requires.at_value.0 k h),
-        search rules,
-        omega (arith, h, given_inside m c.requires.emitting.sourced c.args.c c.requires.c_value.0 c.requires.c_value.1 c.requires.at_value.0, length-records edge_from c.args.s.now c.args.y.code.edges),
-      );
-    }
+    let h : k < length (given_at m c.args.c.at) = omega arith in
+    rw (given_next m c.requires.emitting.sourced c.args.c c.requires.cursor c.requires.at_in c.requires.is_given k h)
+    (given_starts m c.requires.emitting.given c.args.c.at c.requires.at_in c.requires.is_given k h)
+
+pub add_given-requires-clause-e_in : goal.add_given-requires-clause-e_in
+add_given-requires-clause-e_in c = let m = image_in c.args.s.now c.args.y in
+    let k = c.loop-k.k in
+    let h : k < length (given_at m c.args.c.at) = omega arith in
+    omega (arith, h, given_inside m c.requires.emitting.sourced c.args.c c.requires.cursor c.requires.at_in c.requires.is_given, length-records edge_from c.args.s.now c.args.y.code.edges)
 
 pub loop-k-preserved : goal.loop-k-preserved
 loop-k-preserved c = let m = image_in c.args.s.now c.args.y in
@@ -42,10 +41,10 @@ loop-k-preserved c = let m = image_in c.args.s.now c.args.y in
     let h : k < length (given_at m c.args.c.at) = omega arith in (
       search rules,
       edges_more (λ i. given_edge m c.args.c.at (given m c.args.c.at i) ∷ []) k c.loop-k.invariant.1
-          (rw (given_next m c.requires.emitting.sourced c.args.c c.requires.c_value.0 c.requires.c_value.1 c.requires.at_value.0 k h) at c.add_given.ensures),
+          (rw (given_next m c.requires.emitting.sourced c.args.c c.requires.cursor c.requires.at_in c.requires.is_given k h) at c.add_given.ensures),
     )
 
 pub returns : goal.returns
 returns c = let m = image_in c.args.s.now c.args.y in
     let all : c.loop-k.k ≡ length (given_at m c.args.c.at) = omega arith in
-    rw (given_edges m c.args.c.at c.requires.at_value.0, ← all) c.loop-k.invariant.1
+    rw (given_edges m c.args.c.at c.requires.is_given, ← all) c.loop-k.invariant.1

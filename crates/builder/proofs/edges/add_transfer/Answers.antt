@@ -5,26 +5,22 @@ use Rattle.graph.proofs.AddingLaws.{edge_added}
 use Rattle.builder.specs.Slots.{transfer_in}
 use Rattle.builder.proofs.EdgeLaws.{edge_found, edge_none, unresolved_of_law, unresolved_none}
 use native.Mathlib.Omega.{arith}
-use borrow.Author.Rules.{rules}
 use Rattle.builder.proofs.edges.add_transfer.Goals as goal
 
-pub resolve-requires : goal.resolve-requires
-resolve-requires c = (c.requires.emitting.sourced.rising, search rules)
-
-pub block_of-requires-in-At : goal.block_of-requires-in-At
-block_of-requires-in-At c = let m = image_in c.args.s.now c.args.y in
-    let r = rw c.in-At.is at (c.resolve.ensures m refl) in
+pub block_of-requires-in-Some : goal.block_of-requires-in-Some
+block_of-requires-in-Some c = let m = image_in c.args.s.now c.args.y in
+    let r = rw c.in-Some.is at (c.resolve.ensures m refl) in
     omega (arith, r.2, c.requires.emitting.room)
 
-pub returns-in-At : goal.returns-in-At
-returns-in-At c = let m = image_in c.args.s.now c.args.y in
+pub returns-in-Some : goal.returns-in-Some
+returns-in-Some c = let m = image_in c.args.s.now c.args.y in
     let x = transfer_in c.args.x in
-    let r = rw c.in-At.is at (c.resolve.ensures m refl) in
-    rw (unresolved_none m x c.args.p r.0, edge_found m x c.args.p c.args.blocks.now _ c.args.source _ _ _ c.requires.emitting c.requires.p_bound.0 r c.requires.p_bound.1 c.block_of.ensures c.block_of-in-At.ensures c.edge_between.ensures)
+    let r = rw c.in-Some.is at (c.resolve.ensures m refl) in
+    rw (unresolved_none m x c.args.p r.0, edge_found m x c.args.p c.args.blocks.now _ c.args.source _ _ _ c.requires.emitting c.requires.p_in r c.requires.source c.block_of.ensures c.block_of-in-Some.ensures c.edge_between.ensures)
     (edge_added _ c.add_edge.ensures)
 
-pub returns-in-Nothing : goal.returns-in-Nothing
-returns-in-Nothing c = let m = image_in c.args.s.now c.args.y in
+pub returns-in-None : goal.returns-in-None
+returns-in-None c = let m = image_in c.args.s.now c.args.y in
     let x = transfer_in c.args.x in
-    let r = rw c.in-Nothing.is at (c.resolve.ensures m refl) in
-    rw (edge_none m x c.args.p r, unresolved_of_law m x c.args.p r, ← c.requires.p_bound.1) c.report.ensures
+    let r = rw c.in-None.is at (c.resolve.ensures m refl) in
+    rw (edge_none m x c.args.p r, unresolved_of_law m x c.args.p r, ← c.requires.source) c.report.ensures

@@ -13,23 +13,19 @@ use borrow.Author.Rules.{rules}
 use Rattle.builder.proofs.edges.add_transfers.Goals as goal
 
 pub slots_of-slots-requires : goal.slots_of-slots-requires
-slots_of-slots-requires c = flow_most (image_in c.args.s.now c.args.y) c.args.c.at c.args.i c.requires.c_value.2 _ c.flow_under-flow.ensures c.requires.emitting.sourced.accepted
+slots_of-slots-requires c = flow_most (image_in c.args.s.now c.args.y) c.args.c.at c.args.i c.requires.instruction _ c.flow_under-flow.ensures c.requires.emitting.sourced.accepted
 
 pub slot_end-n-requires : goal.slot_end-n-requires
-slot_end-n-requires c = omega (arith, case_fits (image_in c.args.s.now c.args.y) c.requires.emitting.sourced c.args.c c.requires.c_value.0 c.requires.c_value.1, ap (λ (x : Instruction). x.cases) c.requires.c_value.2)
+slot_end-n-requires c = omega (arith, case_fits (image_in c.args.s.now c.args.y) c.requires.emitting.sourced c.args.c c.requires.cursor c.requires.at_in, ap (λ (x : Instruction). x.cases) c.requires.instruction)
 
 pub loop-k-init : goal.loop-k-init
 unfolding flat
 loop-k-init c = (search rules, ap (λ (x : Slot × Slot). x.0) c.slots_of-slots.ensures, added_none _)
 
-pub transfer_of-x-requires : goal.transfer_of-x-requires
-transfer_of-x-requires c = let q = c.requires.c_value in
-    let flow = c.flow_under-flow.ensures in
-    let most = end_most (image_in c.args.s.now c.args.y) c.args.c.at c.args.i q.2 _ flow _ c.slots_of-slots.ensures _ c.slot_end-n.ensures c.requires.emitting.sourced q.1 in
-    record { sourced = (c.requires.emitting.sourced, q.0, q.1, q.2, search rules); flow_value = (flow, c.loop-k.invariant.1, omega (arith, most, c.loop-k-test.true)) }
-
-pub add_transfer-requires : goal.add_transfer-requires
-add_transfer-requires c = record { emitting = c.requires.emitting; p_bound = (c.requires.c_value.1, ap (λ (x : Instruction). x.address) c.requires.c_value.2, search rules) }
+pub transfer_of-x-requires-clause-k_in : goal.transfer_of-x-requires-clause-k_in
+transfer_of-x-requires-clause-k_in c = let flow = c.flow_under-flow.ensures in
+    let most = end_most (image_in c.args.s.now c.args.y) c.args.c.at c.args.i c.requires.instruction _ flow _ c.slots_of-slots.ensures _ c.slot_end-n.ensures c.requires.emitting.sourced c.requires.at_in in
+    omega (arith, most, c.loop-k-test.true)
 
 pub loop-k-preserved : goal.loop-k-preserved
 loop-k-preserved c = let m = image_in c.args.s.now c.args.y in
@@ -43,6 +39,6 @@ loop-k-preserved c = let m = image_in c.args.s.now c.args.y in
 pub returns : goal.returns
 returns c = let m = image_in c.args.s.now c.args.y in
     let p = c.args.c.at in
-    let all = end_all m p c.args.i c.requires.c_value.2 _ c.flow_under-flow.ensures _ c.slots_of-slots.ensures _ c.slot_end-n.ensures c.requires.emitting.sourced c.requires.c_value.1 in
+    let all = end_all m p c.args.i c.requires.instruction _ c.flow_under-flow.ensures _ c.slots_of-slots.ensures _ c.slot_end-n.ensures c.requires.emitting.sourced c.requires.at_in in
     let last : c.loop-k.k ≡ c.slot_end-n.result = omega arith in
     rw (← all.0, ← all.1, ← last) c.loop-k.invariant.2

@@ -2,8 +2,5 @@
 use Rattle.graph.proofs.AddingLaws.{added_none}
 use Rattle.builder.proofs.edges.emit_if.Goals as goal
 
-pub returns-then-ends : goal.returns-then-ends
-returns-then-ends c = rw c.if-ends.true c.emit.ensures
-
 pub returns-else-ends : goal.returns-else-ends
 returns-else-ends c = rw c.if-ends.false (added_none _)

@@ -13,17 +13,14 @@ use native.Mathlib.Omega.{arith}
 use borrow.Author.Rules.{rules}
 use Rattle.builder.proofs.exceptions.add_exception_edges.Goals as goal
 
-pub overflow_cast-n : goal.overflow_cast-n
-overflow_cast-n c = omega (arith, c.requires.0.few, length-records handler_from c.args.s.now c.args.y.code.handlers)
-
 pub loop-h-init : goal.loop-h-init
 unfolding flat
-loop-h-init c = (search rules, omega (arith, c.requires.0.few, length-records handler_from c.args.s.now c.args.y.code.handlers), added_none _)
+loop-h-init c = (search rules, omega (arith, c.requires.handled.few, length-records handler_from c.args.s.now c.args.y.code.handlers), added_none _)
 
-pub add_handler_edges-requires : goal.add_handler_edges-requires
-add_handler_edges-requires c = let m = image_in c.args.s.now c.args.y in
+pub add_handler_edges-requires-clause-checked : goal.add_handler_edges-requires-clause-checked
+add_handler_edges-requires-clause-checked c = let m = image_in c.args.s.now c.args.y in
     let size = length-records handler_from c.args.s.now c.args.y.code.handlers in
-    record { handled = (c.requires.0, c.requires.1, search rules, search rules); h_value = checks_at (handler_check m) (length m.handlers) c.loop-h.h c.requires.0.passed (omega arith) }
+    checks_at (handler_check m) (length m.handlers) c.loop-h.h c.requires.handled.passed (omega arith)
 
 pub loop-h-preserved : goal.loop-h-preserved
 loop-h-preserved c = let m = image_in c.args.s.now c.args.y in

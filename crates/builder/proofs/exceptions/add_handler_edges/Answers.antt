@@ -1,9 +1,8 @@
-use mathlib.Core.Path.{◌≡◌, sym, ap, ◌∙◌}
+use mathlib.Core.Path.{◌≡◌}
 use Prim.Native.Nat.{◌-◌}
 use Rattle.image.specs.Image.{image_in}
 use Rattle.graph.specs.Fold.{flat}
-use Rattle.graph.specs.Transfer.{table_of, Transfer}
-use Rattle.graph.specs.Blocks.{block_at}
+use Rattle.graph.specs.Transfer.{table_of}
 use Rattle.graph.specs.Edges.{unwind_edges}
 use Rattle.graph.proofs.TableLaws.{length-entries}
 use Rattle.graph.proofs.AddingLaws.{added_none}
@@ -17,22 +16,27 @@ use Rattle.builder.proofs.exceptions.add_handler_edges.Goals as goal
 
 pub returns-in_default : goal.returns-in_default
 returns-in_default c = let m = image_in c.args.s.now c.args.y in
-    absurd (has_positions (table_of m) _ _ (range_passes m c.args.h c.requires.h_value _ c.handler-own.ensures) c.range_check-range.result c.range_check-range.ensures c.in_default.not-Positions)
+    absurd (has_positions (table_of m) _ _ (range_passes m c.args.h c.requires.checked _ c.handler-own.ensures) c.range_check-found.result c.range_check-found.ensures c.in_default.not-Ok)
 
-pub block_at-to-requires : goal.block_at-to-requires
-block_at-to-requires c = (c.requires.handled.0.numbered, rw c.handler-own.ensures (entry_clear (image_in c.args.s.now c.args.y) c.args.h c.requires.h_value), search rules)
+pub block_at-to-requires-clause-start : goal.block_at-to-requires-clause-start
+block_at-to-requires-clause-start c = rw c.handler-own.ensures (entry_clear (image_in c.args.s.now c.args.y) c.args.h c.requires.checked)
 
 pub loop-p-init : goal.loop-p-init
 unfolding flat
-loop-p-init c = let range = rw c.in-Positions.is at c.range_check-range.ensures in
-    let first = c.in-Positions.first in
+loop-p-init c = let range = rw c.in-Ok.is at c.range_check-found.ensures in
+    let first = c.in-Ok.range.first in
     let none : first - first ≡ 0 = omega arith in
     (omega arith, omega arith, rw none (added_none _))
 
-pub add_if_kept-requires : goal.add_if_kept-requires
-add_if_kept-requires c = let m = image_in c.args.s.now c.args.y in
-    let range = rw c.in-Positions.is at c.range_check-range.ensures in
-    let size = length-entries m.instructions in record { numbered = (c.requires.handled.0.numbered, omega arith, search rules); x_value = (entry_resolved m c.args.h c.handler-own.result c.handler-own.ensures _ c.unwind_transfer-x.ensures c.requires.h_value, c.block_at-to.ensures ∙ ap (λ (x : Transfer). block_at m x.target) (sym c.unwind_transfer-x.ensures)) }
+pub add_if_kept-requires-clause-p_in : goal.add_if_kept-requires-clause-p_in
+add_if_kept-requires-clause-p_in c = let m = image_in c.args.s.now c.args.y in
+    let range = rw c.in-Ok.is at c.range_check-found.ensures in
+    let size = length-entries m.instructions in
+    omega arith
+
+pub add_if_kept-requires-clause-resolved : goal.add_if_kept-requires-clause-resolved
+add_if_kept-requires-clause-resolved c = let m = image_in c.args.s.now c.args.y in
+    entry_resolved m c.args.h c.handler-own.result c.handler-own.ensures _ c.unwind_transfer-x.ensures c.requires.checked
 
 pub loop-p-preserved : goal.loop-p-preserved
 loop-p-preserved c = let m = image_in c.args.s.now c.args.y in (
@@ -44,9 +48,6 @@ loop-p-preserved c = let m = image_in c.args.s.now c.args.y in (
 
 pub returns : goal.returns
 returns c = let m = image_in c.args.s.now c.args.y in
-    let range = rw c.in-Positions.is at c.range_check-range.ensures in
-    let all : c.loop-p.p ≡ c.in-Positions.past = omega arith in
-    rw (← range_size_law m c.args.h c.handler-own.result c.handler-own.ensures _ _ range, ← range_first_law m c.args.h c.handler-own.result c.handler-own.ensures _ _ range) (rw all at c.loop-p.invariant.2)
-
-pub enum_known-range : goal.enum_known-range
-enum_known-range c = c.in-Positions.in-Positions-own.keys1
+    let range = rw c.in-Ok.is at c.range_check-found.ensures in
+    let all : c.loop-p.p ≡ c.in-Ok.range.past = omega arith in
+    rw (← range_size_law m c.args.h c.handler-own.result c.handler-own.ensures _ range, ← range_first_law m c.args.h c.handler-own.result c.handler-own.ensures _ range) (rw all at c.loop-p.invariant.2)

@@ -13,12 +13,12 @@ use borrow.Author.Rules.{rules}
 use Rattle.builder.proofs.exceptions.add_if_kept.Goals as goal
 
 pub instruction_in-i-requires : goal.instruction_in-i-requires
-instruction_in-i-requires c = (search rules, omega (arith, c.requires.numbered.1, length-records instruction_from c.args.s.now c.args.y.code.instructions))
+instruction_in-i-requires c = (search rules, omega (arith, c.requires.p_in, length-records instruction_from c.args.s.now c.args.y.code.instructions))
 
 pub returns-then-i : goal.returns-then-i
 unfolding instruction_at
 returns-then-i c = let m = image_in c.args.s.now c.args.y in
-    rw (ap (λ (x : Instruction). x.keeps) (sym c.instruction_in-i.ensures) ∙ c.if-i.true, edge_to m (transfer_in c.args.x) c.args.p c.args.blocks.now c.instruction_in-i.result _ _ _ c.requires.numbered.0 c.requires.numbered.1 c.requires.x_value.0 c.instruction_in-i.ensures c.block_of.ensures c.requires.x_value.1 c.edge_between.ensures)
+    rw (ap (λ (x : Instruction). x.keeps) (sym c.instruction_in-i.ensures) ∙ c.if-i.true, edge_to m (transfer_in c.args.x) c.args.p c.args.blocks.now c.instruction_in-i.result _ _ _ c.requires.numbered c.requires.p_in c.requires.resolved c.instruction_in-i.ensures c.block_of.ensures c.requires.to c.edge_between.ensures)
     (edge_added _ c.add_edge.ensures)
 
 pub returns-else-i : goal.returns-else-i

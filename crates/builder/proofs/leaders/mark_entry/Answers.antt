@@ -7,14 +7,13 @@ use Rattle.image.specs.Image.{image_in}
 use Rattle.graph.specs.Leaders.{entry_mark}
 use Rattle.graph.proofs.TableLaws.{entry_address}
 use Rattle.builder.proofs.MarkLaws.{few, mark_then, mark_as, mark_within}
-use borrow.Author.Rules.{rules}
 use Rattle.builder.proofs.leaders.mark_entry.Goals as goal
 
-pub mark_target_if-requires : goal.mark_target_if-requires
-mark_target_if-requires c = record { rising = (c.requires.0.sourced.rising, search rules); count_bound = few _ _ c.requires.0 }
+pub mark_target_if-requires-clause-count_most : goal.mark_target_if-requires-clause-count_most
+mark_target_if-requires-clause-count_most c = few _ _ c.requires.passed
 
 pub returns : goal.returns
 unfolding entry_mark
 returns c = let m = image_in c.args.s.now c.args.y in
     mark_as (entry_mark m) (λ p h. ap (λ (b : ℕ). eqb p 0 || (m.header.has_entry && eqb b m.header.entry)) (entry_address m p))
-    (mark_then (mark_within _ (few _ _ c.requires.0) c.mark_at.ensures) c.mark_target_if.ensures)
+    (mark_then (mark_within _ (few _ _ c.requires.passed) c.mark_at.ensures) c.mark_target_if.ensures)

@@ -9,17 +9,8 @@ use native.Mathlib.Omega.{arith}
 use borrow.Author.Rules.{rules}
 use Rattle.builder.proofs.leaders.mark_handlers.Goals as goal
 
-pub overflow_cast-n : goal.overflow_cast-n
-overflow_cast-n c = omega (arith, c.struct_known-1.given)
-
 pub loop-h-init : goal.loop-h-init
 loop-h-init c = (search rules, marks_none (protect_mark (image_in _ _)))
-
-pub mark_handler-requires : goal.mark_handler-requires
-mark_handler-requires c = (c.requires.0, c.requires.1, search rules, search rules)
-
-pub overflow_step-h : goal.overflow_step-h
-overflow_step-h c = omega (arith, c.struct_known-1)
 
 pub loop-h-preserved : goal.loop-h-preserved
 loop-h-preserved c = (search rules, marks_more (protect_mark (image_in _ _)) c.loop-h.h c.loop-h.invariant.1 c.mark_handler.ensures)

@@ -10,31 +10,30 @@ use Rattle.graph.specs.Leaders.{exceptional_mark}
 use Rattle.builder.proofs.MarkLaws.{few, inside, mark_then, mark_as, mark_within}
 use Rattle.builder.proofs.ScanLaws.{scan_instruction, scan-given, scan_fits, scan_next}
 use Rattle.builder.proofs.FlowLaws.{lead_marks}
-use borrow.Author.Rules.{rules}
 use Rattle.builder.proofs.leaders.mark_visit.Goals as goal
 
-pub instruction_in-i-requires : goal.instruction_in-i-requires
-instruction_in-i-requires c = (search rules, c.requires.2)
+pub mark_gap-requires-clause-instruction : goal.mark_gap-requires-clause-instruction
+mark_gap-requires-clause-instruction c = scan_instruction c.args.s.now c.args.y _ _ c.instruction_in-i.ensures
 
-pub mark_gap-requires : goal.mark_gap-requires
-mark_gap-requires c = (c.requires.0, c.requires.2, scan_instruction c.args.s.now c.args.y _ _ c.instruction_in-i.ensures, search rules)
+pub mark_lead-requires-clause-given : goal.mark_lead-requires-clause-given
+mark_lead-requires-clause-given c = scan-given c.args.s.now c.args.y c.requires.passed.sourced c.args.c.at c.args.c c.requires.cursor c.requires.at_in _ c.instruction_in-i.ensures _ c.given_at-given.ensures
 
-pub mark_lead-requires : goal.mark_lead-requires
-mark_lead-requires c = let read = c.instruction_in-i.ensures in
-    (c.requires.0, c.requires.1, c.requires.2, scan-given c.args.s.now c.args.y c.requires.0.sourced c.args.c c.requires.1 c.requires.2 _ read _ c.given_at-given.ensures, scan_instruction c.args.s.now c.args.y _ _ read, search rules)
+pub mark_lead-requires-clause-instruction : goal.mark_lead-requires-clause-instruction
+mark_lead-requires-clause-instruction c = let read = c.instruction_in-i.ensures in
+    scan_instruction c.args.s.now c.args.y _ _ read
 
-pub mark_funclet_end-requires : goal.mark_funclet_end-requires
-mark_funclet_end-requires c = (c.requires.0, scan_instruction c.args.s.now c.args.y _ _ c.instruction_in-i.ensures, c.requires.3, search rules)
+pub mark_funclet_end-requires-clause-instruction : goal.mark_funclet_end-requires-clause-instruction
+mark_funclet_end-requires-clause-instruction c = scan_instruction c.args.s.now c.args.y _ _ c.instruction_in-i.ensures
 
 pub cursor_after-requires : goal.cursor_after-requires
-cursor_after-requires c = scan_fits c.args.s.now c.args.y c.requires.0.sourced c.args.c c.requires.1 c.requires.2 c.instruction_in-i.result c.instruction_in-i.ensures c.given_at-given.result c.given_at-given.ensures
+cursor_after-requires c = scan_fits c.args.s.now c.args.y c.requires.passed.sourced c.args.c.at c.args.c c.requires.cursor c.requires.at_in _ c.instruction_in-i.ensures _ c.given_at-given.ensures
 
 pub returns : goal.returns
 unfolding exceptional_mark
 returns c = let m = image_in c.args.s.now c.args.y in
     let q = c.args.c.at in
     let instruction = scan_instruction c.args.s.now c.args.y q c.instruction_in-i.result c.instruction_in-i.ensures in
-    let next = scan_next c.args.s.now c.args.y c.requires.0.sourced c.args.c c.requires.1 c.requires.2 c.instruction_in-i.result c.instruction_in-i.ensures c.given_at-given.result c.given_at-given.ensures _ c.cursor_after.ensures in
-    let leads = lead_marks m c.requires.0.sourced q (inside c.args.s.now c.args.y q c.requires.2) (sym (length-records instruction_from c.args.s.now c.args.y.code.instructions)) c.mark_gap.ensures c.mark_lead.ensures in
-    let throws = mark_as (λ p. exceptional_mark m q && eqb p q) (λ p h. ap (λ (x : Instruction). eqb x.flow 9 && eqb p q) instruction) (mark_within _ (few _ _ c.requires.0) c.mark_if.ensures) in
-    (next, mark_then (mark_then leads throws) c.mark_funclet_end.ensures)
+    let next = scan_next c.args.s.now c.args.y c.requires.passed.sourced c.args.c.at c.args.c c.requires.cursor c.requires.at_in _ c.instruction_in-i.ensures _ c.given_at-given.ensures _ c.cursor_after.ensures in
+    let leads = lead_marks m c.requires.passed.sourced q (inside c.args.s.now c.args.y q c.requires.at_in) (sym (length-records instruction_from c.args.s.now c.args.y.code.instructions)) c.mark_gap.ensures c.mark_lead.ensures in
+    let throws = mark_as (λ p. exceptional_mark m q && eqb p q) (λ p h. ap (λ (x : Instruction). eqb x.flow 9 && eqb p q) instruction) (mark_within _ (few _ _ c.requires.passed) c.mark_if.ensures) in
+    record { next = next; marked = mark_then (mark_then leads throws) c.mark_funclet_end.ensures }

@@ -3,16 +3,12 @@ use mathlib.Core.Path.{ap, sym, ◌∙◌}
 use Rattle.image.specs.Little.{le8}
 use Rattle.image.specs.Record.{instruction_from}
 use Rattle.image.specs.Image.{records_in}
-use Rattle.image.proofs.Tables.{records_in_law, record_there}
+use Rattle.image.proofs.Tables.{records_in_law}
 use Rattle.graph.proofs.TableLaws.{address_is}
-use native.Mathlib.Omega.{arith}
 use Rattle.builder.proofs.lookup.address_at.Goals as goal
-
-pub octet-requires : goal.octet-requires
-octet-requires c = omega (arith, c.place.ensures.0, record_there c.args.s.now c.args.y c.args.i 31 c.requires.1 c.requires.0)
 
 pub returns : goal.returns
 returns c = let is = records_in instruction_from c.args.s.now c.args.y in
     c.octet.ensures
     ∙ ap (le8 c.args.s.now) c.place.ensures.0
-    ∙ sym (address_is is c.args.i _ (sym (records_in_law instruction_from c.args.s.now c.args.y c.args.i c.requires.0)))
+    ∙ sym (address_is is c.args.i _ (sym (records_in_law instruction_from c.args.s.now c.args.y c.args.i c.requires.i_in)))

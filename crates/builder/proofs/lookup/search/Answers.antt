@@ -4,7 +4,7 @@ use lib.ListN.{length}
 use Rattle.image.specs.Image.{records_in}
 use Rattle.image.specs.Record.{instruction_from}
 use Rattle.graph.specs.Transfer.{entries_of}
-use Rattle.graph.proofs.TableLaws.{size_is, start_at, start_none, below_at, go_left, go_right}
+use Rattle.graph.proofs.TableLaws.{size_is, start_at, start_none, below_at, go_right}
 use native.Mathlib.Omega.{arith}
 use borrow.Author.Rules.{rules}
 use Rattle.builder.proofs.lookup.search.Goals as goal
@@ -17,21 +17,14 @@ returns-then-x-a c = let mid = c.loop-lo.lo + (c.loop-lo.hi - c.loop-lo.lo) / 2 
     let is = records_in instruction_from c.args.s.now c.args.y in
     let inside : mid < length (entries_of is) = rw (size_is c.args.s.now c.args.y) (omega arith) in
     let here = sym c.address_at-x.ensures ∙ c.if-x-a.true in
-    (start_at (entries_of is) c.args.a mid inside here, rw here at (below_at (entries_of is) c.requires.0 mid inside), inside)
+    (start_at (entries_of is) c.args.a mid inside here, rw here at (below_at (entries_of is) c.requires.rising mid inside), inside)
 
 pub loop-lo-preserved-then-x-a-2 : goal.loop-lo-preserved-then-x-a-2
 loop-lo-preserved-then-x-a-2 c = let mid = c.loop-lo.lo + (c.loop-lo.hi - c.loop-lo.lo) / 2 in
     let is = records_in instruction_from c.args.s.now c.args.y in
     let inside : mid < length (entries_of is) = rw (size_is c.args.s.now c.args.y) (omega arith) in
     let here = c.address_at-x.ensures in
-    (search rules, search rules, go_right (entries_of is) c.requires.0 c.args.a c.loop-lo.lo c.loop-lo.hi mid c.loop-lo.invariant.2 inside (rw (← here) c.if-x-a-2.true))
-
-pub loop-lo-preserved : goal.loop-lo-preserved
-loop-lo-preserved c = let mid = c.loop-lo.lo + (c.loop-lo.hi - c.loop-lo.lo) / 2 in
-    let is = records_in instruction_from c.args.s.now c.args.y in
-    let inside : mid < length (entries_of is) = rw (size_is c.args.s.now c.args.y) (omega arith) in
-    let here = c.address_at-x.ensures in
-    (search rules, search rules, go_left (entries_of is) c.requires.0 c.args.a c.loop-lo.lo c.loop-lo.hi mid c.loop-lo.invariant.2 inside (rw (← here) (omega arith)))
+    (search rules, search rules, go_right (entries_of is) c.requires.rising c.args.a c.loop-lo.lo c.loop-lo.hi mid c.loop-lo.invariant.2 inside (rw (← here) c.if-x-a-2.true))
 
 pub returns : goal.returns
 returns c = start_none (entries_of (records_in instruction_from c.args.s.now c.args.y)) c.args.a

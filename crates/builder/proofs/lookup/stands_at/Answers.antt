@@ -1,24 +1,17 @@
 -- Eight bytes are the address of its record. Assumes nothing.
 use mathlib.Core.Path.{◌≡◌, ap, sym, ◌∙◌}
-use mathlib.Core.Bool.{false≢true}
 use Prim.Native.Nat.{◌<◌}
 use lib.ListN.{length}
 use borrow.Author.Tests.{eqb-true}
 use Rattle.image.specs.Little.{le8}
 use Rattle.image.specs.Record.{instruction_from}
 use Rattle.image.specs.Image.{records_in}
-use Rattle.image.proofs.Tables.{records_in_law, record_there}
+use Rattle.image.proofs.Tables.{records_in_law}
 use Rattle.graph.specs.Table.{entry_at}
 use Rattle.graph.specs.Lookup.{entries_in}
 use Rattle.graph.proofs.TableLaws.{address_is, size_is, start_at, below_at}
 use native.Mathlib.Omega.{arith}
 use Rattle.builder.proofs.lookup.stands_at.Goals as goal
-
-pub returns-then-n-i : goal.returns-then-n-i
-returns-then-n-i c = λ e. absurd (false≢true e)
-
-pub octet-requires : goal.octet-requires
-octet-requires c = omega (arith, c.place-at.ensures.0, record_there c.args.s.now c.args.y c.args.i 31 c.requires.1 (omega arith))
 
 pub returns : goal.returns
 returns c = λ e.
@@ -30,4 +23,4 @@ returns c = λ e.
     ∙ sym c.octet.ensures
     ∙ eqb-true _ _ e
     in
-    (start_at t c.args.a c.args.i inside here, rw here at (below_at t c.requires.0 c.args.i inside), inside)
+    (start_at t c.args.a c.args.i inside here, rw here at (below_at t c.requires.rising c.args.i inside), inside)

@@ -7,5 +7,5 @@ pub returns-in_default : goal.returns-in_default
 returns-in_default c = mark_none _ (λ p h. start_never _ c.args.a p (rw c.in_default.is at c.find.ensures) (rw (size_is c.args.s.now c.args.y) h))
 
 pub returns : goal.returns
-returns c = let found = rw c.in-At.is at c.find.ensures in
-    mark_as _ (λ p h. start_place _ c.requires.rising.0 c.args.a _ p found.0 found.1 (rw (size_is c.args.s.now c.args.y) h)) (mark_within _ c.requires.count_bound c.mark_at.ensures)
+returns c = let found = rw c.in-Some.is at c.find.ensures in
+    mark_as _ (λ p h. start_place _ c.requires.rising c.args.a _ p found.0 found.1 (rw (size_is c.args.s.now c.args.y) h)) (mark_within _ c.requires.count_most c.mark_at.ensures)

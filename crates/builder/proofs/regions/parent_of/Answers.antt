@@ -1,13 +1,13 @@
-use mathlib.Core.Path.{◌≡◌, refl, sym, ap, ap₂, ◌∙◌}
+use mathlib.Core.Path.{refl, sym, ap, ap₂, ◌∙◌}
+use Rattle.std.specs.Option.{option_to_list}
 use mathlib.Core.Bool.{cond}
 use mathlib.Core.List.{List, [], ◌∷◌}
 use mathlib.Core.Logic.{⊎_elim}
 use Prim.Native.Nat.{ℕ}
-use lib.ListN.{length, get_or}
-use Rattle.graph.specs.Regions.{drafts, contains, smaller, parent_below}
-use Rattle.builder.specs.declared.regions.Parent.{Parent}
-use Rattle.builder.specs.Drafts.{parent_in}
-use Rattle.builder.proofs.DraftLaws.{drafted_size, drafted_at}
+use lib.ListN.{get_or}
+use Rattle.graph.specs.Regions.{contains, smaller, parent_below}
+use Rattle.std.proofs.Common.{Option}
+use Rattle.builder.proofs.DraftLaws.{drafted_at}
 use Rattle.builder.proofs.RegionLaws.{parent_in_law, parent_out}
 use native.Mathlib.Omega.{arith}
 use borrow.Author.Rules.{rules}
@@ -17,30 +17,20 @@ pub loop-k-init : goal.loop-k-init
 unfolding parent_below
 loop-k-init c = (search rules, search rules, λ m e d. refl)
 
-pub contains-requires : goal.contains-requires
-contains-requires c = (c.requires.0.below c.loop-k.k, c.requires.0.below c.args.r)
-
-pub nearer-parent-requires : goal.nearer-parent-requires
-nearer-parent-requires c = let counted = c.requires.0 in
-    (record { room = counted.room; within = omega arith; below = counted.below }, c.loop-k.invariant.1)
-
 pub loop-k-preserved : goal.loop-k-preserved
 loop-k-preserved c = let r = c.args.r in
     let k = c.loop-k.k in
     let here = c.contains.ensures in
     ⊎_elim (λ w. (
       search rules,
-      omega (arith, w.nearer-parent.ensures.0, ap (λ (p : Parent). get_or (parent_in p) 0 0) w.parent-is),
+      omega (arith, w.nearer-parent.ensures.within, ap (λ (p : Option ℕ). get_or (option_to_list p) 0 0) w.parent-is),
       λ m e d.
           let is = here m e ∙ ap₂ (contains m) (drafted_at d k (omega arith)) (drafted_at d r (omega arith)) in
-          ap parent_in w.parent-is ∙ w.nearer-parent.ensures.1 m e (λ i h. drafted_at d i (omega arith)) ∙ ap (λ (l : List ℕ). cond (smaller m l k) (k ∷ []) l) (c.loop-k.invariant.2 m e d) ∙ sym (parent_in_law m r k (sym is ∙ w.if-contains.true)),
+          ap option_to_list w.parent-is ∙ w.nearer-parent.ensures.nearer m e (λ i h. drafted_at d i (omega arith)) ∙ ap (λ (l : List ℕ). cond (smaller m l k) (k ∷ []) l) (c.loop-k.invariant.2 m e d) ∙ sym (parent_in_law m r k (sym is ∙ w.if-contains.true)),
     )) (λ w. (
       search rules,
-      omega (arith, ap (λ (p : Parent). get_or (parent_in p) 0 0) w.parent-is),
+      omega (arith, ap (λ (p : Option ℕ). get_or (option_to_list p) 0 0) w.parent-is),
       λ m e d.
           let is = here m e ∙ ap₂ (contains m) (drafted_at d k (omega arith)) (drafted_at d r (omega arith)) in
-          ap parent_in w.parent-is ∙ c.loop-k.invariant.2 m e d ∙ sym (parent_out m r k (sym is ∙ w.if-contains.false)),
+          ap option_to_list w.parent-is ∙ c.loop-k.invariant.2 m e d ∙ sym (parent_out m r k (sym is ∙ w.if-contains.false)),
     )) c.if-contains.branch-raw
-
-pub returns : goal.returns
-returns c = λ m e d. let all : c.loop-k.k ≡ length (drafts m) = omega (arith, drafted_size d) in rw all at (c.loop-k.invariant.2 m e d)

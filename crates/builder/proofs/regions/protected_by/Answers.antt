@@ -10,16 +10,13 @@ use Rattle.builder.proofs.regions.protected_by.Goals as goal
 
 pub returns-in_default : goal.returns-in_default
 returns-in_default c = let m = image_in c.args.s.now c.args.y in
-    absurd (has_positions (table_of m) _ _ (range_passes m c.args.h c.requires.h_value _ c.handler-own.ensures) c.range_check-range.result c.range_check-range.ensures c.in_default.not-Positions)
+    absurd (has_positions (table_of m) _ _ (range_passes m c.args.h c.requires.checked _ c.handler-own.ensures) c.range_check-found.result c.range_check-found.ensures c.in_default.not-Ok)
 
-pub blocks_between-requires : goal.blocks_between-requires
-blocks_between-requires c = let range = rw c.in-Positions.is at c.range_check-range.ensures in
+pub blocks_between-requires-clause-past_in : goal.blocks_between-requires-clause-past_in
+blocks_between-requires-clause-past_in c = let range = rw c.in-Ok.is at c.range_check-found.ensures in
     let size = length-entries (image_in c.args.s.now c.args.y).instructions in
-    (omega arith, omega arith)
+    omega arith
 
 pub returns : goal.returns
-returns c = let range = rw c.in-Positions.is at c.range_check-range.ensures in
-    c.blocks_between.ensures ∙ range_known (image_in c.args.s.now c.args.y) c.args.blocks.now c.args.h _ _ _ c.requires.handled.0.numbered c.handler-own.ensures range
-
-pub enum_known-range : goal.enum_known-range
-enum_known-range c = c.in-Positions.in-Positions-own.keys1
+returns c = let range = rw c.in-Ok.is at c.range_check-found.ensures in
+    c.blocks_between.ensures ∙ range_known (image_in c.args.s.now c.args.y) c.args.blocks.now c.args.h _ _ c.requires.handled.numbered c.handler-own.ensures range

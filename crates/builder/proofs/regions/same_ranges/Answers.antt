@@ -1,4 +1,4 @@
-use mathlib.Core.Path.{◌≡◌, refl, sym, ◌∙◌}
+use mathlib.Core.Path.{refl, sym, ◌∙◌}
 use mathlib.Core.Logic.{⊎_elim}
 use native.Mathlib.Numerals.{add-one}
 use Rattle.graph.specs.Fold.{count}
@@ -16,7 +16,3 @@ pub loop-g-preserved : goal.loop-g-preserved
 loop-g-preserved c = let h = c.args.h in
     let is = c.same_range.ensures in
     ⊎_elim (λ w. (search rules, omega arith, λ m e. rw (add-one c.loop-g.g) (omega (arith, c.loop-g.invariant.2 m e, count_yes (λ g. same_range m g h) c.loop-g.g (sym (is m e) ∙ w.if-same_range.true))))) (λ w. (search rules, omega arith, λ m e. rw (add-one c.loop-g.g) (omega (arith, c.loop-g.invariant.2 m e, count_no (λ g. same_range m g h) c.loop-g.g (sym (is m e) ∙ w.if-same_range.false))))) c.if-same_range.branch-raw
-
-pub returns : goal.returns
-returns c = let all : c.loop-g.g ≡ c.args.n = omega arith in
-    λ m e. rw all at (c.loop-g.invariant.2 m e)

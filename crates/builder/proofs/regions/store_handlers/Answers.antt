@@ -14,18 +14,15 @@ use native.Mathlib.Omega.{arith}
 use borrow.Author.Rules.{rules}
 use Rattle.builder.proofs.regions.store_handlers.Goals as goal
 
-pub overflow_cast-n : goal.overflow_cast-n
-overflow_cast-n c = omega (arith, length-records handler_from c.args.s.now c.args.y.code.handlers)
-
 pub loop-h-init : goal.loop-h-init
 unfolding table
-loop-h-init c = (search rules, omega (arith, length-records handler_from c.args.s.now c.args.y.code.handlers), handlers_none _ c.requires.whole.0 c.requires.whole.1)
+loop-h-init c = (search rules, omega (arith, length-records handler_from c.args.s.now c.args.y.code.handlers), handlers_none _ c.requires.whole c.requires.no_handlers)
 
-pub handler_record-requires : goal.handler_record-requires
-handler_record-requires c = let m = image_in c.args.s.now c.args.y in
+pub handler_record-requires-clause-checked : goal.handler_record-requires-clause-checked
+handler_record-requires-clause-checked c = let m = image_in c.args.s.now c.args.y in
     let size = length-records handler_from c.args.s.now c.args.y.code.handlers in
     let few = c.requires.handled.few in
-    record { numbered = (c.requires.handled.numbered, checks_at (handler_check m) (length m.handlers) c.loop-h.h c.requires.handled.passed (omega arith), omega arith, search rules, search rules); extents = (c.requires.extents.0, c.requires.extents.1) }
+    checks_at (handler_check m) (length m.handlers) c.loop-h.h c.requires.handled.passed (omega arith)
 
 pub loop-h-preserved : goal.loop-h-preserved
 loop-h-preserved c = (

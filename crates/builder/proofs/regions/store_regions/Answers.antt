@@ -13,19 +13,16 @@ use Rattle.builder.proofs.regions.store_regions.Goals as goal
 
 pub loop-r-init : goal.loop-r-init
 unfolding table
-loop-r-init c = (search rules, regions_none _ c.requires.whole.0 c.requires.whole.1)
-
-pub region_of-requires : goal.region_of-requires
-region_of-requires c = record { handled = c.requires.handled; extents = c.requires.extents; r_lt_count = search rules }
+loop-r-init c = (search rules, regions_none _ c.requires.whole c.requires.no_regions)
 
 pub loop-r-preserved : goal.loop-r-preserved
 loop-r-preserved c = (
   search rules,
   stored_onto (λ h. with_region h c.region_of.result) c.loop-r.invariant.1 c.add_region.ensures
-      (regions_more (held_in c.args.g.now).graph (region_at (image_in c.args.s.now c.args.y)) c.loop-r.r _ (omega (arith, c.requires.extents.1.counted.within)) c.region_of.ensures),
+      (regions_more (held_in c.args.g.now).graph (region_at (image_in c.args.s.now c.args.y)) c.loop-r.r _ (omega (arith, c.requires.drafted.counted.within)) c.region_of.ensures),
 )
 
 pub returns : goal.returns
 unfolding regions_of
-returns c = let all : c.loop-r.r ≡ length (drafts (image_in c.args.s.now c.args.y)) = omega (arith, drafted_size c.requires.extents.1) in
+returns c = let all : c.loop-r.r ≡ length (drafts (image_in c.args.s.now c.args.y)) = omega (arith, drafted_size c.requires.drafted) in
     rw all at c.loop-r.invariant.1

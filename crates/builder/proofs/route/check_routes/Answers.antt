@@ -1,11 +1,12 @@
+-- Route by route. Assumes nothing.
 use mathlib.Core.Path.{◌≡◌, refl, sym, ap, ◌∙◌}
 use Prim.Native.Nat.{◌+◌, ◌<◌}
 use native.Mathlib.Omega.{arith}
 use lib.ListN.{length}
 use Rattle.image.specs.Record.{route_from}
 use Rattle.image.specs.Refusal.{checks}
-use Rattle.image.specs.Image.{records_in, routes_in}
 use Rattle.image.specs.Deal.{total, routes_of}
+use Rattle.image.specs.Image.{records_in, routes_in}
 use Rattle.image.specs.declared.record.Route.{Route}
 use Rattle.image.proofs.Checks.{checks-more, checks_stop}
 use Rattle.image.proofs.Tables.{length-records}
@@ -19,33 +20,23 @@ pub loop-r-init : goal.loop-r-init
 unfolding checks paths_before steps_before total
 loop-r-init c = (search rules, refl, refl, refl)
 
-pub check_route-requires : goal.check_route-requires
-check_route-requires c =
-    let among : c.loop-r.r < length (records_in route_from c.args.s.now c.args.y.routes.routes) = rw (length-records route_from c.args.s.now c.args.y.routes.routes) (omega arith) in
-    (c.requires.1, (c.requires.0.routed, among, c.loop-r.invariant.1, c.loop-r.invariant.2), search rules, search rules)
-
-pub returns-in-Refused : goal.returns-in-Refused
+pub returns-in_err-step : goal.returns-in_err-step
 unfolding routes
-returns-in-Refused c =
-    let among : c.loop-r.r < length (records_in route_from c.args.s.now c.args.y.routes.routes) = rw (length-records route_from c.args.s.now c.args.y.routes.routes) (omega arith) in
-    let within : c.loop-r.r < length (routes_of (routes_in c.args.s.now c.args.y.routes)) = rw (length-routes (routes_in c.args.s.now c.args.y.routes)) (among) in
-    sym (checks_stop _ c.loop-r.r _ _ within c.loop-r.invariant.3 (rw c.in-Refused.is at c.check_route.ensures))
+returns-in_err-step c =
+    let within : c.loop-r.r < length (routes_of (routes_in c.args.s.now c.args.y.routes)) = rw (length-routes (routes_in c.args.s.now c.args.y.routes), length-records route_from c.args.s.now c.args.y.routes.routes) (omega arith) in
+    rw (checks_stop _ c.loop-r.r _ _ within c.loop-r.invariant.3 (sym c.in_err-step.ensures.check)) (search rules)
 
 pub overflow_add-path : goal.overflow_add-path
 overflow_add-path c =
     let among : c.loop-r.r < length (records_in route_from c.args.s.now c.args.y.routes.routes) = rw (length-records route_from c.args.s.now c.args.y.routes.routes) (omega arith) in
     let m = routes_in c.args.s.now c.args.y.routes in
-    let ok = c.requires.0.routed in
-    omega (arith, paths_in m ok c.loop-r.r (among), ok.paths_most, c.loop-r.invariant.1, ap (λ (x : Route). x.paths) c.route_in-path.ensures)
-
-pub overflow_step-r : goal.overflow_step-r
-overflow_step-r c = omega (arith, c.struct_known-1.given)
+    let ok = c.requires.accepted.routed in
+    omega (arith, paths_in m ok c.loop-r.r among, ok.paths_most, c.loop-r.invariant.1, ap (λ (x : Route). x.paths) c.route_in-path.ensures)
 
 pub loop-r-preserved : goal.loop-r-preserved
 loop-r-preserved c = let m = routes_in c.args.s.now c.args.y.routes in
-    let here = rw c.in-Next.is at c.check_route.ensures in
     let next : c.loop-r.path + c.route_in-path.result.paths ≡ paths_before m (c.loop-r.r + 1) = omega (arith, paths_next m c.loop-r.r, c.loop-r.invariant.1, ap (λ (x : Route). x.paths) c.route_in-path.ensures) in
-    (search rules, next, here.1 ∙ ap (steps_before m) (sym next), checks-more _ c.loop-r.r c.loop-r.invariant.3 ∙ here.0)
+    (search rules, next, c.in_ok-step.ensures.next ∙ ap (steps_before m) (sym next), checks-more _ c.loop-r.r c.loop-r.invariant.3 ∙ sym c.in_ok-step.ensures.check)
 
 pub returns : goal.returns
 unfolding routes

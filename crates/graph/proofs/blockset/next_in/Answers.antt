@@ -1,14 +1,9 @@
 use mathlib.Core.Path.{sym, ◌∙◌}
-use Prim.Native.Nat.{◌*◌}
-use native.Mathlib.Decide.{dec_lt}
 use native.Mathlib.Omega.{arith}
 use borrow.Author.Rules.{rules}
 use Rattle.graph.proofs.BlockLaws.{lowest_from, none_more}
-use Rattle.graph.proofs.NextLaws.{none_past, next_here, rest-none}
+use Rattle.graph.proofs.NextLaws.{next_here, rest-none}
 use Rattle.graph.proofs.blockset.next_in.Goals as goal
-
-pub returns-then-past-from : goal.returns-then-past-from
-returns-then-past-from c = λ b ge. none_past c.args.w.now c.args.past c.requires.1 b (omega arith)
 
 pub returns-then-rest-ne0 : goal.returns-then-rest-ne0
 returns-then-rest-ne0 c = let rest = c.digits_from-rest.ensures in
@@ -24,10 +19,3 @@ returns-then-word-ne0 c = let zeros = c.zeros_of-then-word-ne0.ensures in
 
 pub loop-i-preserved : goal.loop-i-preserved
 loop-i-preserved c = (omega (arith, c.loop-i.invariant.0), c.loop-i.invariant.1, none_more c.args.w.now c.loop-i.i c.args.from c.if-word-ne0.false c.loop-i.invariant.2)
-
-pub returns : goal.returns
-returns c = λ b ge.
-    elim (dec_lt b (64 * c.loop-i.i)) [
-      | yes lt ↦ c.loop-i.invariant.2 b ge lt
-      | no past ↦ none_past c.args.w.now c.args.past c.requires.1 b (omega arith)
-    ]

@@ -1,8 +1,9 @@
-use mathlib.Core.Path.{◌≡◌, refl}
-use Prim.Native.Nat.{suc, ◌-◌, ◌<◌}
+use mathlib.Core.Path.{◌≡◌, refl, ap}
+use Prim.Native.Nat.{suc, ◌-◌}
 use native.Mathlib.Numerals.{add-one}
 use native.Mathlib.Omega.{arith}
-use lib.ListN.{length, length-set}
+use lib.ListN.{length-set}
+use Rattle.graph.specs.declared.record.Edge.{Edge}
 use Rattle.graph.specs.Words.{held_in}
 use Rattle.graph.proofs.RecordLaws.{block_most, edge_most}
 use Rattle.graph.proofs.SearchLaws.{source_lt, linked_none, linked_more}
@@ -13,32 +14,26 @@ loop-i-init c = (omega arith, refl, refl, rw c.edge_count-i.ensures (linked_none
 
 pub offset_bounds-head-b : goal.offset_bounds-head-b
 offset_bounds-head-b c =
-    let source : c.edge_at-b.result.source < length (held_in c.args.g.now).graph.blocks = rw c.edge_at-b.ensures (source_lt (held_in c.args.g.now).graph c.requires.0 (c.loop-i.i - 1) (omega arith)) in
-    omega (arith, source, block_most c.args.g.now)
+    let source = ap (λ (e : Edge). e.source) c.edge_at-b.ensures in
+    omega (arith, source_lt _ c.requires.0 (c.loop-i.i - 1) (omega arith), block_most c.args.g.now)
 
 pub bounds-head-b : goal.bounds-head-b
 bounds-head-b c =
-    let source : c.edge_at-b.result.source < length (held_in c.args.g.now).graph.blocks = rw c.edge_at-b.ensures (source_lt (held_in c.args.g.now).graph c.requires.0 (c.loop-i.i - 1) (omega arith)) in
-    omega (arith, source, c.requires.1.blocks)
-
-pub offset_bounds-next-i : goal.offset_bounds-next-i
-offset_bounds-next-i c = omega (arith, edge_most c.args.g.now)
-
-pub bounds-next-i : goal.bounds-next-i
-bounds-next-i c = omega (arith, c.requires.1.edges)
+    let source = ap (λ (e : Edge). e.source) c.edge_at-b.ensures in
+    omega (arith, source_lt _ c.requires.0 (c.loop-i.i - 1) (omega arith), c.requires.1.blocks)
 
 pub overflow_cast-head : goal.overflow_cast-head
 overflow_cast-head c = omega (arith, edge_most c.args.g.now)
 
 pub offset_bounds-head-b-in-loop-i : goal.offset_bounds-head-b-in-loop-i
 offset_bounds-head-b-in-loop-i c =
-    let source : c.edge_at-b.result.source < length (held_in c.args.g.now).graph.blocks = rw c.edge_at-b.ensures (source_lt (held_in c.args.g.now).graph c.requires.0 (c.loop-i.i - 1) (omega arith)) in
-    omega (arith, source, block_most c.args.g.now)
+    let source = ap (λ (e : Edge). e.source) c.edge_at-b.ensures in
+    omega (arith, source_lt _ c.requires.0 (c.loop-i.i - 1) (omega arith), block_most c.args.g.now)
 
 pub bounds-head-b-in-loop-i : goal.bounds-head-b-in-loop-i
 bounds-head-b-in-loop-i c =
-    let source : c.edge_at-b.result.source < length (held_in c.args.g.now).graph.blocks = rw c.edge_at-b.ensures (source_lt (held_in c.args.g.now).graph c.requires.0 (c.loop-i.i - 1) (omega arith)) in
-    omega (arith, source, c.requires.1.blocks)
+    let source = ap (λ (e : Edge). e.source) c.edge_at-b.ensures in
+    omega (arith, source_lt _ c.requires.0 (c.loop-i.i - 1) (omega arith), c.requires.1.blocks)
 
 pub loop-i-preserved : goal.loop-i-preserved
 loop-i-preserved c = let i = c.loop-i.i - 1 in
@@ -46,13 +41,3 @@ loop-i-preserved c = let i = c.loop-i.i - 1 in
     let s = source_lt (held_in c.args.g.now).graph c.requires.0 i (omega arith) in
     let more = linked_more (held_in c.args.g.now).graph c.loop-i.head c.loop-i.next i (omega arith) (omega (arith, s, c.requires.1.blocks)) (omega (arith, c.requires.1.edges)) (rw next at c.loop-i.invariant.3) in
     (omega arith, simp length-set c.loop-i.invariant.1, simp length-set c.loop-i.invariant.2, rw (c.edge_at-b.ensures, add-one) more)
-
-pub shape_of-head : goal.shape_of-head
-shape_of-head c = c.loop-i.invariant.1
-
-pub shape_of-next : goal.shape_of-next
-shape_of-next c = c.loop-i.invariant.2
-
-pub returns : goal.returns
-returns c = let over : c.loop-i.i ≡ 0 = omega arith in
-    (rw over at c.loop-i.invariant.3, record { blocks = omega (arith, c.requires.1.blocks); edges = omega (arith, c.requires.1.edges) })

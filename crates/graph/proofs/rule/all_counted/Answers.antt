@@ -1,4 +1,4 @@
-use mathlib.Core.Path.{◌≡◌, sym, ap}
+use mathlib.Core.Path.{sym, ap}
 use Prim.Native.Nat.{ℕ, ◌+◌}
 use native.Mathlib.Omega.{arith}
 use borrow.Author.Tests.{ne_eqb}
@@ -7,7 +7,7 @@ use Rattle.graph.specs.Fold.{sum}
 use Rattle.graph.specs.Graph.{region}
 use Rattle.graph.specs.Words.{held_in}
 use Rattle.graph.specs.declared.record.Region.{Region}
-use Rattle.graph.proofs.RuleLaws.{sum_more, sum_le, rest-none}
+use Rattle.graph.proofs.RuleLaws.{sum_more, sum_le}
 use Rattle.graph.proofs.rule.all_counted.Goals as goal
 
 pub loop-i-init : goal.loop-i-init
@@ -25,8 +25,3 @@ loop-i-preserved c = let g = (held_in c.args.g.now).graph in
     let f : ℕ → ℕ = λ k. (region g k).handlers in
     let own = ap (λ (r : Region). r.handlers) c.region_at-own.ensures in
     (omega arith, omega (arith, own, c.loop-i.invariant.1, sum_more f c.loop-i.i, c.if-left-own.false))
-
-pub returns : goal.returns
-returns c = let g = (held_in c.args.g.now).graph in
-    let whole : c.loop-i.i ≡ length g.regions = omega arith in
-    rest-none _ c.loop-i.left (length g.handlers) (rw whole at c.loop-i.invariant.1)

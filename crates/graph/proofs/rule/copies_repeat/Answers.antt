@@ -28,6 +28,3 @@ pub returns : goal.returns
 unfolding copies_repeat
 returns c = let whole : c.loop-i.i ≡ length (held_in c.args.g.now).graph.blocks = omega arith in
     sym (rw whole at c.loop-i.invariant.2)
-
-pub repeats_built-requires : goal.repeats_built-requires
-repeats_built-requires c = (c.requires.0, c.requires.1, c.built_count-built.ensures)

@@ -1,4 +1,4 @@
--- The invariant: the records before i are clear, with so many children, and record i stands at `at`. Assumes nothing.
+-- The records before i are clear, with so many children, and record i stands at `at`. Assumes nothing.
 use mathlib.Core.Path.{◌≡◌}
 use Prim.Native.Nat.{◌+◌, ◌*◌, ◌-◌, ◌≤◌}
 use Rattle.image.specs.Refusal.{clear}
@@ -6,7 +6,16 @@ use Rattle.image.specs.Read.{width_of, records_form, children_in}
 use Rattle.image.proofs.scan.scan_records.Given as goal
 
 abbrev pub invariant-loop-i : goal.invariant-loop-i
-invariant-loop-i l = (l.i ≤ l.n) × (l.at ≡ l.base + width_of l.kind * l.i) × (l.base + 9 * l.i ≤ l.at) × (l.at ≤ l.base + 31 * l.i) × (records_form l.kind l.s l.base l.i ≡ clear) × (l.children ≡ children_in l.kind l.s l.base l.i) × (l.children ≤ 4294967296 * l.i)
+invariant-loop-i g l =
+    record {
+      within : l.i ≤ l.n;
+      place : l.at ≡ l.base + width_of g.R.Record.kind * l.i;
+      least : l.base + 9 * l.i ≤ l.at;
+      most : l.at ≤ l.base + 31 * l.i;
+      forms : records_form g.R.Record.kind l.s l.base l.i ≡ clear;
+      sum : l.children ≡ children_in g.R.Record.kind l.s l.base l.i;
+      few : l.children ≤ 4294967296 * l.i;
+    }
 
 abbrev pub decreases-loop-i : goal.decreases-loop-i
-decreases-loop-i l = l.n - l.i
+decreases-loop-i g l = l.n - l.i

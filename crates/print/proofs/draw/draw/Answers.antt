@@ -3,11 +3,11 @@ use mathlib.Core.Path.{ap, ◌∙◌}
 use Rattle.print.proofs.DrawLaws.{lines_of, drawn}
 use Rattle.print.proofs.draw.draw.Goals as goal
 
-pub returns-in-Whole : goal.returns-in-Whole
-returns-in-Whole c = ap lines_of (rw c.in-Whole.is at c.build_sequence.ensures.answer) ∙ drawn c.args.s.now
+pub returns-in-Ok : goal.returns-in-Ok
+returns-in-Ok c = ap lines_of c.in-Ok.ensures.answer ∙ drawn c.args.s.now
 
-pub returns-in-Unrouted : goal.returns-in-Unrouted
-returns-in-Unrouted c = ap lines_of (rw c.in-Unrouted.is at c.build_sequence.ensures.answer) ∙ drawn c.args.s.now
+pub returns-in-Err-Unrouted : goal.returns-in-Err-Unrouted
+returns-in-Err-Unrouted c = ap lines_of (rw c.in-Err-Unrouted.field-0-is at c.in-Err-Unrouted.ensures.answer) ∙ drawn c.args.s.now
 
-pub returns-in-Refused : goal.returns-in-Refused
-returns-in-Refused c = ap lines_of (rw c.in-Refused.is at c.build_sequence.ensures.answer) ∙ drawn c.args.s.now
+pub returns-in-Err-Refused : goal.returns-in-Err-Refused
+returns-in-Err-Refused c = ap lines_of (rw c.in-Err-Refused.field-0-is at c.in-Err-Refused.ensures.answer) ∙ drawn c.args.s.now

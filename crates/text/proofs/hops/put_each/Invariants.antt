@@ -1,7 +1,7 @@
 -- `put_each` meets its contract. The loop's invariant: the first j tags are put. Assumes nothing.
 use mathlib.Core.Path.{◌≡◌}
 use mathlib.Core.List.{map}
-use Prim.Native.Nat.{◌+◌, ◌-◌, ◌*◌, ◌≤◌}
+use Prim.Native.Nat.{◌+◌, ◌*◌, ◌≤◌}
 use lib.ListN.{length}
 use Rattle.image.specs.Image.{routes_in}
 use Rattle.unwind.specs.Nodes.{tags_in}
@@ -11,7 +11,8 @@ use Rattle.text.specs.Put.{Puts}
 use Rattle.text.proofs.hops.put_each.Given as goal
 
 abbrev pub invariant-loop-j : goal.invariant-loop-j
-invariant-loop-j l = (l.j ≤ l.n) × Puts (fields (map Number (tags_in (routes_in l.s l.y) l.step l.j))) l.initial.out l.at l.out l.next × (l.next ≤ l.at + 21 * l.j) × (length l.out ≡ length l.initial.out)
-
-abbrev pub decreases-loop-j : goal.decreases-loop-j
-decreases-loop-j l = l.n - l.j
+invariant-loop-j l = record {
+  put : Puts (fields (map Number (tags_in (routes_in l.s l.y) l.step l.j))) l.initial.out l.at l.out l.next;
+  near : l.next ≤ l.at + 21 * l.j;
+  room : length l.out ≡ length l.initial.out;
+}

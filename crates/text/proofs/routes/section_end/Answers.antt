@@ -1,23 +1,22 @@
--- `section_end` meets its contract. Assumes nothing.
-use Prim.Native.Nat.{◌*◌, ◌≤◌}
+-- `section_end` meets its contract: a section has no more than 512 records of 31 bytes. Assumes nothing.
+use mathlib.Core.Path.{◌≡◌, ◌∙◌}
+use Prim.Native.Nat.{◌*◌, ◌≤◌, min}
 use native.Mathlib.Nat.{mul-le-mul}
 use native.Mathlib.Omega.{arith}
+use Rattle.image.specs.Little.{le4}
+use Rattle.image.specs.Read.{width_of, limit_of}
+use Rattle.image.proofs.Sections.{width_most}
+use Rattle.text.proofs.RouteBytesLaws.{limit_most}
 use Rattle.text.proofs.routes.section_end.Goals as goal
 
-pub returns : goal.returns
-returns c =
-    let few : c.args.width * c.least-records.result ≤ 15872 = let n : c.least-records.result ≤ 512 = omega (arith, c.least-records.ensures, c.requires.2) in
-    omega (arith, mul-le-mul c.requires.1 n) in
-    (rw (← c.u32_at-count.ensures.0, ← c.least-records.ensures), omega (arith, few))
+pub returns-clause-end : goal.returns-clause-end
+returns-clause-end g c =
+    let width : c.WIDTH.result ≡ width_of g.R.Record.kind = c.WIDTH.ensures ∙ g.met.R.Record.width_is in
+    let count : c.min-records.result ≡ min (le4 c.args.s.now c.args.at) (limit_of g.R.Record.kind) = rw (c.min-records.ensures, c.LIMIT.ensures, g.met.R.Record.limit_is, c.u32_at.ensures.0) in
+    rw (width, count)
 
-pub overflow_mul-result : goal.overflow_mul-result
-overflow_mul-result c =
-    let few : c.args.width * c.least-records.result ≤ 15872 = let n : c.least-records.result ≤ 512 = omega (arith, c.least-records.ensures, c.requires.2) in
-    omega (arith, mul-le-mul c.requires.1 n) in
-    omega (arith, few)
-
-pub overflow_add-result-2 : goal.overflow_add-result-2
-overflow_add-result-2 c =
-    let few : c.args.width * c.least-records.result ≤ 15872 = let n : c.least-records.result ≤ 512 = omega (arith, c.least-records.ensures, c.requires.2) in
-    omega (arith, mul-le-mul c.requires.1 n) in
-    omega (arith, few)
+pub returns-clause-near : goal.returns-clause-near
+returns-clause-near g c =
+    let wide : c.WIDTH.result ≤ 31 = omega (arith, c.WIDTH.ensures, g.met.R.Record.width_is, width_most g.R.Record.kind) in
+    let few : c.min-records.result ≤ 512 = omega (arith, c.min-records.ensures, c.LIMIT.ensures, g.met.R.Record.limit_is, limit_most g.R.Record.kind) in
+    omega (arith, mul-le-mul wide few)

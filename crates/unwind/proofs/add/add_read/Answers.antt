@@ -6,24 +6,16 @@ use Rattle.graph.specs.Words.{held_in}
 use Rattle.unwind.proofs.Standing.{stands_of}
 use Rattle.unwind.proofs.Outcomes.{first_refused}
 use Rattle.unwind.proofs.AnswerLaws.{adds_refused}
-use borrow.Author.Rules.{rules}
+use Rattle.std.proofs.lemmas.Result.{err_from_is_err_and}
 use Rattle.unwind.proofs.add.add_read.Goals as goal
 
-pub check_routes-requires : goal.check_routes-requires
-check_routes-requires c = (stands_of (held_in c.args.g.now) c.requires.0, c.built_count-built.ensures, c.requires.1, search rules)
+pub check_routes-requires-clause-stands : goal.check_routes-requires-clause-stands
+check_routes-requires-clause-stands c = stands_of (held_in c.args.g.now) c.requires.graph
 
-pub returns-in-Refused : goal.returns-in-Refused
-returns-in-Refused c = let m = routes_in c.args.s.now c.args.y in
-    adds_refused m c.args.g.now c.args.h.now _
-    (first_refused (held_in c.args.g.now).graph (routes_of m) _ (sym (rw c.in-Refused.is at c.check_routes.ensures)))
+pub returns-in_err-check_routes : goal.returns-in_err-check_routes
+returns-in_err-check_routes c = let m = routes_in c.args.s.now c.args.y in
+    let p = err_from_is_err_and c.from_residual.result c.from_residual.ensures.1 in
+    rw (p.1, p.2) (adds_refused m c.args.g.now c.args.h.now _ (first_refused (held_in c.args.g.now).graph (routes_of m) _ (sym c.in_err-check_routes.ensures)))
 
-pub add_checked-requires : goal.add_checked-requires
-add_checked-requires c = (
-  record {
-    graphed = c.requires.0;
-    built = c.built_count-built.ensures;
-    accepted = c.requires.1;
-    passed = sym (rw c.in_default.is at c.check_routes.ensures);
-  },
-  search rules,
-)
+pub add_checked-requires-clause-checked : goal.add_checked-requires-clause-checked
+add_checked-requires-clause-checked c = record { graphed = c.requires.graph; built = c.built_count-built.ensures; accepted = c.requires.accepted; passed = sym c.in_ok-check_routes.ensures }

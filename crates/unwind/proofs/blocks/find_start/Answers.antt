@@ -13,6 +13,3 @@ returns-then-is_start c = let g = (held_in c.args.g.now).graph in
     let k = start_has g.table c.args.a is in
     let at : below g.table c.args.a ≡ k.0 = rw k.2 at (below_at g.table (table_rises g c.requires) k.0 k.1) in
     (is, sym c.position-p.ensures, omega (arith, at, k.1, c.position-p.ensures))
-
-pub returns : goal.returns
-returns c = sym c.is_start.ensures ∙ c.if-is_start.false

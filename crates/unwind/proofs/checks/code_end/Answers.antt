@@ -1,5 +1,4 @@
-use mathlib.Core.Path.{refl, ap, ◌∙◌}
-use mathlib.Core.Logic.{⊎_elim}
+use mathlib.Core.Path.{ap, ◌∙◌}
 use Prim.Native.Nat.{◌<◌}
 use native.Mathlib.Omega.{arith}
 use lib.ListN.{length}
@@ -11,19 +10,13 @@ use Rattle.graph.proofs.RangeLaws.{code_end_more}
 use Rattle.graph.proofs.RecordLaws.{entry_most}
 use Rattle.unwind.proofs.checks.code_end.Goals as goal
 
-pub loop-i-init : goal.loop-i-init
-unfolding code_end_of
-loop-i-init c = (omega arith, refl)
-
 pub overflow_step-i : goal.overflow_step-i
 overflow_step-i c = omega (arith, c.table_count-n.ensures, entry_most c.args.g.now)
+
+pub returns : goal.returns
+returns c = c.loop-i.invariant ∙ ap code_end_of (take_all c.loop-i.i (held_in c.args.g.now).graph.table (omega (arith, c.table_count-n.ensures)))
 
 pub loop-i-preserved : goal.loop-i-preserved
 loop-i-preserved c = let t = (held_in c.args.g.now).graph.table in
     let inside : c.loop-i.i < length t = omega (arith, c.table_count-n.ensures) in
-    let here = ap (λ (x : TableEntry). x.end) c.table_in-end.ensures in
-    let more = code_end_more t c.loop-i.i inside in
-    (omega arith, ⊎_elim (λ w. omega (arith, more, here, c.loop-i.invariant.1)) (λ w. omega (arith, more, here, c.loop-i.invariant.1)) c.if-greatest-end.branch-raw)
-
-pub returns : goal.returns
-returns c = c.loop-i.invariant.1 ∙ ap code_end_of (take_all c.loop-i.i (held_in c.args.g.now).graph.table (omega (arith, c.table_count-n.ensures)))
+    omega (arith, code_end_more t c.loop-i.i inside, ap (λ (x : TableEntry). x.end) c.table_in.ensures, c.loop-i.invariant, c.max-greatest.ensures)

@@ -1,28 +1,18 @@
-use mathlib.Core.Path.{◌≡◌, sym, ◌∙◌}
+use mathlib.Core.Path.{sym, ◌∙◌}
 use mathlib.Core.Logic.{⊎_elim}
 use native.Mathlib.Nat.{le_trans}
-use native.Mathlib.Omega.{arith}
 use Rattle.graph.specs.Words.{held_in}
 use Rattle.unwind.specs.Clones.{block_copies}
 use Rattle.unwind.proofs.StoodLaws.{blocks_grow, no_blocks, node_skips, node_blocks}
 use Rattle.unwind.proofs.clones.add_clone_blocks.Goals as goal
 
 pub loop-i-init : goal.loop-i-init
-loop-i-init c = (omega arith, no_blocks c.args.g.now c.args.bases.now c.args.parts.now)
-
-pub set_at-part-requires : goal.set_at-part-requires
-set_at-part-requires c = omega (arith, c.requires.0.fit)
+loop-i-init c = no_blocks c.args.g.now c.args.bases.now c.args.parts.now
 
 pub copy_blocks-requires : goal.copy_blocks-requires
-copy_blocks-requires c = rw c.set_at-part.ensures (λ b m. le_trans (c.requires.0.stand c.loop-i.i b c.loop-i-test.true m) (blocks_grow (block_copies (held_in c.args.g.now).graph c.args.bases.now c.args.parts.now c.loop-i.i) c.loop-i.invariant.1))
+copy_blocks-requires c = rw c.set_at-part.ensures (λ b m. le_trans (c.requires.sets_in.stand c.loop-i.i b c.loop-i-test.true m) (blocks_grow (block_copies (held_in c.args.g.now).graph c.args.bases.now c.args.parts.now c.loop-i.i) c.loop-i.invariant))
 
 pub loop-i-preserved : goal.loop-i-preserved
-loop-i-preserved c = let base = c.number_in.ensures.0 in (
-  omega arith,
-  ⊎_elim (λ w. rw w.g-is
-      (node_blocks c.args.g.now c.loop-i.g c.args.bases.now c.args.parts.now c.loop-i.i c.loop-i.invariant.1 (λ e. w.if-number_in-ne0.true (base ∙ e)) (λ b m. c.requires.0.stand c.loop-i.i b c.loop-i-test.true m) _ (rw w.set_at-part.ensures at w.copy_blocks.ensures))) (λ w. rw w.g-is (node_skips c.args.g.now c.loop-i.g c.args.bases.now c.args.parts.now c.loop-i.i c.loop-i.invariant.1 (sym base ∙ w.if-number_in-ne0.false))) c.if-number_in-ne0.branch-raw,
-)
-
-pub returns : goal.returns
-returns c = let all : c.loop-i.i ≡ c.args.n = omega arith in
-    rw all at c.loop-i.invariant.1
+loop-i-preserved c = let base = c.number_in.ensures.0 in
+    ⊎_elim (λ w. rw w.g-is
+    (node_blocks c.args.g.now c.loop-i.g c.args.bases.now c.args.parts.now c.loop-i.i c.loop-i.invariant (λ e. w.if-number_in-ne0.true (base ∙ e)) (λ b m. c.requires.sets_in.stand c.loop-i.i b c.loop-i-test.true m) _ (rw w.set_at-part.ensures at w.copy_blocks.ensures))) (λ w. rw w.g-is (node_skips c.args.g.now c.loop-i.g c.args.bases.now c.args.parts.now c.loop-i.i c.loop-i.invariant (sym base ∙ w.if-number_in-ne0.false))) c.if-number_in-ne0.branch-raw

@@ -1,5 +1,4 @@
 -- `add_clone_blocks` meets its contract. The loop's invariant: the copies of the blocks of the nodes before i are added. Assumes nothing.
-use Prim.Native.Nat.{◌-◌, ◌≤◌}
 use Rattle.graph.specs.Words.{held_in}
 use Rattle.graph.specs.Stored.{Stored}
 use Rattle.graph.specs.Adding.{with_blocks}
@@ -7,7 +6,4 @@ use Rattle.unwind.specs.Clones.{block_copies}
 use Rattle.unwind.proofs.clones.add_clone_blocks.Given as goal
 
 abbrev pub invariant-loop-i : goal.invariant-loop-i
-invariant-loop-i l = (l.i ≤ l.n) × Stored l.initial.g l.g (with_blocks (held_in l.initial.g) (block_copies (held_in l.initial.g).graph l.bases l.parts l.i))
-
-abbrev pub decreases-loop-i : goal.decreases-loop-i
-decreases-loop-i l = l.n - l.i
+invariant-loop-i l = Stored l.initial.g l.g (with_blocks (held_in l.initial.g) (block_copies (held_in l.initial.g).graph l.bases l.parts l.i))

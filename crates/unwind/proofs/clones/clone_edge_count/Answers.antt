@@ -1,4 +1,4 @@
-use mathlib.Core.Path.{◌≡◌, sym, ap, ◌∙◌}
+use mathlib.Core.Path.{sym, ap, ◌∙◌}
 use mathlib.Core.Logic.{⊎_elim}
 use native.Mathlib.Omega.{arith}
 use lib.ListN.{length}
@@ -7,26 +7,12 @@ use Rattle.unwind.proofs.CloneLaws.{no_edges, none_next, count-some}
 use Rattle.unwind.proofs.clones.clone_edge_count.Goals as goal
 
 pub loop-i-init : goal.loop-i-init
-loop-i-init c = (omega arith, omega arith, sym (ap length (no_edges (held_in c.args.g.now).graph c.args.bases.now c.args.parts.now)))
-
-pub set_at-part-requires : goal.set_at-part-requires
-set_at-part-requires c = omega (arith, c.requires.4.fit)
-
-pub edges_out-count-requires : goal.edges_out-count-requires
-edges_out-count-requires c = let test = c.loop-i-test.true in
-    (c.requires.0, c.requires.1, c.requires.2, rw c.set_at-part.ensures (λ b m. c.requires.4.stand c.loop-i.i b test m))
-
-pub overflow_add-count : goal.overflow_add-count
-overflow_add-count c = omega (arith, c.loop-i.invariant.1, c.edges_out-count.ensures.1, c.requires.3)
+loop-i-init c = (omega arith, sym (ap length (no_edges (held_in c.args.g.now).graph c.args.bases.now c.args.parts.now)))
 
 pub loop-i-preserved : goal.loop-i-preserved
 loop-i-preserved c = let g = (held_in c.args.g.now).graph in
     let base = c.number_in.ensures.0 in
-    ⊎_elim (λ w. let out = rw w.set_at-part.ensures at w.edges_out-count.ensures.0 in
+    ⊎_elim (λ w. let out = rw w.set_at-part.ensures at w.edges_out-count.ensures.counts in
     let more = count-some c.args.bases.now c.args.parts.now c.loop-i.i g (λ e. w.if-number_in-ne0.true (base ∙ e)) in
-    (omega arith, omega (arith, w.count-is, w.edges_out-count.ensures.1, c.loop-i.invariant.1), omega (arith, w.count-is, out, more, c.loop-i.invariant.2))) (λ w. let none = ap length (none_next c.args.bases.now c.args.parts.now c.loop-i.i g (sym base ∙ w.if-number_in-ne0.false)) in
-    (omega arith, omega (arith, w.count-is, c.loop-i.invariant.1), omega (arith, w.count-is, none, c.loop-i.invariant.2))) c.if-number_in-ne0.branch-raw
-
-pub returns : goal.returns
-returns c = let all : c.loop-i.i ≡ c.args.n = omega arith in
-    rw all at c.loop-i.invariant.2
+    (omega (arith, w.count-is, w.edges_out-count.ensures.small, c.loop-i.invariant.0), omega (arith, w.count-is, out, more, c.loop-i.invariant.1))) (λ w. let none = ap length (none_next c.args.bases.now c.args.parts.now c.loop-i.i g (sym base ∙ w.if-number_in-ne0.false)) in
+    (omega (arith, w.count-is, c.loop-i.invariant.0), omega (arith, w.count-is, none, c.loop-i.invariant.1))) c.if-number_in-ne0.branch-raw

@@ -1,13 +1,11 @@
 -- `copy_blocks` meets its contract. The loop's invariant: the blocks before `from` are added. Assumes nothing.
-use mathlib.Core.Path.{◌≡◌}
-use lib.ListN.{length}
 use Rattle.graph.specs.BlockSet.{size_of}
 use Rattle.graph.proofs.NextLaws.{left_from}
 use Rattle.unwind.proofs.StoodLaws.{BlocksGoing}
 use Rattle.unwind.proofs.clones.copy_blocks.Given as goal
 
 abbrev pub invariant-loop-b : goal.invariant-loop-b
-invariant-loop-b l = (length l.set ≡ 16) × BlocksGoing l.initial.g l.g l.set (left_from l.set l.from)
+invariant-loop-b l = BlocksGoing l.initial.g l.g l.set (left_from l.set l.from)
 
 abbrev pub decreases-loop-b : goal.decreases-loop-b
 decreases-loop-b l = size_of (left_from l.set l.from)

@@ -1,6 +1,5 @@
 -- `check_ends` meets its contract. The loop's invariant: the ends before k are clear. Assumes nothing.
 use mathlib.Core.Path.{◌≡◌}
-use Prim.Native.Nat.{◌-◌, ◌≤◌}
 use Rattle.image.specs.Refusal.{clear, checks}
 use Rattle.image.specs.Image.{routes_in}
 use Rattle.graph.specs.Words.{held_in}
@@ -8,7 +7,4 @@ use Rattle.unwind.proofs.NodeChecks.{ends_check}
 use Rattle.unwind.proofs.node_checks.check_ends.Given as goal
 
 abbrev pub invariant-loop-k : goal.invariant-loop-k
-invariant-loop-k l = (l.k ≤ l.n) × (checks (ends_check (held_in l.g).graph (routes_in l.s l.y) l.ends l.first) l.k ≡ clear)
-
-abbrev pub decreases-loop-k : goal.decreases-loop-k
-decreases-loop-k l = l.n - l.k
+invariant-loop-k l = checks (ends_check (held_in l.g).graph (routes_in l.s l.y) l.ends l.first) l.k ≡ clear

@@ -2,7 +2,7 @@
 -- are stored. Assumes nothing.
 use mathlib.Core.Path.{◌≡◌}
 use mathlib.Core.List.{List}
-use Prim.Native.Nat.{ℕ, ◌-◌, ◌≤◌}
+use Prim.Native.Nat.{ℕ}
 use lib.ListN.{length}
 use Rattle.image.specs.Refusal.{clear, checks}
 use Rattle.image.specs.Image.{routes_in}
@@ -14,7 +14,4 @@ use Rattle.addition.specs.Add.{node_check}
 use Rattle.unwind.proofs.node_checks.check_nodes.Given as goal
 
 abbrev pub invariant-loop-i : goal.invariant-loop-i
-invariant-loop-i l = (l.i ≤ l.n) × ((edges : List ℕ) → checks (λ i'. node_check (held_in l.g).graph (node_at (nodes_in (routes_in l.s l.y) l.nodes edges l.ends l.n) i')) l.i ≡ clear) × (length l.entries ≡ length l.initial.entries) × Entered (held_in l.g).graph (routes_in l.s l.y) l.nodes l.entries l.i
-
-abbrev pub decreases-loop-i : goal.decreases-loop-i
-decreases-loop-i l = l.n - l.i
+invariant-loop-i l = ((edges : List ℕ) → checks (λ i'. node_check (held_in l.g).graph (node_at (nodes_in (routes_in l.s l.y) l.nodes edges l.ends l.n) i')) l.i ≡ clear) × (length l.entries ≡ length l.initial.entries) × Entered (held_in l.g).graph (routes_in l.s l.y) l.nodes l.entries l.i

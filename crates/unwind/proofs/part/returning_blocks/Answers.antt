@@ -9,21 +9,16 @@ use Rattle.unwind.proofs.PartLaws.{returners_none, returners_put, returners_skip
 use Rattle.unwind.proofs.part.returning_blocks.Goals as goal
 
 pub loop-b-init : goal.loop-b-init
-loop-b-init c = (omega arith, rw c.requires.1 (returners_none _))
-
-pub overflow_step-b : goal.overflow_step-b
-overflow_step-b c = omega (arith, block_most c.args.g.now)
+loop-b-init c = rw c.requires.empty (returners_none _)
 
 pub loop-b-preserved : goal.loop-b-preserved
 loop-b-preserved c = let g = (held_in c.args.g.now).graph in
     let count = c.block_count-n.ensures in
     let is = sym c.returning.ensures in
-    let few : c.loop-b.b < 1024 = omega (arith, count, block_most c.args.g.now) in (
-      omega (arith, count),
-      ⊎_elim (λ w. rw (w.set-is ∙ w.put_in.ensures) (returners_put g c.loop-b.b c.loop-b.set c.loop-b.invariant.1 few (is ∙ w.if-returning.true))) (λ w. rw w.set-is (returners_skip g c.loop-b.b c.loop-b.set c.loop-b.invariant.1 (is ∙ w.if-returning.false))) c.if-returning.branch-raw,
-    )
+    let few : c.loop-b.b < 1024 = omega (arith, count, block_most c.args.g.now) in
+    ⊎_elim (λ w. rw (w.set-is ∙ w.put_in.ensures) (returners_put g c.loop-b.b c.loop-b.set c.loop-b.invariant few (is ∙ w.if-returning.true))) (λ w. rw w.set-is (returners_skip g c.loop-b.b c.loop-b.set c.loop-b.invariant (is ∙ w.if-returning.false))) c.if-returning.branch-raw
 
 pub returns : goal.returns
 returns c = let g = (held_in c.args.g.now).graph in
     let all : c.loop-b.b ≡ length g.blocks = omega (arith, c.block_count-n.ensures) in
-    returners_are g c.loop-b.set (rw all at c.loop-b.invariant.1)
+    returners_are g c.loop-b.set (rw all at c.loop-b.invariant)

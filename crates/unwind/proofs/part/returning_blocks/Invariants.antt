@@ -1,12 +1,7 @@
 -- `returning_blocks` meets its contract. The loop's invariant: the set has the blocks passed that return. Assumes nothing.
-use Prim.Native.Nat.{◌-◌, ◌≤◌}
-use lib.ListN.{length}
 use Rattle.graph.specs.Words.{held_in}
 use Rattle.unwind.proofs.PartLaws.{ReturnersTo}
 use Rattle.unwind.proofs.part.returning_blocks.Given as goal
 
 abbrev pub invariant-loop-b : goal.invariant-loop-b
-invariant-loop-b l = (l.b ≤ length (held_in l.g).graph.blocks) × ReturnersTo (held_in l.g).graph l.b l.set
-
-abbrev pub decreases-loop-b : goal.decreases-loop-b
-decreases-loop-b l = l.n - l.b
+invariant-loop-b l = ReturnersTo (held_in l.g).graph l.b l.set

@@ -4,8 +4,5 @@ use Rattle.image.specs.Record.{path_from}
 use Rattle.image.proofs.Tables.{records_past}
 use Rattle.unwind.proofs.routes.path_of.Goals as goal
 
-pub path_in-requires : goal.path_in-requires
-path_in-requires c = (c.requires.paths_there, c.if-i-count.true)
-
 pub returns : goal.returns
 returns c = sym (records_past path_from c.args.s.now c.args.y.paths c.args.i c.if-i-count.false)

@@ -4,8 +4,5 @@ use Rattle.image.specs.Record.{step_from}
 use Rattle.image.proofs.Tables.{records_past}
 use Rattle.unwind.proofs.routes.step_of.Goals as goal
 
-pub step_in-requires : goal.step_in-requires
-step_in-requires c = (c.requires.steps_there, c.if-i-count.true)
-
 pub returns : goal.returns
 returns c = sym (records_past step_from c.args.s.now c.args.y.steps c.args.i c.if-i-count.false)

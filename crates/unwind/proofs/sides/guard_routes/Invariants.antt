@@ -1,6 +1,5 @@
 -- `guard_routes` meets its contract. The loop's invariant: the routes before r have their sets. Assumes nothing.
 use mathlib.Core.Path.{◌≡◌}
-use Prim.Native.Nat.{◌-◌, ◌≤◌}
 use lib.ListN.{length}
 use Rattle.image.specs.Image.{routes_in}
 use Rattle.graph.specs.Words.{held_in}
@@ -8,7 +7,4 @@ use Rattle.unwind.specs.Sides.{GuardsIn}
 use Rattle.unwind.proofs.sides.guard_routes.Given as goal
 
 abbrev pub invariant-loop-r : goal.invariant-loop-r
-invariant-loop-r l = (l.r ≤ l.y.routes.count) × (length l.guards ≡ length l.initial.guards) × GuardsIn (held_in l.g).graph (routes_in l.s l.y) l.guards l.r
-
-abbrev pub decreases-loop-r : goal.decreases-loop-r
-decreases-loop-r l = l.y.routes.count - l.r
+invariant-loop-r l = (length l.guards ≡ length l.initial.guards) × GuardsIn (held_in l.g).graph (routes_in l.s l.y) l.guards l.r

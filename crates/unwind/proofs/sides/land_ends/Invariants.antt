@@ -1,6 +1,5 @@
 -- `land_ends` meets its contract. The loop's invariant: the ends before k have their blocks. Assumes nothing.
 use mathlib.Core.Path.{◌≡◌}
-use Prim.Native.Nat.{◌-◌, ◌≤◌}
 use lib.ListN.{length}
 use Rattle.image.specs.Image.{routes_in}
 use Rattle.graph.specs.Words.{held_in}
@@ -8,7 +7,4 @@ use Rattle.unwind.specs.Sides.{Lands}
 use Rattle.unwind.proofs.sides.land_ends.Given as goal
 
 abbrev pub invariant-loop-k : goal.invariant-loop-k
-invariant-loop-k l = (l.k ≤ l.n) × (length l.landings ≡ length l.initial.landings) × Lands (held_in l.g).graph (routes_in l.s l.y) l.ends l.landings l.k
-
-abbrev pub decreases-loop-k : goal.decreases-loop-k
-decreases-loop-k l = l.n - l.k
+invariant-loop-k l = (length l.landings ≡ length l.initial.landings) × Lands (held_in l.g).graph (routes_in l.s l.y) l.ends l.landings l.k

@@ -1,21 +1,13 @@
-use mathlib.Core.Path.{refl}
-use Prim.Native.Nat.{◌*◌}
+-- `empty_set` meets its contract. Assumes nothing.
+use mathlib.Core.Path.{◌≡◌}
+use Prim.Native.Nat.{◌+◌, ◌*◌, ◌-◌}
 use native.Mathlib.Omega.{arith}
-use Rattle.graph.specs.BlockSet.{none}
-use Rattle.unwind.proofs.SlotLaws.{copied_none, copied_zero, copied_all}
+use lib.ListN.{drop, length-drop}
+use lib.Seq.{length-take-le}
+use Rattle.unwind.proofs.SlotLaws.{set_emptied}
 use Rattle.unwind.proofs.slots.empty_set.Goals as goal
 
-pub loop-k-init : goal.loop-k-init
-loop-k-init c = (omega arith, copied_none _ _ _)
-
-pub bounds-sets-at : goal.bounds-sets-at
-bounds-sets-at c = omega (arith, c.loop-k.invariant.1.long)
-
-pub loop-k-preserved : goal.loop-k-preserved
-loop-k-preserved c = (omega arith, copied_zero c.args.sets.now (16 * c.args.i) c.loop-k.sets c.loop-k.k (omega arith) c.loop-k.invariant.1 (omega arith))
-
-pub shape_of-sets : goal.shape_of-sets
-shape_of-sets c = c.loop-k.invariant.1.long
-
 pub returns : goal.returns
-returns c = copied_all c.args.sets.now c.args.i none c.loop-k.sets c.loop-k.k refl c.loop-k.invariant.1 (omega arith)
+returns c = let size : 16 * c.args.i + 16 - 16 * c.args.i ≡ 16 = omega arith in
+    rw (c.fill.ensures.after (λ y e. e))
+    (set_emptied c.args.sets.now c.args.i _ _ size (rw size (length-take-le 16 (drop (16 * c.args.i) c.args.sets.now) (omega (arith, length-drop (16 * c.args.i) c.args.sets.now, c.requires)))) c.requires)

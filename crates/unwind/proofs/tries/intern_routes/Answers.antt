@@ -12,30 +12,26 @@ use Rattle.unwind.proofs.TrieRoutes.{route_start, route_grouped, route_room, pla
 use borrow.Author.Rules.{rules}
 use Rattle.unwind.proofs.tries.intern_routes.Goals as goal
 
-pub path_starts-requires : goal.path_starts-requires
-path_starts-requires c = (c.requires.0, c.requires.1.starts_fit, search rules)
-
 pub loop-r-init : goal.loop-r-init
 loop-r-init c = (search rules, route_start _ c.requires.0 _ _ _ _ _ _ c.requires.1, seen_none _ _)
 
-pub intern-root-requires : goal.intern-root-requires
-intern-root-requires c =
+pub intern-root-requires-clause-grouped : goal.intern-root-requires-clause-grouped
+intern-root-requires-clause-grouped c =
     let among : c.loop-r.r < length (routes_in c.args.s.now c.args.y).routes = rw (length-records route_from c.args.s.now c.args.y.routes) (omega arith) in
-    let inv = c.loop-r.invariant in
-    let h = among in
-    rw (c.root_group-group.ensures, c.route_in-count.ensures) (
-      route_grouped _ c.requires.0 _ _ _ _ _ _ c.requires.1 _ _ _ _ _ _ _ _ inv.1 h _ c.path_starts.ensures,
-      inv.1.stored,
-      route_room _ c.requires.0 _ _ _ _ _ _ c.requires.1 _ _ _ _ _ _ _ _ inv.1 h,
-      inv.1.lower,
-      inv.2,
-      search rules,
-    )
+    rw (c.root_group-group.ensures, c.route_in-count.ensures) (route_grouped _ c.requires.0 _ _ _ _ _ _ c.requires.1 _ _ _ _ _ _ _ _ c.loop-r.invariant.1 among _ c.path_starts.ensures)
+
+pub intern-root-requires-clause-room : goal.intern-root-requires-clause-room
+intern-root-requires-clause-room c =
+    let among : c.loop-r.r < length (routes_in c.args.s.now c.args.y).routes = rw (length-records route_from c.args.s.now c.args.y.routes) (omega arith) in
+    rw (c.root_group-group.ensures, c.route_in-count.ensures) (route_room _ c.requires.0 _ _ _ _ _ _ c.requires.1 _ _ _ _ _ _ _ _ c.loop-r.invariant.1 among)
+
+pub intern-root-requires-clause-lower : goal.intern-root-requires-clause-lower
+intern-root-requires-clause-lower c = c.loop-r.invariant.1.lower
 
 pub overflow_cast-roots : goal.overflow_cast-roots
 overflow_cast-roots c =
     let among : c.loop-r.r < length (routes_in c.args.s.now c.args.y).routes = rw (length-records route_from c.args.s.now c.args.y.routes) (omega arith) in
-    let done = rw (c.root_group-group.ensures, c.route_in-count.ensures) at c.intern-root.ensures.0 in
+    let done = rw (c.root_group-group.ensures, c.route_in-count.ensures) at c.intern-root.ensures.interns in
     omega (arith, place_small _ c.requires.0 _ _ _ _ _ _ c.requires.1 _ _ _ _ _ _ _ _ c.loop-r.invariant.1 (among) _ _ _ _ _ done)
 
 pub offset_bounds-roots-r : goal.offset_bounds-roots-r
@@ -61,11 +57,11 @@ overflow_step-r c =
 pub loop-r-preserved : goal.loop-r-preserved
 loop-r-preserved c =
     let among : c.loop-r.r < length (routes_in c.args.s.now c.args.y).routes = rw (length-records route_from c.args.s.now c.args.y.routes) (omega arith) in
-    let done = rw (c.root_group-group.ensures, c.route_in-count.ensures) at c.intern-root.ensures.0 in
+    let done = rw (c.root_group-group.ensures, c.route_in-count.ensures) at c.intern-root.ensures.interns in
     rw c.route_in-count.ensures (
       omega (arith, c.loop-r-test.true),
       route_next _ c.requires.0 _ _ _ _ _ _ c.requires.1 _ _ _ _ _ _ _ _ c.loop-r.invariant.1 (among) _ _ _ _ _ done c.intern-root.auto.nodes c.intern-root.auto.edges c.intern-root.auto.ends c.intern-root.auto.stack,
-      c.intern-root.ensures.1,
+      c.intern-root.ensures.seen,
     )
 
 pub shape_of-nodes : goal.shape_of-nodes
@@ -86,4 +82,4 @@ shape_of-roots c = c.loop-r.invariant.1.roots_long
 pub returns : goal.returns
 returns c = let m = routes_in c.args.s.now c.args.y in
     let all : c.loop-r.r ≡ length m.routes = rw (length-records route_from c.args.s.now c.args.y.routes) (omega (arith, c.loop-r-test.false, c.loop-r.invariant.0)) in
-    rw c.counts_in.ensures (route_done m c.requires.0 _ _ _ _ _ _ c.requires.1 _ _ _ _ _ _ _ _ c.loop-r.invariant.1 all)
+    (route_done m c.requires.0 _ _ _ _ _ _ c.requires.1 _ _ _ _ _ _ _ _ c.loop-r.invariant.1 all)

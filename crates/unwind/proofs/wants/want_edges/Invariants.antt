@@ -1,6 +1,6 @@
 -- `want_edges` meets its contract. The loop's invariant: what the edges before k want is added. Assumes nothing.
 use mathlib.Core.List.{map}
-use Prim.Native.Nat.{◌-◌, ◌≤◌}
+use Prim.Native.Nat.{◌≤◌}
 use Rattle.image.specs.Image.{RouteImage}
 use Rattle.graph.specs.Words.{held_in}
 use Rattle.unwind.specs.Gather.{edge_exits}
@@ -10,6 +10,3 @@ use Rattle.unwind.proofs.wants.want_edges.Given as goal
 
 abbrev pub invariant-loop-k : goal.invariant-loop-k
 invariant-loop-k l = (l.k ≤ l.count) × HopsJoin l.h (held_in l.g).graph × ((m : RouteImage) → EdgesWanted l.h l.initial.g l.initial.done (map (way_of l.r) (edge_exits m l.b l.edges l.heads l.first l.k)) l.g l.done)
-
-abbrev pub decreases-loop-k : goal.decreases-loop-k
-decreases-loop-k l = l.count - l.k

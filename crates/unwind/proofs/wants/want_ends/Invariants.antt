@@ -1,6 +1,6 @@
 -- `want_ends` meets its contract. The loop's invariant: what the ends before k want is added. Assumes nothing.
 use mathlib.Core.List.{map}
-use Prim.Native.Nat.{◌-◌, ◌≤◌}
+use Prim.Native.Nat.{◌≤◌}
 use Rattle.graph.specs.Words.{held_in}
 use Rattle.unwind.specs.Gather.{end_exits}
 use Rattle.unwind.specs.Wanted.{way_of}
@@ -9,6 +9,3 @@ use Rattle.unwind.proofs.wants.want_ends.Given as goal
 
 abbrev pub invariant-loop-k : goal.invariant-loop-k
 invariant-loop-k l = (l.k ≤ l.count) × HopsJoin l.h (held_in l.g).graph × AllWanted l.h l.initial.g l.initial.done (λ m ends. map (way_of l.r) (end_exits m l.b ends l.landings l.first l.k)) l.g l.done
-
-abbrev pub decreases-loop-k : goal.decreases-loop-k
-decreases-loop-k l = l.count - l.k

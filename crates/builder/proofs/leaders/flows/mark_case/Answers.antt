@@ -6,11 +6,10 @@ use Rattle.image.specs.declared.record.Case.{Case}
 use Rattle.graph.specs.Transfer.{address_at}
 use Rattle.builder.specs.Marks.{case_target}
 use Rattle.builder.proofs.MarkLaws.{few, mark_as, mark_lead}
-use borrow.Author.Rules.{rules}
 use Rattle.builder.proofs.leaders.flows.mark_case.Goals as goal
 
-pub mark_target-requires : goal.mark_target-requires
-mark_target-requires c = record { rising = (c.requires.0.sourced.rising, search rules); count_bound = few _ _ c.requires.0 }
+pub mark_target-requires-clause-count_most : goal.mark_target-requires-clause-count_most
+mark_target-requires-clause-count_most c = few _ _ c.requires.passed
 
 pub returns : goal.returns
 returns c = let m = image_in c.args.s.now c.args.y in

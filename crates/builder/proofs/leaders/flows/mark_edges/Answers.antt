@@ -1,8 +1,6 @@
 use mathlib.Core.Path.{◌≡◌}
 use Prim.Native.Nat.{◌+◌}
-use Rattle.image.specs.Record.{edge_from}
 use Rattle.image.specs.Image.{image_in}
-use Rattle.image.proofs.Tables.{length-records}
 use Rattle.builder.specs.Marks.{edge_target, edge_mark}
 use Rattle.builder.proofs.MarkLaws.{marks_none, marks_more}
 use native.Mathlib.Omega.{arith}
@@ -11,12 +9,6 @@ use Rattle.builder.proofs.leaders.flows.mark_edges.Goals as goal
 
 pub loop-k-init : goal.loop-k-init
 loop-k-init c = (search rules, marks_none (λ j p. edge_target (image_in _ _) (_ + j) p))
-
-pub overflow_add-first : goal.overflow_add-first
-overflow_add-first c = omega (arith, c.requires.1, c.requires.0.sourced.accepted.edges_most, length-records edge_from c.args.s.now c.args.y.code.edges)
-
-pub overflow_step-k : goal.overflow_step-k
-overflow_step-k c = omega (arith, c.requires.1)
 
 pub loop-k-preserved : goal.loop-k-preserved
 loop-k-preserved c = (search rules, marks_more (λ j p. edge_target (image_in c.args.s.now c.args.y) (c.args.first + j) p) c.loop-k.k c.loop-k.invariant.1 c.mark_edge.ensures)

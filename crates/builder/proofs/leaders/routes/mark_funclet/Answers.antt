@@ -8,11 +8,10 @@ use Rattle.image.specs.declared.record.Step.{Step}
 use Rattle.graph.proofs.TableLaws.{entry_address}
 use Rattle.builder.specs.Marks.{step_mark}
 use Rattle.builder.proofs.MarkLaws.{few, mark_as}
-use borrow.Author.Rules.{rules}
 use Rattle.builder.proofs.leaders.routes.mark_funclet.Goals as goal
 
-pub mark_target_if-requires : goal.mark_target_if-requires
-mark_target_if-requires c = record { rising = (c.requires.0.sourced.rising, search rules); count_bound = few _ _ c.requires.0 }
+pub mark_target_if-requires-clause-count_most : goal.mark_target_if-requires-clause-count_most
+mark_target_if-requires-clause-count_most c = few _ _ c.requires.passed
 
 pub returns : goal.returns
 returns c = let m = image_in c.args.s.now c.args.y in

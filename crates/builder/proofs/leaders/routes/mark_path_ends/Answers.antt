@@ -12,9 +12,6 @@ use Rattle.builder.proofs.leaders.routes.mark_path_ends.Goals as goal
 pub loop-k-init : goal.loop-k-init
 loop-k-init c = (search rules, marks_none (λ i p. path_mark (image_in _ _) i p))
 
-pub overflow_step-k : goal.overflow_step-k
-overflow_step-k c = omega (arith, c.struct_known-1)
-
 pub loop-k-preserved : goal.loop-k-preserved
 loop-k-preserved c = (search rules, marks_more (λ i p. path_mark (image_in _ _) i p) c.loop-k.k c.loop-k.invariant.1 c.mark_path_end.ensures)
 

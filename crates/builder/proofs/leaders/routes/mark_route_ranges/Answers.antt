@@ -11,12 +11,6 @@ use Rattle.builder.proofs.leaders.routes.mark_route_ranges.Goals as goal
 pub loop-r-init : goal.loop-r-init
 loop-r-init c = (search rules, marks_none (route_range (image_in _ _)))
 
-pub mark_route_range-requires : goal.mark_route_range-requires
-mark_route_range-requires c = (c.requires.0, c.requires.1, search rules, search rules)
-
-pub overflow_step-r : goal.overflow_step-r
-overflow_step-r c = omega (arith, c.struct_known-1)
-
 pub loop-r-preserved : goal.loop-r-preserved
 loop-r-preserved c = (search rules, marks_more (route_range (image_in _ _)) c.loop-r.r c.loop-r.invariant.1 c.mark_route_range.ensures)
 

@@ -22,15 +22,12 @@ overflow_mul-rough-2 c =
     let small : (c.args.routes + 1) * (c.args.stored.edges + c.args.stored.ends) ≤ 656000 = let many : c.args.routes + 1 ≤ 1025 = omega arith in
     let each : c.args.stored.edges + c.args.stored.ends ≤ 640 = omega arith in
     omega (arith, mul-le-mul many each) in
-    omega (arith, mul-le-mul (small) c.requires.4)
+    omega (arith, mul-le-mul (small) c.requires.blocks_most)
 
 pub returns-then-rough-le-HOP_MOST : goal.returns-then-rough-le-HOP_MOST
 returns-then-rough-le-HOP_MOST c = let ways = ways_of c.args.nodes.now in
     let m = c.args.stored.edges + c.args.stored.ends in
-    let each = sum_each (λ r. ways (get_or c.args.roots.now r 0)) m c.args.routes (λ r h. le_trans (sum-part ways c.args.stored.nodes (get_or c.args.roots.now r 0) (c.requires.7 r h)) c.requires.10) in
+    let each = sum_each (λ r. ways (get_or c.args.roots.now r 0)) m c.args.routes (λ r h. le_trans (sum-part ways c.args.stored.nodes (get_or c.args.roots.now r 0) (c.requires.roots_in r h)) c.requires.ways_within) in
     let guarded = sum_most (λ r. ways (get_or c.args.roots.now r 0)) (λ r. member (set_at c.args.guards.now r)) c.args.blocks c.args.routes in
     let returned = sum_most ways (λ i. member (set_at (returns_in c.args.parts.now c.args.returners.now) i)) c.args.blocks c.args.stored.nodes in
-    omega (arith, guarded, mul-le-mul_right c.args.blocks each, returned, mul-le-mul_right c.args.blocks c.requires.10)
-
-pub most_guarded-requires : goal.most_guarded-requires
-most_guarded-requires c = (c.requires.0, c.requires.4, c.requires.5, λ r h. omega (arith, c.requires.7 r h, c.requires.9), c.requires.8)
+    omega (arith, guarded, mul-le-mul_right c.args.blocks each, returned, mul-le-mul_right c.args.blocks c.requires.ways_within)

@@ -11,22 +11,18 @@ use Rattle.unwind.proofs.add.store.store_addition.Goals as goal
 pub add_hops-requires : goal.add_hops-requires
 add_hops-requires c = let w = c.args.g.now in
     let m = routes_in c.args.s.now c.args.y in
-    let l = all_lent w m c.requires.0 in
-    (l.0, l.1, l.2, l.3, l.5, l.6, hops_fit (held_in w).graph m c.requires.1, l.7, l.8, search rules, c.requires.0.instances.slots.entries_fit, c.requires.0.instances.landings_fit, c.requires.0.instances.slots.bases_fit, c.requires.3)
+    let l = all_lent w m c.requires.at_hand in
+    (l.0, l.1, l.2, l.3, l.5, l.6, hops_fit (held_in w).graph m c.requires.sizes, l.7, l.8, search rules, c.requires.at_hand.instances.slots.entries_fit, c.requires.at_hand.instances.landings_fit, c.requires.at_hand.instances.slots.bases_fit, c.requires.originals_fit)
 
-pub add_clone_edges-requires : goal.add_clone_edges-requires
-add_clone_edges-requires c = let l = links_lent c.args.g.now (routes_in c.args.s.now c.args.y) c.requires.0 in
-    (l.0, l.1, l.2, l.4, l.5)
-
-pub add_clone_blocks-requires : goal.add_clone_blocks-requires
-add_clone_blocks-requires c = (sets_stood c.args.g.now (routes_in c.args.s.now c.args.y) c.requires.0 c.add_clone_edges.ensures, c.requires.0.instances.slots.bases_fit)
+pub add_clone_blocks-requires-clause-sets_in : goal.add_clone_blocks-requires-clause-sets_in
+add_clone_blocks-requires-clause-sets_in c = sets_stood c.args.g.now (routes_in c.args.s.now c.args.y) c.requires.at_hand c.add_clone_edges.ensures
 
 pub add_route_edges-requires : goal.add_route_edges-requires
 add_route_edges-requires c = let w = c.args.g.now in
     let m = routes_in c.args.s.now c.args.y in
-    let x = c.requires.0 in
+    let x = c.requires.at_hand in
     let l = all_lent w m x in (
-      joins_stood w m x c.add_clone_edges.ensures c.requires.1 c.add_clone_blocks.ensures c.add_hops.ensures,
+      joins_stood w m x c.add_clone_edges.ensures c.requires.sizes c.add_clone_blocks.ensures c.add_hops.ensures,
       x.instances.slots.parts_fit,
       l.4.few,
       hops_lent w m x c.add_hops.ensures,
@@ -38,9 +34,16 @@ add_route_edges-requires c = let w = c.args.g.now in
       omega (arith, c.block_count-blocks.ensures, block_most w),
     )
 
-pub returns : goal.returns
-returns c = let w = c.args.g.now in
-    let m = routes_in c.args.s.now c.args.y in (
-      addition_laid w m c.requires.0 c.add_clone_edges.ensures c.requires.1 c.add_clone_blocks.ensures c.add_route_edges.ensures,
-      hops_laid (held_in w).graph m c.add_hops.ensures,
-    )
+pub returns-clause-graph : goal.returns-clause-graph
+returns-clause-graph c = let w = c.args.g.now in
+    let m = routes_in c.args.s.now c.args.y in
+    addition_laid w m c.requires.at_hand c.add_clone_edges.ensures c.requires.sizes c.add_clone_blocks.ensures c.add_route_edges.ensures
+
+pub returns-clause-hops : goal.returns-clause-hops
+returns-clause-hops c = let w = c.args.g.now in
+    let m = routes_in c.args.s.now c.args.y in
+    hops_laid (held_in w).graph m c.add_hops.ensures
+
+pub add_clone_edges-requires : goal.add_clone_edges-requires
+add_clone_edges-requires c = let l = links_lent c.args.g.now (routes_in c.args.s.now c.args.y) c.requires.at_hand in
+    record { ends = l.0; roomy = l.1; linked = l.2; sets_in = l.4; bases_fit = l.5 }

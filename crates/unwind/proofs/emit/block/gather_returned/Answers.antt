@@ -1,14 +1,12 @@
 -- `gather_returned` meets its contract: its part has b, or it has not. Assumes nothing.
 use mathlib.Core.Path.{sym, ◌∙◌}
-use native.Mathlib.Omega.{arith}
 use Rattle.image.specs.Image.{routes_in}
 use Rattle.unwind.specs.Nodes.{record_in}
 use Rattle.unwind.proofs.PoolLaws.{node_room, adds_none, adds-some, adds_record, node_in_law, node_out}
-use borrow.Author.Rules.{rules}
 use Rattle.unwind.proofs.emit.block.gather_returned.Goals as goal
 
-pub gather_node-requires : goal.gather_node-requires
-gather_node-requires c = (c.requires.0.ordered, omega (arith, c.requires.1), node_room (routes_in c.args.s.now c.args.y) c.args.b c.args.edges.now c.args.ends.now c.args.heads.now c.args.landings.now c.args.exits.now c.args.held (record_in c.args.nodes.now c.args.i) c.requires.0 c.requires.3, search rules, c.requires.3, c.requires.5)
+pub gather_node-requires-clause-room : goal.gather_node-requires-clause-room
+gather_node-requires-clause-room c = node_room (routes_in c.args.s.now c.args.y) c.args.b c.args.edges.now c.args.ends.now c.args.heads.now c.args.landings.now c.args.exits.now c.args.held (record_in c.args.nodes.now c.args.i) c.requires.0 c.requires.3
 
 pub shape_of-exits-then-in_set : goal.shape_of-exits-then-in_set
 shape_of-exits-then-in_set c = c.gather_node.ensures.long

@@ -13,7 +13,7 @@ pub gather_node-requires : goal.gather_node-requires
 gather_node-requires c = let here = ap (record_in c.args.nodes.now) (sym c.number_in-i.ensures.0) in
     let fits = subst (λ (x : NodeRecord). NodeFits c.args.edges.now c.args.ends.now x) here c.requires.3 in
     let there = subst (NodeThere c.args.nodes.now c.args.edges.now c.args.heads.now c.args.landings.now) (sym c.number_in-i.ensures.0) c.requires.5 in
-    (c.requires.0.ordered, omega (arith, c.requires.1), node_room (routes_in c.args.s.now c.args.y) c.args.b c.args.edges.now c.args.ends.now c.args.heads.now c.args.landings.now c.args.exits.now c.args.held (record_in c.args.nodes.now c.number_in-i.result) c.requires.0 fits, search rules, fits, there)
+    record { ordered = c.requires.0.ordered; block = omega (arith, c.requires.1); room = node_room (routes_in c.args.s.now c.args.y) c.args.b c.args.edges.now c.args.ends.now c.args.heads.now c.args.landings.now c.args.exits.now c.args.held (record_in c.args.nodes.now c.number_in-i.result) c.requires.0 fits; there = search rules; fits = fits; node = there }
 
 pub shape_of-exits-then-in_set : goal.shape_of-exits-then-in_set
 shape_of-exits-then-in_set c = c.gather_node.ensures.long

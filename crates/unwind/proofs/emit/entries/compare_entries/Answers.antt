@@ -1,15 +1,12 @@
 -- `compare_entries` meets its contract: the numbers of the ends decide, or the tags. Assumes nothing.
-use mathlib.Core.Path.{sym, ap, ◌∙◌}
+use mathlib.Core.Path.{sym, ◌∙◌}
 use Rattle.image.specs.Image.{routes_in}
-use Rattle.unwind.specs.Interning.{ordering_of}
-use Rattle.unwind.proofs.EntryLaws.{exits_less, exits_greater, exits_equal}
+use Rattle.unwind.proofs.TrieCompare.{number_cmp, then_cmp}
+use Rattle.unwind.proofs.EntryLaws.{exits_compare}
+use borrow.Author.Rules.{rules}
 use Rattle.unwind.proofs.emit.entries.compare_entries.Goals as goal
 
-pub returns-in-Less : goal.returns-in-Less
-returns-in-Less c = record { is = λ b. sym (exits_less (routes_in c.args.s.now c.args.y) b c.args.a c.args.b c.requires.0 c.requires.1 (sym c.compare_numbers.ensures ∙ ap ordering_of c.in-Less.is)) }
-
-pub returns-in-Greater : goal.returns-in-Greater
-returns-in-Greater c = record { is = λ b. sym (exits_greater (routes_in c.args.s.now c.args.y) b c.args.a c.args.b c.requires.0 c.requires.1 (sym c.compare_numbers.ensures ∙ ap ordering_of c.in-Greater.is)) }
-
-pub returns-in-Equal : goal.returns-in-Equal
-returns-in-Equal c = record { is = λ b. c.compare_calls.ensures ∙ sym (exits_equal (routes_in c.args.s.now c.args.y) b c.args.a c.args.b c.requires.0 c.requires.1 (sym c.compare_numbers.ensures ∙ ap ordering_of c.in-Equal.is)) }
+pub returns : goal.returns
+returns c = record {
+  is = λ b. then_cmp c.cmp.result c.then_with.result _ _ (number_cmp _ _ c.cmp.result c.cmp.ensures) (λ h. search rules) c.then_with.ensures ∙ sym (exits_compare (routes_in c.args.s.now c.args.y) b c.args.a c.args.b c.requires.small_a c.requires.small_b);
+}

@@ -8,23 +8,24 @@ use Rattle.unwind.specs.Nodes.{branch_in}
 use Rattle.unwind.specs.Sources.{Exit}
 use Rattle.unwind.specs.Gather.{exit_to, edge_exits}
 use Rattle.unwind.proofs.GatherLaws.{gather_none, gather_next}
-use borrow.Author.Rules.{rules}
 use Rattle.unwind.proofs.emit.gather.gather_edges.Goals as goal
 
 pub loop-k-init : goal.loop-k-init
 unfolding edge_exits table
-loop-k-init c = (omega arith, omega arith, λ b. gather_none (routes_in c.args.s.now c.args.y) b c.args.exits.now c.args.held c.requires.0)
+loop-k-init c = (omega arith, omega arith, λ b. gather_none (routes_in c.args.s.now c.args.y) b c.args.exits.now c.args.held c.requires.ordered)
 
 pub number_in-end-requires : goal.number_in-end-requires
 number_in-end-requires c = let test = c.loop-k-test.true in
-    omega (arith, c.requires.4 c.loop-k.k test, ap (λ (e : Branch). e.what) c.branch_in-e.ensures.is)
+    omega (arith, c.requires.heads c.loop-k.k test, ap (λ (e : Branch). e.what) c.branch_in-e.ensures.is)
 
 pub entry_to-requires : goal.entry_to-requires
 entry_to-requires c = (c.branch_in-e.ensures.small, c.number_in-end.ensures.1)
 
-pub put_entry-n-requires : goal.put_entry-n-requires
-put_entry-n-requires c = let all = c.loop-k.invariant.2 0 in
-    (all.ordered, c.entry_to.ensures.small, omega (arith, c.loop-k.invariant.1, c.requires.1, all.long), search rules)
+pub put_entry-n-requires-clause-ordered : goal.put_entry-n-requires-clause-ordered
+put_entry-n-requires-clause-ordered c = (c.loop-k.invariant.2 0).ordered
+
+pub put_entry-n-requires-clause-room : goal.put_entry-n-requires-clause-room
+put_entry-n-requires-clause-room c = omega (arith, c.loop-k.invariant.1, c.requires.room, (c.loop-k.invariant.2 0).long)
 
 pub loop-k-preserved : goal.loop-k-preserved
 unfolding edge_exits

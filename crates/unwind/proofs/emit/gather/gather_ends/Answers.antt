@@ -7,22 +7,20 @@ use Rattle.unwind.specs.Nodes.{branch_in}
 use Rattle.unwind.specs.Sources.{Exit}
 use Rattle.unwind.specs.Gather.{exit_to, end_number, end_exits}
 use Rattle.unwind.proofs.GatherLaws.{gather_none, gather_next}
-use borrow.Author.Rules.{rules}
 use Rattle.unwind.proofs.emit.gather.gather_ends.Goals as goal
 
 pub loop-k-init : goal.loop-k-init
 unfolding end_exits table
-loop-k-init c = (omega arith, omega arith, gather_none (routes_in c.args.s.now c.args.y) c.args.b c.args.exits.now c.args.held c.requires.0)
+loop-k-init c = (omega arith, omega arith, gather_none (routes_in c.args.s.now c.args.y) c.args.b c.args.exits.now c.args.held c.requires.ordered)
 
 pub end_number-end-requires : goal.end_number-end-requires
-end_number-end-requires c = (c.requires.1, omega (arith, c.requires.5, c.loop-k-test.true))
+end_number-end-requires c = (c.requires.block, omega (arith, c.requires.landings, c.loop-k-test.true))
 
 pub entry_to-requires : goal.entry_to-requires
 entry_to-requires c = (c.branch_in-e.ensures.small, c.end_number-end.ensures.1)
 
-pub put_entry-n-requires : goal.put_entry-n-requires
-put_entry-n-requires c = let all = c.loop-k.invariant.2 in
-    (all.ordered, c.entry_to.ensures.small, omega (arith, c.loop-k.invariant.1, c.requires.2, all.long), search rules)
+pub put_entry-n-requires-clause-room : goal.put_entry-n-requires-clause-room
+put_entry-n-requires-clause-room c = omega (arith, c.loop-k.invariant.1, c.requires.room, c.loop-k.invariant.2.long)
 
 pub loop-k-preserved : goal.loop-k-preserved
 unfolding end_exits

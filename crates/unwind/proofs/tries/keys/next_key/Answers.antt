@@ -5,13 +5,10 @@ use borrow.Author.Rules.{rules}
 use Rattle.unwind.proofs.tries.keys.next_key.Goals as goal
 
 pub returns-then-is_final : goal.returns-then-is_final
-returns-then-is_final c = key_final _ _ _ c.requires.4 (sym c.is_final.ensures ∙ c.if-is_final.true)
+returns-then-is_final c = key_final _ _ _ c.requires.last_final (sym c.is_final.ensures ∙ c.if-is_final.true)
 
 pub loop-k-init : goal.loop-k-init
 loop-k-init c = (search rules, among_none _ _ _)
-
-pub nearer_key-best-requires : goal.nearer_key-best-requires
-nearer_key-best-requires c = (c.requires.0, c.requires.1, c.requires.2, c.requires.3, c.loop-k.invariant.1, omega arith, search rules)
 
 pub loop-k-preserved : goal.loop-k-preserved
 loop-k-preserved c = (search rules, c.nearer_key-best.ensures)

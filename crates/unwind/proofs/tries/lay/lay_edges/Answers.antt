@@ -8,9 +8,8 @@ use Rattle.unwind.proofs.tries.lay.lay_edges.Goals as goal
 pub loop-k-init : goal.loop-k-init
 loop-k-init c = (search rules, edges_start _ _ _ _ _)
 
-pub put_sorted-count-requires : goal.put_sorted-count-requires
-put_sorted-count-requires c = let so_far = c.loop-k.invariant.1 in
-    (c.requires.0, c.branch_in.ensures.small, omega (arith, so_far.laid.most, so_far.long, c.requires.1), search rules)
+pub put_sorted-count-requires-clause-room : goal.put_sorted-count-requires-clause-room
+put_sorted-count-requires-clause-room c = let so_far = c.loop-k.invariant.1 in omega (arith, so_far.laid.most, so_far.long, c.requires.room)
 
 pub loop-k-preserved : goal.loop-k-preserved
 loop-k-preserved c = let m = routes_in c.args.s.now c.args.y in (

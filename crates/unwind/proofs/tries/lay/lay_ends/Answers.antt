@@ -15,16 +15,16 @@ use Rattle.unwind.proofs.tries.lay.lay_ends.Goals as goal
 pub loop-k-init : goal.loop-k-init
 loop-k-init c = (search rules, ends_start _ _ _ _)
 
-pub overflow_add-first : goal.overflow_add-first
-overflow_add-first c = omega (arith, c.requires.2.paths, c.requires.0.paths_most)
+pub overflow_add-g : goal.overflow_add-g
+overflow_add-g c = omega (arith, c.requires.group.paths, c.requires.accepted.paths_most)
 
-pub lay_end-n-requires : goal.lay_end-n-requires
-lay_end-n-requires c = let m = routes_in c.args.s.now c.args.y in
+pub lay_end-n-requires-clause-room : goal.lay_end-n-requires-clause-room
+lay_end-n-requires-clause-room c = let m = routes_in c.args.s.now c.args.y in
     let g = c.args.g in
     let ends : ℕ → List (Tagged UnwindEnd) = λ (i : ℕ). ends_list (left_at m g (g.first + i)) in
     let room : c.loop-k.n + length (ends c.loop-k.k) ≤ length (ends_list (paths_of m g)) =
     rw (ends_flat m g) (omega (arith, c.loop-k.invariant.1.most, flat-suc ends c.loop-k.k, flat_le ends (suc c.loop-k.k) g.count c.loop-k-test.true)) in
-    (c.requires.0, c.requires.1, c.requires.2, omega (arith, c.requires.2.paths), omega (arith, room, c.requires.3, c.loop-k.invariant.1.long), search rules)
+    omega (arith, room, c.requires.room, c.loop-k.invariant.1.long)
 
 pub loop-k-preserved : goal.loop-k-preserved
 loop-k-preserved c = let m = routes_in c.args.s.now c.args.y in

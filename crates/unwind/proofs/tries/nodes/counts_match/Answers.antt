@@ -7,6 +7,6 @@ pub returns-then-number_in-edges : goal.returns-then-number_in-edges
 unfolding record_in
 returns-then-number_in-edges c = rw (← c.number_in.ensures.0, ← c.number_in-then-number_in-edges.ensures.0, eq-eqb c.number_in.result c.args.edges c.if-number_in-edges.true)
 
-pub returns : goal.returns
+pub returns-else-number_in-edges : goal.returns-else-number_in-edges
 unfolding record_in
-returns c = rw (← c.number_in.ensures.0, ne_eqb c.number_in.result c.args.edges c.if-number_in-edges.false)
+returns-else-number_in-edges c = rw (← c.number_in.ensures.0, ne_eqb c.number_in.result c.args.edges c.if-number_in-edges.false)

@@ -10,30 +10,23 @@ use Rattle.unwind.specs.Seen.{mark_of}
 use Rattle.unwind.proofs.TrieNodes.{place_first, place-nothing, length_nodes, node_of_law}
 use Rattle.unwind.proofs.LowerLaws.{low_differs}
 use Rattle.unwind.proofs.SeenLaws.{unseen_differs}
-use borrow.Author.Rules.{rules}
 use borrow.Author.Tests.{not-true}
 use Rattle.unwind.proofs.tries.nodes.find_node.Goals as goal
-
-pub behind_children-low-requires : goal.behind_children-low-requires
-behind_children-low-requires c = c.requires.5.edges_within
 
 pub returns-then-n-low : goal.returns-then-n-low
 returns-then-n-low c = let m = routes_in c.args.s.now c.args.y in
     place-nothing m c.args.nodes.now c.args.edges.now c.args.ends.now c.args.n (node_in m c.args.edges.now c.args.ends.now c.args.x)
-    (λ j lt. low_differs m c.args.nodes.now c.args.edges.now c.args.ends.now c.args.n c.requires.2 c.args.x c.behind_children-low.result c.behind_children-low.ensures j (omega arith) lt)
+    (λ j lt. low_differs m c.args.nodes.now c.args.edges.now c.args.ends.now c.args.n c.requires.lower c.args.x c.behind_children-low.result c.behind_children-low.ensures j (omega arith) lt)
 
 pub returns-then-not-has_in : goal.returns-then-not-has_in
 returns-then-not-has_in c = let m = routes_in c.args.s.now c.args.y in
     let out : member c.args.seen.now (mark_of (value_of (funclet_in m c.args.x.funclet))) ≡ false =
     rw (← c.funclet_value-value.ensures, ← c.mark_of.ensures, ← c.has_in.ensures) (not-true _ c.if-not-has_in.true-raw) in
     place-nothing m c.args.nodes.now c.args.edges.now c.args.ends.now c.args.n (node_in m c.args.edges.now c.args.ends.now c.args.x)
-    (unseen_differs m c.args.nodes.now c.args.n c.args.seen.now c.requires.3 c.args.x c.args.edges.now c.args.ends.now out)
+    (unseen_differs m c.args.nodes.now c.args.n c.args.seen.now c.requires.seen c.args.x c.args.edges.now c.args.ends.now out)
 
 pub loop-i-init : goal.loop-i-init
-loop-i-init c = low_differs (routes_in c.args.s.now c.args.y) c.args.nodes.now c.args.edges.now c.args.ends.now c.args.n c.requires.2 c.args.x c.behind_children-low.result c.behind_children-low.ensures
-
-pub stands_at-requires : goal.stands_at-requires
-stands_at-requires c = (c.requires.0, omega (arith, c.loop-i-test.true, c.requires.1), c.funclet_value-value.ensures, search rules, c.requires.5, c.requires.6.fits _ c.loop-i-test.true)
+loop-i-init c = low_differs (routes_in c.args.s.now c.args.y) c.args.nodes.now c.args.edges.now c.args.ends.now c.args.n c.requires.lower c.args.x c.behind_children-low.result c.behind_children-low.ensures
 
 pub returns-then-stands_at : goal.returns-then-stands_at
 returns-then-stands_at c = let m = routes_in c.args.s.now c.args.y in

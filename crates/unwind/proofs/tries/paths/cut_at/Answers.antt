@@ -13,7 +13,7 @@ pub loop-i-init : goal.loop-i-init
 loop-i-init c = (search rules, cut_start _ _ _)
 
 pub step_in-requires : goal.step_in-requires
-step_in-requires c = (c.requires.1.steps_there, omega (arith, c.loop-i-test.true, c.requires.2, length-records step_from c.args.s.now c.args.y.steps))
+step_in-requires c = (c.requires.there.steps_there, omega (arith, c.loop-i-test.true, c.requires.within, length-records step_from c.args.s.now c.args.y.steps))
 
 pub returns-then-step_in-eq-FUNCLET : goal.returns-then-step_in-eq-FUNCLET
 unfolding cut_of

@@ -1,12 +1,13 @@
 use mathlib.Core.Path.{◌≡◌, refl, ap, ◌∙◌}
 use mathlib.Core.List.{[]}
-use Prim.Native.Nat.{◌+◌, ◌≤◌, ◌<◌}
+use Prim.Native.Nat.{ℕ, ◌+◌, ◌≤◌, ◌<◌}
 use native.Mathlib.Decide.{dec_lt}
 use native.Mathlib.Omega.{arith}
 use lib.ListN.{length, get_or, length-set}
 use lib.Seq.{get_or-set_same, get_or-set_other}
 use Rattle.image.specs.Record.{path_from}
-use Rattle.image.specs.Image.{routes_in}
+use Rattle.image.specs.Image.{RouteImage, routes_in}
+use Rattle.image.specs.Accepted.{AcceptedRoutes}
 use Rattle.image.specs.Deal.{total}
 use Rattle.image.specs.declared.record.Path.{Path}
 use Rattle.image.proofs.Tables.{length-records}
@@ -16,47 +17,42 @@ use Rattle.unwind.proofs.TrieRoutes.{steps_below}
 use borrow.Author.Rules.{rules}
 use Rattle.unwind.proofs.tries.paths.path_starts.Goals as goal
 
+-- a path stands among all, and so do its steps
+within : (m : RouteImage) → AcceptedRoutes m → (p : ℕ) → p < length m.paths → (p < length m.paths) × (steps_before m p + (get_or m.paths p (path_from [] 0)).steps ≤ 512)
+within m ok p h = (h, omega (arith, steps_in_law m ok p h, ok.steps_most))
+
+behind : (m : RouteImage) → AcceptedRoutes m → (p : ℕ) → p ≡ length m.paths → (next : ℕ) → next ≡ steps_before m p → next ≤ 512
+behind m ok p e next is = omega (arith, steps_below m ok p (omega arith), ok.steps_most)
+
 pub loop-p-init : goal.loop-p-init
 unfolding steps_before total
 loop-p-init c = (search rules, refl, refl, λ q h. absurd (omega arith))
 
 pub overflow_cast-starts : goal.overflow_cast-starts
 overflow_cast-starts c =
-    let among : let m = routes_in c.args.s.now c.args.y in
-    (c.loop-p.p < length m.paths) × (steps_before m c.loop-p.p + (get_or m.paths c.loop-p.p (path_from [] 0)).steps ≤ 512) = let m = routes_in c.args.s.now c.args.y in
-    let here : c.loop-p.p < length m.paths = rw (length-records path_from c.args.s.now c.args.y.paths) (omega arith) in
-    (here, omega (arith, steps_in_law m c.requires.0 c.loop-p.p here, c.requires.0.steps_most)) in
-    omega (arith, (among).1, c.loop-p.invariant.1)
+    let among = within (routes_in c.args.s.now c.args.y) c.requires.accepted c.loop-p.p (rw (length-records path_from c.args.s.now c.args.y.paths) (omega arith)) in
+    omega (arith, among.1, c.loop-p.invariant.1)
 
 pub bounds-starts-p : goal.bounds-starts-p
 bounds-starts-p c =
-    let among : let m = routes_in c.args.s.now c.args.y in
-    (c.loop-p.p < length m.paths) × (steps_before m c.loop-p.p + (get_or m.paths c.loop-p.p (path_from [] 0)).steps ≤ 512) = let m = routes_in c.args.s.now c.args.y in
-    let here : c.loop-p.p < length m.paths = rw (length-records path_from c.args.s.now c.args.y.paths) (omega arith) in
-    (here, omega (arith, steps_in_law m c.requires.0 c.loop-p.p here, c.requires.0.steps_most)) in
-    omega (arith, (among).0, c.loop-p.invariant.2, c.requires.1)
+    let among = within (routes_in c.args.s.now c.args.y) c.requires.accepted c.loop-p.p (rw (length-records path_from c.args.s.now c.args.y.paths) (omega arith)) in
+    omega (arith, among.0, c.loop-p.invariant.2, c.requires.room)
 
 pub path_in-next-requires : goal.path_in-next-requires
-path_in-next-requires c = (c.requires.2.paths_there, search rules)
+path_in-next-requires c = (c.requires.there.paths_there, search rules)
 
 pub overflow_add-next : goal.overflow_add-next
 overflow_add-next c =
-    let among : let m = routes_in c.args.s.now c.args.y in
-    (c.loop-p.p < length m.paths) × (steps_before m c.loop-p.p + (get_or m.paths c.loop-p.p (path_from [] 0)).steps ≤ 512) = let m = routes_in c.args.s.now c.args.y in
-    let here : c.loop-p.p < length m.paths = rw (length-records path_from c.args.s.now c.args.y.paths) (omega arith) in
-    (here, omega (arith, steps_in_law m c.requires.0 c.loop-p.p here, c.requires.0.steps_most)) in
-    omega (arith, (among).1, c.loop-p.invariant.1, ap (λ (x : Path). x.steps) c.path_in-next.ensures)
+    let among = within (routes_in c.args.s.now c.args.y) c.requires.accepted c.loop-p.p (rw (length-records path_from c.args.s.now c.args.y.paths) (omega arith)) in
+    omega (arith, among.1, c.loop-p.invariant.1, ap (λ (x : Path). x.steps) c.path_in-next.ensures)
 
 pub loop-p-preserved : goal.loop-p-preserved
 loop-p-preserved c =
-    let among : let m = routes_in c.args.s.now c.args.y in
-    (c.loop-p.p < length m.paths) × (steps_before m c.loop-p.p + (get_or m.paths c.loop-p.p (path_from [] 0)).steps ≤ 512) = let m = routes_in c.args.s.now c.args.y in
-    let here : c.loop-p.p < length m.paths = rw (length-records path_from c.args.s.now c.args.y.paths) (omega arith) in
-    (here, omega (arith, steps_in_law m c.requires.0 c.loop-p.p here, c.requires.0.steps_most)) in
+    let among = within (routes_in c.args.s.now c.args.y) c.requires.accepted c.loop-p.p (rw (length-records path_from c.args.s.now c.args.y.paths) (omega arith)) in
     let m = routes_in c.args.s.now c.args.y in
     let p = c.loop-p.p in
     let l = c.loop-p.starts in
-    let room : p < length l = omega (arith, (among).0, c.loop-p.invariant.2, c.requires.1) in (
+    let room : p < length l = omega (arith, among.0, c.loop-p.invariant.2, c.requires.room) in (
       search rules,
       omega (arith, steps_next m p, c.loop-p.invariant.1, ap (λ (x : Path). x.steps) c.path_in-next.ensures),
       length-set l p c.loop-p.next ∙ c.loop-p.invariant.2,
@@ -69,40 +65,29 @@ loop-p-preserved c =
 
 pub overflow_cast-starts-2 : goal.overflow_cast-starts-2
 overflow_cast-starts-2 c =
-    let passed : let m = routes_in c.args.s.now c.args.y in
-    (c.loop-p.p ≡ length m.paths) × (c.loop-p.next ≤ 512) × (length m.paths < length c.loop-p.starts) = let m = routes_in c.args.s.now c.args.y in
-    let ok = c.requires.0 in
-    let all : c.loop-p.p ≡ length m.paths = rw (length-records path_from c.args.s.now c.args.y.paths) (omega arith) in
-    (all, omega (arith, steps_below m ok c.loop-p.p (omega arith), ok.steps_most, c.loop-p.invariant.1), omega (arith, c.loop-p.invariant.2, c.requires.1)) in
-    omega (arith, (passed).1)
+    let all : c.loop-p.p ≡ length (routes_in c.args.s.now c.args.y).paths = rw (length-records path_from c.args.s.now c.args.y.paths) (omega arith) in
+    let passed = behind (routes_in c.args.s.now c.args.y) c.requires.accepted c.loop-p.p all c.loop-p.next c.loop-p.invariant.1 in
+    omega (arith, passed)
 
 pub bounds-starts-n : goal.bounds-starts-n
 bounds-starts-n c =
-    let passed : let m = routes_in c.args.s.now c.args.y in
-    (c.loop-p.p ≡ length m.paths) × (c.loop-p.next ≤ 512) × (length m.paths < length c.loop-p.starts) = let m = routes_in c.args.s.now c.args.y in
-    let ok = c.requires.0 in
-    let all : c.loop-p.p ≡ length m.paths = rw (length-records path_from c.args.s.now c.args.y.paths) (omega arith) in
-    (all, omega (arith, steps_below m ok c.loop-p.p (omega arith), ok.steps_most, c.loop-p.invariant.1), omega (arith, c.loop-p.invariant.2, c.requires.1)) in
-    omega (arith, (passed).0, (passed).2, length-records path_from c.args.s.now c.args.y.paths)
+    let all : c.loop-p.p ≡ length (routes_in c.args.s.now c.args.y).paths = rw (length-records path_from c.args.s.now c.args.y.paths) (omega arith) in
+    omega (arith, all, c.loop-p.invariant.2, c.requires.room, length-records path_from c.args.s.now c.args.y.paths)
 
 pub returns : goal.returns
 returns c =
-    let passed : let m = routes_in c.args.s.now c.args.y in
-    (c.loop-p.p ≡ length m.paths) × (c.loop-p.next ≤ 512) × (length m.paths < length c.loop-p.starts) = let m = routes_in c.args.s.now c.args.y in
-    let ok = c.requires.0 in
-    let all : c.loop-p.p ≡ length m.paths = rw (length-records path_from c.args.s.now c.args.y.paths) (omega arith) in
-    (all, omega (arith, steps_below m ok c.loop-p.p (omega arith), ok.steps_most, c.loop-p.invariant.1), omega (arith, c.loop-p.invariant.2, c.requires.1)) in
+    let all : c.loop-p.p ≡ length (routes_in c.args.s.now c.args.y).paths = rw (length-records path_from c.args.s.now c.args.y.paths) (omega arith) in
     let l = c.loop-p.starts in
     let n = c.args.y.paths.count in
     let next = c.loop-p.next in
-    let h = passed in
     let size = length-records path_from c.args.s.now c.args.y.paths in
-    let end : c.loop-p.p ≡ n = omega (arith, h.0) in
+    let end : c.loop-p.p ≡ n = omega (arith, all) in
+    let room : length (routes_in c.args.s.now c.args.y).paths < length l = omega (arith, c.loop-p.invariant.2, c.requires.room) in
     record {
-      long = rw (length-set l n next) h.2;
+      long = rw (length-set l n next) room;
       at = λ p le.
           elim (dec_lt p n) [
             | yes lt ↦ get_or-set_other l n p next 0 (λ e. omega arith) ∙ c.loop-p.invariant.3 p (omega arith)
-            | no ge ↦ let e : p ≡ n = omega arith in rw e (get_or-set_same l n next 0 (omega (arith, h.2)) ∙ rw end at c.loop-p.invariant.1)
+            | no ge ↦ let e : p ≡ n = omega arith in rw e (get_or-set_same l n next 0 (omega (arith, room)) ∙ rw end at c.loop-p.invariant.1)
           ];
     }

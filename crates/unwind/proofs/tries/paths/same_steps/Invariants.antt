@@ -7,6 +7,3 @@ use Rattle.unwind.proofs.tries.paths.same_steps.Given as goal
 
 abbrev pub invariant-loop-i : goal.invariant-loop-i
 invariant-loop-i l = (l.i ≤ l.n) × (same_steps (routes_in l.s l.y) l.a l.b l.n ≡ same_steps (routes_in l.s l.y) (l.a + l.i) (l.b + l.i) (l.n - l.i))
-
-abbrev pub decreases-loop-i : goal.decreases-loop-i
-decreases-loop-i l = l.n - l.i

@@ -1,12 +1,10 @@
--- `insert` meets its contract. The invariant: with `next` and those not yet moved behind it, the run is what it is to be.
+-- `insert` meets its contract. The invariant: the branches from k on stand one further, and those before it as they did.
 -- Assumes nothing.
-use Prim.Native.Nat.{◌-◌, ◌≤◌}
-use Rattle.unwind.specs.Nodes.{BranchSmall}
-use Rattle.unwind.proofs.TrieRuns.{Moved}
+use mathlib.Core.Path.{◌≡◌}
+use Prim.Native.Nat.{ℕ, ◌+◌, ◌≤◌, ◌<◌}
+use lib.ListN.{length}
+use Rattle.unwind.specs.Nodes.{branch_in}
 use Rattle.unwind.proofs.tries.runs.insert.Given as goal
 
 abbrev pub invariant-loop-k : goal.invariant-loop-k
-invariant-loop-k l = (l.j ≤ l.k) × (l.k ≤ l.n) × BranchSmall l.next × Moved l.initial.list l.at l.n l.j l.initial.next l.list l.next l.k
-
-abbrev pub decreases-loop-k : goal.decreases-loop-k
-decreases-loop-k l = l.n - l.k
+invariant-loop-k l = (l.p ≤ l.k) × (length l.list ≡ length l.initial.list) × ((j : ℕ) → j < l.k → branch_in l.list j ≡ branch_in l.initial.list j) × ((j : ℕ) → l.k ≤ j → j < l.n → branch_in l.list (j + 1) ≡ branch_in l.initial.list j)

@@ -2,7 +2,7 @@
 -- word i. Assumes nothing.
 use mathlib.Core.Path.{◌≡◌}
 use mathlib.Core.Bool.{false}
-use Prim.Native.Nat.{ℕ, ◌-◌, ◌*◌, ◌≤◌, ◌<◌}
+use Prim.Native.Nat.{ℕ, ◌*◌, ◌≤◌, ◌<◌}
 use Rattle.graph.specs.BlockSet.{member}
 use Rattle.unwind.specs.Placed.{returns_in}
 use Rattle.unwind.specs.Wanters.{wanter_set}
@@ -10,6 +10,3 @@ use Rattle.unwind.proofs.wants.wanter.next_block.Given as goal
 
 abbrev pub invariant-loop-i : goal.invariant-loop-i
 invariant-loop-i l = (l.from ≤ 64 * l.i) × ((c : ℕ) → l.from ≤ c → c < 64 * l.i → member (wanter_set l.guards (returns_in l.parts l.returners) l.routes l.k) c ≡ false)
-
-abbrev pub decreases-loop-i : goal.decreases-loop-i
-decreases-loop-i l = l.words - l.i

@@ -1,6 +1,0 @@
--- `entry_in_sets` meets its contract. Assumes nothing.
-use mathlib.Core.Path.{refl}
-use Rattle.graph.proofs.rule.entry_in_sets.Goals as goal
-
-pub returns : goal.returns
-returns c = rw c.table_at-e.ensures refl
