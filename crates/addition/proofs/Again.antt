@@ -15,6 +15,7 @@ use native.Mathlib.Omega.{arith}
 use borrow.Author.Tests.{leb-true, le-leb}
 use lib.Dec.{leb}
 use lib.ListN.{length, length-append}
+use Rattle.graph.specs.declared.store.Graph.{Graph as Lent}
 use Rattle.image.specs.Refusal.{refusal, Check, clear, ◌then◌, unless}
 use Rattle.image.specs.Deal.{UnwindRoute, routes_of}
 use Rattle.image.proofs.Checks.{unless_clear}
@@ -24,7 +25,7 @@ use Rattle.graph.specs.declared.record.Edge.{Edge}
 use Rattle.graph.specs.Graph.{Graph, Held, held, block as block_at}
 use Rattle.graph.specs.Fold.{flat, checks}
 use Rattle.graph.specs.Table.{is_start}
-use Rattle.graph.specs.Words.{held_in}
+use Rattle.graph.specs.Lent.{held_of, Sized}
 use Rattle.graph.specs.WellFormed.{within_limits, parents_exist, names_handler, same_reference, references_match, well_formed}
 use Rattle.graph.proofs.FoldLaws.{flat-none}
 use Rattle.graph.proofs.StoredLaws.{all_held}
@@ -157,5 +158,5 @@ passes_again h l a whole e =
     let x = passed h l a e in
     again h.graph (routes_of x.image) a (sym (ap well_formed whole) ∙ x.graph) x.adds
 
-pub words_again : (w l : List ℕ) (a : Addition) → add_routes (held_in w) l ≡ added a → well_formed (held a.graph) ≡ true
-words_again w l a e = passes_again (held_in w) l a (all_held w (stands (held_in w) (passed (held_in w) l a e).graph).limits) e
+pub words_again : (w : Lent) → Sized w → (l : List ℕ) (a : Addition) → add_routes (held_of w) l ≡ added a → well_formed (held a.graph) ≡ true
+words_again w sized l a e = passes_again (held_of w) l a (all_held w sized (stands (held_of w) (passed (held_of w) l a e).graph).limits) e

@@ -16,7 +16,7 @@ use Rattle.image.specs.Deal.{UnwindRoute}
 use Rattle.graph.specs.declared.record.TableEntry.{TableEntry}
 use Rattle.graph.specs.declared.record.Edge.{Edge}
 use Rattle.graph.specs.Graph.{Graph, block as block_at}
-use Rattle.graph.specs.Words.{entry_of as entry_from}
+use Rattle.graph.specs.Table.{no_entry}
 use Rattle.graph.specs.Fold.{flat, checks}
 use Rattle.graph.specs.Table.{entry_at}
 use Rattle.graph.proofs.TableLaws.{start_has}
@@ -104,7 +104,7 @@ module _ (g : Graph) (rs : List UnwindRoute) (sound : Sound g)
   keeps_there b e =
       elim (dec_lt 0 (length g.table)) [
         | yes lt ↦ lt
-        | no ge ↦ absurd (omega (arith, e, ap (λ (x : TableEntry). x.keeps) (get_or-eq_default g.table (entry_from []) {n = (block_at g b).first} (omega arith))))
+        | no ge ↦ absurd (omega (arith, e, ap (λ (x : TableEntry). x.keeps) (get_or-eq_default g.table no_entry {n = (block_at g b).first} (omega arith))))
       ]
 
   part_there : (i : ℕ) → i < length z → (f : Option ℕ) → (node_at z i).funclet ≡ f → {b : ℕ} → b ∈ part_of g fs f → 0 < length g.table

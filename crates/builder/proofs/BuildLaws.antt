@@ -1,5 +1,4 @@
 -- A build: what its passes ask, its outcome, and the graph that its stores leave.
---     building                       what the checks behind the leaders ask
 --     passed, emitting, handled      what the leaders, the edges and the handlers ask
 --     build_tabled, build_refused, build_late, build_built, read_refused, read_built     the outcome
 --     code_laid                      the table and the blocks, from nothing
@@ -11,12 +10,13 @@ use mathlib.Core.List.{List, [], ◌++◌, append-nil}
 use Prim.Native.Nat.{ℕ, ◌≤◌, ◌<◌}
 use native.Mathlib.Omega.{arith}
 use lib.ListN.{length, get_or}
+use Rattle.graph.specs.declared.store.Graph.{Graph as Lent}
 use Rattle.image.specs.Refusal.{Refusal, Check, clear}
 use Rattle.image.specs.Read.{read, refusing, read_image}
 use Rattle.image.specs.Image.{Image}
 use Rattle.image.specs.Accepted.{Accepted}
 use Rattle.graph.specs.Graph.{Graph, Held, held}
-use Rattle.graph.specs.Words.{held_in}
+use Rattle.graph.specs.Lent.{held_of}
 use Rattle.graph.specs.Stored.{Stored, Emptied, entered}
 use Rattle.graph.specs.Adding.{Added, adding, with_table, with_blocks}
 use Rattle.graph.specs.Error.{refusal_of}
@@ -31,7 +31,7 @@ use Rattle.graph.proofs.TableLaws.{length-entries}
 use Rattle.graph.proofs.RangeLaws.{rising}
 use Rattle.graph.proofs.BuiltChecks.{Parts, edges_few}
 use Rattle.graph.proofs.BuiltBlocks.{blocks_most}
-use Rattle.graph.proofs.StoredLaws.{stored_then, emptied_then, held-nothing}
+use Rattle.graph.proofs.StoredLaws.{untouched_then, stored_then, emptied_then, held-nothing}
 use Rattle.graph.proofs.AddingLaws.{added_then, adding-held, table-held, blocks_held}
 use Rattle.builder.specs.Drafts.{Handled, Whole, with_regions, with_handlers}
 use Rattle.builder.specs.Emit.{Numbered, Emitting}
@@ -43,16 +43,6 @@ use Rattle.std.proofs.Common.{Result, Ok, Err}
 use Rattle.std.specs.Result.{IsErrAnd}
 use Rattle.builder.proofs.GivenLaws.{sourced}
 use Rattle.builder.proofs.BoundLaws.{unresolved_few, calls_few}
-use mathlib.Core.Bool.{Bool, false}
-use lib.ListN.{replicate}
-use Rattle.image.specs.Image.{image_in}
-use Rattle.image.specs.declared.section.Layout.{Layout}
-use Rattle.graph.specs.Leaders.{is_leader}
-use Rattle.graph.proofs.BuiltChecks.{parts}
-use Rattle.builder.specs.Ranges.{Ended}
-use Rattle.builder.specs.Marks.{Marked}
-use Rattle.builder.specs.Answers.{Building}
-use Rattle.builder.proofs.MarkLaws.{leading}
 
 -- ---- the checks
 
@@ -70,11 +60,6 @@ module _ (m : Image) (accepted : Accepted m) (p : Parts m) where
     pub handled : Numbered m blocks → Handled m blocks
     handled n = record { few = accepted.handlers_most; table = p.table; passed = p.handlers; numbered = n }
 
-pub building : {marks : List Bool} (s : List ℕ) (y : Layout) (end : ℕ) → Accepted (image_in s y) → Ended (table_of (image_in s y)) end → (clears : input_check (image_in s y) ≡ clear)
-    → Marked y.code.instructions.count (is_leader (image_in s y)) (replicate 512 false) marks → Building (image_in s y) end marks
-building s y end accepted ended clears marked =
-    record { accepted = accepted; passed = clears; ended = ended.1; leading = leading s y (passed _ accepted (parts _ clears)) marked }
-
 -- ---- the outcome
 
 module _ (m : Image) where
@@ -90,14 +75,14 @@ module _ (m : Image) where
   unfolding build_of build_check
   build_late r a e = rw (a, ← e)
 
-  pub build_built : {w w' : List ℕ} → input_check m ≡ clear → result_check m ≡ clear → Laid w w' (graph_from m) → (built (held_in w').graph ≡ build_of m) × Laid w w' (held_in w').graph
+  pub build_built : {w w' : Lent} → input_check m ≡ clear → result_check m ≡ clear → Laid w w' (graph_from m) → (built (held_of w').graph ≡ build_of m) × Laid w w' (held_of w').graph
   unfolding build_of build_check held
   build_built {w} {w'} a b laid =
-      let is : (held_in w').graph ≡ graph_from m = ap (λ (h : Held). h.graph) laid.holds in
+      let is : (held_of w').graph ≡ graph_from m = ap (λ (h : Held). h.graph) laid.holds in
       (rw (a, b) (ap built is), rw (← is) at laid)
 
 module _ (l : List ℕ) where
-  pub read_refused : {A : Type 0} (w : List ℕ) (e : ImageError) (r : Result A AddressBuildError) → IsErrAnd r (λ x. refusal_of x ≡ form_refusal e) → refusing (form_refusal e) ≡ read_image l
+  pub read_refused : {A : Type 0} (w : Lent) (e : ImageError) (r : Result A AddressBuildError) → IsErrAnd r (λ x. refusal_of x ≡ form_refusal e) → refusing (form_refusal e) ≡ read_image l
       → build_answer w r ≡ build_from l
   unfolding build_from build_read
   read_refused w e (Ok _) fails found = absurd fails
@@ -109,39 +94,39 @@ module _ (l : List ℕ) where
 
 -- ---- the stores
 
-pub code_laid : (m : Image) → size m ≤ 512 → {w w₁ w₂ w₃ : List ℕ} → Emptied w w₁ → Stored w₁ w₂ (with_table (held_in w₁) (table_of m)) → Stored w₂ w₃ (with_blocks (held_in w₂) (blocks_of m)) → Laid w w₃ (code_only m)
+pub code_laid : (m : Image) → size m ≤ 512 → {w w₁ w₂ w₃ : Lent} → Emptied w w₁ → Stored w₁ w₂ (with_table (held_of w₁) (table_of m)) → Stored w₂ w₃ (with_blocks (held_of w₂) (blocks_of m)) → Laid w w₃ (code_only m)
 code_laid m most {w} {w₁} {w₂} {w₃} a b c =
     let nil : Graph = record { entry = 0; table = []; blocks = []; edges = []; regions = []; handlers = []; unresolved = []; calls = [] } in
     let one : Graph = record { entry = 0; table = table_of m; blocks = []; edges = []; regions = []; handlers = []; unresolved = []; calls = [] } in
-    let held₁ : held_in w₁ ≡ held nil = a.holds ∙ held-nothing in
-    let held₂ : held_in w₂ ≡ held one = b.holds ∙ ap (λ (h : Held). with_table h (table_of m)) held₁ ∙ table-held nil (table_of m) (omega (arith, length-entries m.instructions)) in
-    let held₃ : held_in w₃ ≡ held (code_only m) = c.holds ∙ ap (λ (h : Held). with_blocks h (blocks_of m)) held₂ ∙ blocks_held one (blocks_of m) (omega (arith, blocks_most m most)) in
+    let held₁ : held_of w₁ ≡ held nil = a.holds ∙ held-nothing in
+    let held₂ : held_of w₂ ≡ held one = b.holds ∙ ap (λ (h : Held). with_table h (table_of m)) held₁ ∙ table-held nil (table_of m) (omega (arith, length-entries m.instructions)) in
+    let held₃ : held_of w₃ ≡ held (code_only m) = c.holds ∙ ap (λ (h : Held). with_blocks h (blocks_of m)) held₂ ∙ blocks_held one (blocks_of m) (omega (arith, blocks_most m most)) in
     record { holds = held₃; kept = emptied_then a (stored_then b c) }
 
-pub edges_added : (m : Image) {w w₁ w₂ w₃ : List ℕ} → Added w w₁ (normal_edges m) (unresolved_of m) [] → Added w₁ w₂ (exception_edges m) [] [] → Added w₂ w₃ [] [] (calls_of m) → Added w w₃ (edges_of m) (unresolved_of m) (calls_of m)
+pub edges_added : (m : Image) {w w₁ w₂ w₃ : Lent} → Added w w₁ (normal_edges m) (unresolved_of m) [] → Added w₁ w₂ (exception_edges m) [] [] → Added w₂ w₃ [] [] (calls_of m) → Added w w₃ (edges_of m) (unresolved_of m) (calls_of m)
 unfolding edges_of
 edges_added m {w} {w₁} {w₂} {w₃} a b c =
     rw (append-nil (unresolved_of m), append-nil (unresolved_of m), append-nil (normal_edges m ++ exception_edges m)) at (added_then (added_then a b) c)
 
-module _ (m : Image) (accepted : Accepted m) (p : Parts m) (result : result_check m ≡ clear) {w w₁ w₂ : List ℕ} (code : Laid w w₁ (code_only m)) (edges : Added w₁ w₂ (edges_of m) (unresolved_of m) (calls_of m)) where
+module _ (m : Image) (accepted : Accepted m) (p : Parts m) (result : result_check m ≡ clear) {w w₁ w₂ : Lent} (code : Laid w w₁ (code_only m)) (edges : Added w₁ w₂ (edges_of m) (unresolved_of m) (calls_of m)) where
   abbrev with_edges : Graph
   with_edges =
       record { entry = 0; table = table_of m; blocks = blocks_of m; edges = edges_of m; regions = []; handlers = []; unresolved = unresolved_of m; calls = calls_of m }
 
-  edges_held : held_in w₂ ≡ held with_edges
+  edges_held : held_of w₂ ≡ held with_edges
   edges_held =
       edges.stored.holds
       ∙ ap (λ (h : Held). adding h (edges_of m) (unresolved_of m) (calls_of m)) code.holds
       ∙ adding-held (code_only m) (edges_of m) (unresolved_of m) (calls_of m) (omega (arith, edges_few m result)) (omega (arith, unresolved_few m (passed m accepted p).sourced)) (omega (arith, calls_few m accepted.instructions_most))
 
-  pub ready : Whole w₂ × ((held_in w₂).graph.regions ≡ []) × ((held_in w₂).graph.handlers ≡ [])
+  pub ready : Whole w₂ × ((held_of w₂).graph.regions ≡ []) × ((held_of w₂).graph.handlers ≡ [])
   unfolding held
   ready = rw edges_held (refl, refl, refl)
 
-  pub graph_laid : {w₃ w₄ : List ℕ} {b : ℕ} → Stored w₂ w₃ (held (with_handlers (with_regions (held_in w₂).graph (regions_of m)) (handlers_of m))) → b ≡ entry_of m → Stored w₃ w₄ (entered (held_in w₃) b) → Laid w w₄ (graph_from m)
+  pub graph_laid : {w₃ w₄ : Lent} {b : ℕ} → Stored w₂ w₃ (held (with_handlers (with_regions (held_of w₂).graph (regions_of m)) (handlers_of m))) → b ≡ entry_of m → Stored w₃ w₄ (entered (held_of w₃) b) → Laid w w₄ (graph_from m)
   unfolding graph_from held
   graph_laid {w₃} {w₄} {b} a is c =
-      let full : Held = held (with_handlers (with_regions (held_in w₂).graph (regions_of m)) (handlers_of m)) in
-      let held₄ : held_in w₄ ≡ held (graph_from m) = c.holds ∙ ap (λ (h : Held). entered h b) a.holds ∙ ap (λ (h : Held). entered (held (with_handlers (with_regions h.graph (regions_of m)) (handlers_of m))) b) edges_held ∙ ap (λ (k : ℕ). entered (held (with_handlers (with_regions with_edges (regions_of m)) (handlers_of m))) k) is in
+      let full : Held = held (with_handlers (with_regions (held_of w₂).graph (regions_of m)) (handlers_of m)) in
+      let held₄ : held_of w₄ ≡ held (graph_from m) = c.holds ∙ ap (λ (h : Held). entered h b) a.holds ∙ ap (λ (h : Held). entered (held (with_handlers (with_regions h.graph (regions_of m)) (handlers_of m))) b) edges_held ∙ ap (λ (k : ℕ). entered (held (with_handlers (with_regions with_edges (regions_of m)) (handlers_of m))) k) is in
       let all : Stored w₁ w₄ _ = stored_then edges.stored (stored_then a c) in
-      record { holds = held₄; kept = λ k u. all.kept k u ∙ code.kept k (all.uses k u) }
+      record { holds = held₄; kept = untouched_then code.kept all.grows all.kept }

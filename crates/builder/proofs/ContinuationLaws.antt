@@ -13,12 +13,9 @@ use borrow.Author.Tests.{eqb-true, eq-eqb, ne_eqb}
 use lib.Dec.{eqb}
 use lib.ListN.{length, get_or}
 use Rattle.image.specs.Refusal.{refusal, Check, clear, ◌then◌, unless}
-use Rattle.image.specs.Record.{instruction_from}
-use Rattle.image.specs.Image.{Image, image_in}
+use Rattle.image.specs.Image.{Image}
 use Rattle.image.specs.declared.record.Instruction.{Instruction}
-use Rattle.image.specs.declared.section.Layout.{Layout}
 use Rattle.image.proofs.Checks.{unless_clear}
-use Rattle.image.proofs.Tables.{length-records}
 use Rattle.graph.specs.Fold.{checks}
 use Rattle.graph.specs.Table.{is_start}
 use Rattle.graph.specs.Flow.{Flow, slots, slots_of, falls_through, is_call, flow_under}
@@ -38,10 +35,8 @@ pub not_continued : (m : Image) → (m.header.mode ≡ 2 → ⊥) → (n : ℕ) 
 unfolding continuation_check given_mode
 not_continued m mode n = checks_clear (continuation_check m) n (λ p hp. rw (ne_eqb m.header.mode 2 mode))
 
-pub ends_is : (s : List ℕ) (y : Layout) (marks : List Bool) → Leading (image_in s y) marks → (p : ℕ) → p < size (image_in s y)
-    → (eqb (p + 1) y.code.instructions.count || get_or marks (p + 1) false) ≡ is_terminator (image_in s y) p
-ends_is s y marks leading p here =
-    rw (length-records instruction_from s y.code.instructions) at (terminator_is (image_in s y) p marks leading here)
+pub ends_told : (m : Image) (marks : List Bool) → Leading m marks → (p : ℕ) → p < size m → {n : ℕ} → n ≡ size m → {b : Bool} → b ≡ (eqb (p + 1) n || get_or marks (p + 1) false) → is_terminator m p ≡ b
+ends_told m marks leading p here sized is = sym (is ∙ ap (λ (n : ℕ). eqb (p + 1) n || get_or marks (p + 1) false) sized ∙ terminator_is m p marks leading here)
 
 no_switch : (calls flow : ℕ) → (eqb flow Flow.next || is_call flow) ≡ true → flow_under calls flow ≡ Flow.switch → ⊥
 unfolding flow_under is_call

@@ -10,7 +10,7 @@
 --     normal_next                            one position more
 --     other_modes_within                     outside of mode 0 there are never too many
 --     count-within, count_beyond             the check of 19, by how many there are of both kinds
---     Bounds, bounds                         the bounds of mode 0, by the counts of the sections
+--     Bounds, bounds                         the bounds of mode 0
 -- Assumes nothing.
 use mathlib.Core.Bool.{Bool, true, false, cond, ◌||◌}
 use mathlib.Core.Path.{◌≡◌, refl, sym, ap, ◌∙◌}
@@ -26,12 +26,10 @@ use lib.Dec.{eqb, leb}
 use lib.ListN.{length, get_or, set, length-append}
 use lib.Seq.{get_or-set_same, get_or-set_other}
 use Rattle.image.specs.Refusal.{Refusal, clear, refused, unless}
-use Rattle.image.specs.Image.{Image, image_in}
+use Rattle.image.specs.Image.{Image}
 use Rattle.image.specs.Deal.{total}
 use Rattle.image.specs.Accepted.{Accepted}
-use Rattle.image.specs.Record.{instruction_from, case_from, handler_from}
-use Rattle.image.specs.declared.section.Layout.{Layout}
-use Rattle.image.proofs.Tables.{length-records}
+use Rattle.image.specs.Record.{case_from}
 use Rattle.image.specs.declared.record.Case.{Case}
 use Rattle.image.specs.declared.record.Handler.{Handler}
 use Rattle.image.specs.declared.record.Instruction.{Instruction}
@@ -264,31 +262,27 @@ module _ (m : Image) where
         let x = h.accepted in
         count-within (rw (other_modes m mode) (omega (arith, normal_most m h, x.instructions_most, x.cases_most, x.edges_most)))
 
--- the bounds as the code has them, by the counts of the sections
-pub record Bounds (y : Layout) (n e : ℕ) : Type 0 where
-  pub instructions : y.code.instructions.count ≤ 512
-  pub cases : y.code.cases.count ≤ 512
-  pub handlers : y.code.handlers.count ≤ 32
-  pub pairs : y.code.handlers.count * y.code.instructions.count ≤ 16384
-  pub normal : n ≤ 2 * y.code.instructions.count + y.code.cases.count
-  pub exceptional : e ≤ y.code.handlers.count * y.code.instructions.count
+-- the bounds as the code has them, of n instructions, c cases and h handlers, with a normal edges and b exceptional ones
+pub record Bounds (n c h a b : ℕ) : Type 0 where
+  pub instructions : n ≤ 512
+  pub cases : c ≤ 512
+  pub handlers : h ≤ 32
+  pub pairs : h * n ≤ 16384
+  pub normal : a ≤ 2 * n + c
+  pub exceptional : b ≤ h * n
 
-pub bounds : (l : List ℕ) (y : Layout) → Sourced (image_in l y) → y.header.mode ≡ 0 → Bounds y (length (normal_edges (image_in l y))) (length (exception_edges (image_in l y)))
-bounds l y h mode =
-    let m = image_in l y in
-    let x = h.accepted in
-    let instructions-are = length-records instruction_from l y.code.instructions in
-    let cases-are = length-records case_from l y.code.cases in
-    let handlers-are = length-records handler_from l y.code.handlers in
-    let few : y.code.handlers.count ≤ 32 = rw handlers-are at x.handlers_most in
-    record {
-      instructions = rw instructions-are at x.instructions_most;
-      cases = rw cases-are at x.cases_most;
-      handlers = few;
-      pairs = omega (arith, mul-le-mul_right y.code.instructions.count few, instructions-are, x.instructions_most);
-      normal = omega (arith, normal_most m h, (none-given m x mode).0, instructions-are, cases-are);
-      exceptional = rw (handlers-are, instructions-are) at (exceptions_most m mode);
-    }
+pub bounds : (m : Image) → Sourced m → m.header.mode ≡ 0 → {n c h : ℕ} → n ≡ size m → c ≡ length m.cases → h ≡ length m.handlers → Bounds n c h (length (normal_edges m)) (length (exception_edges m))
+bounds m s mode n-is c-is h-is =
+    let x = s.accepted in
+    rw (n-is, c-is, h-is)
+    (record {
+      instructions = x.instructions_most;
+      cases = x.cases_most;
+      handlers = x.handlers_most;
+      pairs = omega (arith, mul-le-mul_right (size m) x.handlers_most, x.instructions_most);
+      normal = omega (arith, normal_most m s, (none-given m x mode).0);
+      exceptional = exceptions_most m mode;
+    })
 
 pub resolved_told : (m : Image) (x : Transfer) (r : Option ℕ) → Resolves m x r → bool_byte (is_some r) ≡ word (resolved m x)
 resolved_told m x (Some k) found = rw found.0

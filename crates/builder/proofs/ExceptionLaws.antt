@@ -13,6 +13,7 @@ use Prim.Native.Nat.{ℕ, ◌+◌, ◌-◌, ◌<◌, ◌≤◌}
 use native.Mathlib.Omega.{arith}
 use borrow.Author.Tests.{eq-eqb, ne_eqb}
 use lib.ListN.{length, get_or}
+use Rattle.graph.specs.declared.store.Graph.{Graph as Lent}
 use Rattle.image.specs.Refusal.{clear}
 use Rattle.image.specs.Image.{Image}
 use Rattle.image.specs.declared.record.Instruction.{Instruction}
@@ -62,7 +63,7 @@ module _ (m : Image) where
   unfolding exception_edges
   other_modes e = rw (ne_eqb m.header.mode 0 e)
 
-  pub other_modes_add : (l : List ℕ) → (m.header.mode ≡ 0 → ⊥) → Added l l (exception_edges m) [] []
+  pub other_modes_add : (l : Lent) → (m.header.mode ≡ 0 → ⊥) → Added l l (exception_edges m) [] []
   other_modes_add l e = rw (other_modes e) (added_none l)
 
   pub handlers_edges : m.header.mode ≡ 0
@@ -70,7 +71,7 @@ module _ (m : Image) where
   unfolding exception_edges
   handlers_edges e = rw (eq-eqb m.header.mode 0 e)
 
-pub edges_from : {l k n : List ℕ} (f : ℕ → List Edge) (first p : ℕ) → first ≤ p
+pub edges_from : {l k n : Lent} (f : ℕ → List Edge) (first p : ℕ) → first ≤ p
     → Added l k (flat (λ i. f (first + i)) (p - first)) [] [] → Added k n (f p) [] [] → Added l n (flat (λ i. f (first + i)) (p + 1 - first)) [] []
 edges_from f first p h a b =
     let more : p + 1 - first ≡ p - first + 1 = omega arith in

@@ -15,11 +15,12 @@ use native.Mathlib.Decide.{ℕ_discrete}
 use native.Mathlib.Omega.{arith}
 use lib.ListN.{length, get_or, set, take}
 use lib.Seq.{take-suc, get_or-set_same, get_or-set_other}
+use Rattle.graph.specs.declared.store.Graph.{Graph as Lent}
 use Rattle.image.specs.Record.{instruction_from}
 use Rattle.image.specs.Image.{Image}
 use Rattle.image.specs.declared.record.Instruction.{Instruction}
 use Rattle.graph.specs.declared.record.TableEntry.{TableEntry}
-use Rattle.graph.specs.Words.{held_in}
+use Rattle.graph.specs.Lent.{held_of}
 use Rattle.graph.specs.Stored.{with_block, Stored}
 use Rattle.graph.specs.Adding.{with_blocks}
 use Rattle.graph.specs.Table.{entry_at}
@@ -49,10 +50,10 @@ module _ (m : Image) where
     unfolding first_of
     next_first e h = rw (sym (leads_next m p h) ∙ e)
 
-    pub block_on : (l : List ℕ) → is_terminator m p ≡ false → Stored l l (with_blocks (held_in l) (block_end m p))
+    pub block_on : (l : Lent) → is_terminator m p ≡ false → Stored l l (with_blocks (held_of l) (block_end m p))
     block_on l e = rw e (blocks_none l)
 
-    pub block_ends : {l l' : List ℕ} (first : ℕ) → is_terminator m p ≡ true → first ≡ first_of m p → Stored l l' (with_block (held_in l) (record { first = first; count = p + 1 - first })) → Stored l l' (with_blocks (held_in l) (block_end m p))
+    pub block_ends : {l l' : Lent} (first : ℕ) → is_terminator m p ≡ true → first ≡ first_of m p → Stored l l' (with_block (held_of l) (record { first = first; count = p + 1 - first })) → Stored l l' (with_blocks (held_of l) (block_end m p))
     block_ends {l} {l'} first e here stored = rw (e, ← here, ← add-one p) (block_one _ stored)
 
   number_next : (p : ℕ) → 1 ≤ p → block_of m p ≡ cond (is_leader m p) (block_of m (p - 1) + 1) (block_of m (p - 1))

@@ -27,12 +27,10 @@ use borrow.Author.Tests.{eq-eqb, ne_eqb, lt-ltb, le-ltb, le-leb, lt-leb}
 use lib.Dec.{eqb, ltb, leb}
 use lib.ListN.{length, get_or, set, replicate, get_or-replicate}
 use lib.Seq.{get_or-set_same, get_or-set_other}
-use Rattle.image.specs.Record.{instruction_from, handler_from, route_from}
-use Rattle.image.specs.Image.{Image, image_in, routes_in}
+use Rattle.image.specs.Record.{route_from}
+use Rattle.image.specs.Image.{Image}
 use Rattle.image.specs.Refusal.{clear}
-use Rattle.image.specs.declared.section.Layout.{Layout}
 use Rattle.image.specs.Deal.{UnwindRoute}
-use Rattle.image.proofs.Tables.{length-records}
 use Rattle.image.proofs.Checks.{then_left}
 use Rattle.graph.specs.Fold.{some}
 use Rattle.graph.specs.Table.{range_check}
@@ -124,11 +122,8 @@ some_own f (suc n) p h =
     none f zero p h = refl
     none f (suc n) p h = rw (ne_eqb p n (λ e. omega arith), and-false (f n), or-false (some (λ q. f q && eqb p q) n)) (none f n p (omega arith))
 
-pub few : (l : List ℕ) (y : Layout) → Passed (image_in l y) → y.code.instructions.count ≤ 512
-few l y passed = rw (length-records instruction_from l y.code.instructions) at passed.sourced.accepted.instructions_most
-
-pub inside : (l : List ℕ) (y : Layout) (p : ℕ) → p < y.code.instructions.count → p < size (image_in l y)
-inside l y p h = rw (length-records instruction_from l y.code.instructions) h
+pub few : (m : Image) → Passed m → size m ≤ 512
+few m passed = passed.sourced.accepted.instructions_most
 
 module _ (m : Image) (passed : Passed m) where
   pub handler_range : (h : ℕ) → h < length m.handlers → range_check (table_of m) (handler_at m h).start (handler_at m h).end ≡ clear
@@ -157,19 +152,19 @@ eqb_comm a b = elim (ℕ_discrete a b) [ yes e ↦ rw (eq-eqb a b e, eq-eqb b a 
 pub mark_lead : {n : ℕ} {l r : List Bool} (m : Image) (a : ℕ) → Marked n (start_mark (table_of m) a) l r → Marked n (λ p. eqb a (address_at m p)) l r
 mark_lead m a marked = mark_as _ (λ p h. eqb_comm (address_at m p) a) (mark_start m a marked)
 
-pub any_routes : (l : List ℕ) (y : Layout) → length (routes (image_in l y)) ≡ y.routes.routes.count
+pub any_routes : (m : Image) → length (routes m) ≡ length m.routes.routes
 unfolding routes
-any_routes l y = length-routes (routes_in l y.routes) ∙ length-records route_from l y.routes.routes
+any_routes m = length-routes m.routes
 
 -- without handlers, and without routes
-module _ {n : ℕ} {t : List Bool} (l : List ℕ) (y : Layout) where
-  pub no_handlers : y.code.handlers.count ≡ 0 → Marked n (handler_mark (image_in l y)) t t
+module _ {n : ℕ} {t : List Bool} (m : Image) where
+  pub no_handlers : length m.handlers ≡ 0 → Marked n (handler_mark m) t t
   unfolding handler_mark some
-  no_handlers e = mark_none (handler_mark (image_in l y)) (λ p h. rw (length-records handler_from l y.code.handlers, e))
+  no_handlers e = mark_none (handler_mark m) (λ p h. rw e)
 
-  pub no_routes : y.routes.routes.count ≡ 0 → Marked n (route_mark (image_in l y)) t t
+  pub no_routes : length m.routes.routes ≡ 0 → Marked n (route_mark m) t t
   unfolding route_mark some
-  no_routes e = mark_none (route_mark (image_in l y)) (λ p h. rw (any_routes l y, e))
+  no_routes e = mark_none (route_mark m) (λ p h. rw (any_routes m, e))
 
 -- one collector after the other
 pub leads : {n : ℕ} {t b r : List Bool} (m : Image) → Marked n (λ p. entry_mark m p || instruction_mark m p) t b → Marked n (λ p. handler_mark m p || route_mark m p) b r → Marked n (is_leader m) t r
@@ -187,7 +182,5 @@ leads m code ranges =
     in_order false false false false false h r = sym (or-false (h || r))
 
 -- from no mark on
-pub leading : {r : List Bool} (l : List ℕ) (y : Layout) → Passed (image_in l y) → Marked y.code.instructions.count (is_leader (image_in l y)) (replicate 512 false) r → Leading (image_in l y) r
-leading l y passed marked p h =
-    let within = rw (length-records instruction_from l y.code.instructions) at h in
-    rw (get_or-replicate 512 p false false (omega (arith, within, few l y passed))) at (marked.at p within)
+pub leading : {r : List Bool} (m : Image) → Passed m → Marked (size m) (is_leader m) (replicate 512 false) r → Leading m r
+leading m passed marked p h = rw (get_or-replicate 512 p false false (omega (arith, h, few m passed))) at (marked.at p h)

@@ -7,12 +7,13 @@ use mathlib.Core.Bool.{true}
 use mathlib.Core.List.{List}
 use Prim.Native.Nat.{ℕ}
 use native.Mathlib.Omega.{arith}
+use Rattle.graph.specs.declared.store.Graph.{Graph as Lent}
 use Rattle.image.specs.Refusal.{Check, clear}
 use Rattle.image.specs.Image.{Image}
 use Rattle.image.specs.Read.{Reading, read, refusing, read_image}
 use Rattle.image.proofs.Accepted.{accepted}
 use Rattle.graph.specs.Graph.{Graph, held}
-use Rattle.graph.specs.Words.{held_in}
+use Rattle.graph.specs.Lent.{held_of}
 use Rattle.graph.specs.Build.{build_check, graph_from, Outcome, built, refused, outcome, build_of, build_read, build_from}
 use Rattle.graph.specs.WellFormed.{well_formed}
 use Rattle.graph.proofs.BuiltChecks.{parts, input_clear}
@@ -49,6 +50,6 @@ build_passes l g e = of_reading (read_image l) refl e
     of_reading (read m) is e = of_check m is (build_check m) refl e
     of_reading (refusing r) is e = absurd (let z : ◌≡◌ {A = ℕ} 0 1 = ap which e in omega arith)
 
-pub graphed : {A : Type 0} (l w w' : List ℕ) (r : Result A AddressBuildError) → build_answer w' r ≡ build_from l → BuildLeaves w w' r → Graphed w' r
-graphed l w w' (Ok _) e laid = ap well_formed laid.holds ∙ build_passes l (held_in w').graph e
+pub graphed : {A : Type 0} (l : List ℕ) (w w' : Lent) (r : Result A AddressBuildError) → build_answer w' r ≡ build_from l → BuildLeaves w w' r → Graphed w' r
+graphed l w w' (Ok _) e laid = ap well_formed laid.holds ∙ build_passes l (held_of w').graph e
 graphed l w w' (Err x) e kept = tt

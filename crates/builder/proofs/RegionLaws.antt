@@ -21,6 +21,7 @@ use native.Mathlib.Omega.{arith}
 use lib.Dec.{leb}
 use lib.ListN.{length, get_or, drop, replicate, drop_of_length-le}
 use lib.Seq.{drop-cons}
+use Rattle.graph.specs.declared.store.Graph.{Graph as Lent}
 use Rattle.image.specs.Refusal.{clear, refusal, unless}
 use Rattle.image.specs.Image.{Image, table}
 use Rattle.image.specs.declared.record.Handler.{Handler}
@@ -34,13 +35,13 @@ use Rattle.graph.specs.Leaders.{handler_at}
 use Rattle.graph.specs.Build.{handler_check}
 use Rattle.graph.specs.BlockSet.{including}
 use Rattle.graph.specs.Graph.{Graph, Held, held}
-use Rattle.graph.specs.Words.{held_in}
+use Rattle.graph.specs.Lent.{held_of}
 use Rattle.graph.specs.Stored.{with_region, with_handler, Stored}
 use Rattle.graph.specs.declared.record.Region.{Region}
 use Rattle.graph.specs.declared.record.HandlerRecord.{HandlerRecord}
 use Rattle.graph.specs.Regions.{same_range, contains, span, place, is_draft, drafts_below, drafts, draft, smaller, parent_below, set_below, regions_of, region_in, handlers_of}
 use Rattle.graph.proofs.FoldLaws.{length-table}
-use Rattle.graph.proofs.StoredLaws.{stored_then, region-more, handler-more}
+use Rattle.graph.proofs.StoredLaws.{grows_none, untouched_none, stored_then, region-more, handler-more}
 use Rattle.graph.proofs.TableLaws.{length-entries}
 use Rattle.builder.specs.Emit.{Numbered}
 use Rattle.builder.specs.Ranges.{Ranges}
@@ -139,25 +140,25 @@ module _ (m : Image) where
     pub range_passes : (a : Handler) → a ≡ handler_at m h → range_check (table_of m) a.start a.end ≡ clear
     range_passes a is = rw is range_clear
 
-module _ (l : List ℕ) (whole : Whole l) where
-  pub regions_none : (held_in l).graph.regions ≡ [] → Stored l l (held (with_regions (held_in l).graph []))
-  regions_none none = record { holds = whole ∙ ap (λ (rs : List Region). held (with_regions (held_in l).graph rs)) none; uses = λ k u. u; kept = λ k u. refl }
+module _ (l : Lent) (whole : Whole l) where
+  pub regions_none : (held_of l).graph.regions ≡ [] → Stored l l (held (with_regions (held_of l).graph []))
+  regions_none none = record { holds = whole ∙ ap (λ (rs : List Region). held (with_regions (held_of l).graph rs)) none; grows = grows_none l.counts; kept = untouched_none l }
 
-  pub handlers_none : (held_in l).graph.handlers ≡ [] → Stored l l (held (with_handlers (held_in l).graph []))
-  handlers_none none = record { holds = whole ∙ ap (λ (hs : List HandlerRecord). held (with_handlers (held_in l).graph hs)) none; uses = λ k u. u; kept = λ k u. refl }
+  pub handlers_none : (held_of l).graph.handlers ≡ [] → Stored l l (held (with_handlers (held_of l).graph []))
+  handlers_none none = record { holds = whole ∙ ap (λ (hs : List HandlerRecord). held (with_handlers (held_of l).graph hs)) none; grows = grows_none l.counts; kept = untouched_none l }
 
-module _ {l k : List ℕ} (rs : List Region) (stored : Stored l k (held (with_regions (held_in l).graph rs))) where
-  graph_is : (held_in k).graph ≡ with_regions (held_in l).graph rs
+module _ {l k : Lent} (rs : List Region) (stored : Stored l k (held (with_regions (held_of l).graph rs))) where
+  graph_is : (held_of k).graph ≡ with_regions (held_of l).graph rs
   unfolding held
   graph_is = ap (λ (h : Held). h.graph) stored.holds
 
   pub regions_whole : Whole k
   regions_whole = stored.holds ∙ ap held (sym graph_is)
 
-  pub regions_keep : (held_in l).graph.handlers ≡ [] → (held_in k).graph.handlers ≡ []
+  pub regions_keep : (held_of l).graph.handlers ≡ [] → (held_of k).graph.handlers ≡ []
   regions_keep none = ap (λ (x : Graph). x.handlers) graph_is ∙ none
 
-  pub both : {n : List ℕ} (hs : List HandlerRecord) → Stored k n (held (with_handlers (held_in k).graph hs)) → Stored l n (held (with_handlers (with_regions (held_in l).graph rs) hs))
+  pub both : {n : Lent} (hs : List HandlerRecord) → Stored k n (held (with_handlers (held_of k).graph hs)) → Stored l n (held (with_handlers (with_regions (held_of l).graph rs) hs))
   both hs then = rw graph_is at (stored_then stored then)
 
 no_regions : (m : Image) → length m.handlers ≡ 0 → regions_of m ≡ []
@@ -168,7 +169,7 @@ no_handlers : (m : Image) → length m.handlers ≡ 0 → handlers_of m ≡ []
 unfolding handlers_of table
 no_handlers m none = rw none
 
-pub none_stored : (m : Image) (l : List ℕ) → length m.handlers ≡ 0 → Whole l → (held_in l).graph.regions ≡ [] → (held_in l).graph.handlers ≡ [] → Stored l l (held (with_handlers (with_regions (held_in l).graph (regions_of m)) (handlers_of m)))
+pub none_stored : (m : Image) (l : Lent) → length m.handlers ≡ 0 → Whole l → (held_of l).graph.regions ≡ [] → (held_of l).graph.handlers ≡ [] → Stored l l (held (with_handlers (with_regions (held_of l).graph (regions_of m)) (handlers_of m)))
 none_stored m l none whole no-region no-handler =
     rw (no_regions m none, no_handlers m none) (both [] (regions_none l whole no-region) [] (handlers_none l whole no-handler))
 

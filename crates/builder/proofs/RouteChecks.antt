@@ -29,10 +29,7 @@ use mathlib.Core.List.{[]}
 use Prim.Native.Nat.{◌≤◌}
 use native.Mathlib.Omega.{arith}
 use lib.ListN.{get_or}
-use Rattle.image.specs.Record.{path_from, step_from}
-use Rattle.image.specs.Image.{routes_in}
-use Rattle.image.specs.declared.section.RouteLayout.{RouteLayout}
-use Rattle.image.proofs.Tables.{length-records}
+use Rattle.image.specs.Record.{path_from}
 use Rattle.graph.proofs.RouteLaws.{steps_in_law, steps_next}
 
 -- 14 of one step, and of a path's end
@@ -83,13 +80,12 @@ module _ (m : RouteImage) (ok : AcceptedRoutes m) where
       each_append _ (funclets (path_in m p)) (handler_of (path_in m p).end)
       ∙ rw (end_of_law m ok p h, each_flat, steps_of m ok p h) (ap (λ (c : Check). c then end_check t (path m p)) (checks-same _ _ (path m p).steps (λ j hj. ap (λ (x : UnwindStep). check_each (named_check t) (funclet_of x)) (step_of_law m ok p h j hj))))
 
-module _ (s : List ℕ) (y : RouteLayout) (ok : AcceptedRoutes (routes_in s y)) (p : ℕ) (among : p < length (routes_in s y).paths)
-    (step : ℕ) (here : step ≡ steps_before (routes_in s y) p) (x : Path) (is : x ≡ get_or (routes_in s y).paths p (path_from [] 0)) where
-  pub path_steps : step + x.steps ≤ y.steps.count
-  path_steps = omega (arith, steps_in_law (routes_in s y) ok p among, here, ap (λ (x : Path). x.steps) is, length-records step_from s y.steps)
+module _ (m : RouteImage) (ok : AcceptedRoutes m) (p : ℕ) (among : p < length m.paths) (step : ℕ) (here : step ≡ steps_before m p) (x : Path) (is : x ≡ get_or m.paths p (path_from [] 0)) where
+  pub path_steps : step + x.steps ≤ length m.steps
+  path_steps = omega (arith, steps_in_law m ok p among, here, ap (λ (x : Path). x.steps) is)
 
   pub path_few : step + x.steps ≤ 512
-  path_few = omega (arith, path_steps, length-records step_from s y.steps, ok.steps_most)
+  path_few = omega (arith, path_steps, ok.steps_most)
 
-  pub path_behind : step + x.steps ≡ steps_before (routes_in s y) (p + 1)
-  path_behind = omega (arith, steps_next (routes_in s y) p, here, ap (λ (x : Path). x.steps) is)
+  pub path_behind : step + x.steps ≡ steps_before m (p + 1)
+  path_behind = omega (arith, steps_next m p, here, ap (λ (x : Path). x.steps) is)

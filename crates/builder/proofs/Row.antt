@@ -10,11 +10,9 @@ use lib.ListN.{length, take}
 use lib.Seq.{take_all}
 use Rattle.image.specs.Refusal.{Check, Refusal, clear, refused}
 use Rattle.image.proofs.Checks.{checks_stop, checks-more}
-use Rattle.image.proofs.Tables.{length-records}
 use Rattle.graph.specs.declared.record.TableEntry.{TableEntry}
 use Rattle.graph.specs.Fold.{checks}
 use Rattle.graph.specs.Table.{code_end_of}
-use Rattle.graph.proofs.RangeLaws.{code_end_more}
 
 module _ (f : ℕ → Check) where
   pub row_none : checks f 0 ≡ clear
@@ -33,6 +31,4 @@ module _ (f : ℕ → Check) where
 pub row_end : (t : List TableEntry) (k : ℕ) → k ≡ length t → code_end_of (take k t) ≡ code_end_of t
 row_end t k all = ap code_end_of (take_all k t (omega (arith, all)))
 
-pub ruleset ends = (row_end, code_end_more)
-
-pub ruleset rows = (row_none, row_more, row_stops, row_ends, length-records)
+pub ruleset rows = (row_none, row_more, row_stops, row_ends)

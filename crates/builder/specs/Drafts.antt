@@ -5,7 +5,8 @@ use Rattle.image.specs.Image.{Image}
 use Rattle.graph.specs.declared.record.Region.{Region}
 use Rattle.graph.specs.declared.record.HandlerRecord.{HandlerRecord}
 use Rattle.graph.specs.Graph.{Graph, held}
-use Rattle.graph.specs.Words.{held_in}
+use Rattle.graph.specs.Lent.{held_of}
+use Rattle.graph.specs.declared.store.Graph.{Graph as Lent}
 use Rattle.graph.specs.Fold.{checks}
 use Rattle.graph.specs.Transfer.{table_of}
 use Rattle.graph.specs.Leaders.{handler_at}
@@ -39,9 +40,9 @@ pub record Handled (m : Image) (blocks : List ℕ) : Type 0 where
   pub passed : checks (handler_check m) (length m.handlers) ≡ clear
   pub numbered : Numbered m blocks
 
--- words that hold a graph of which nothing is cut
-abbrev pub Whole : List ℕ → Type 0
-Whole l = held_in l ≡ held (held_in l).graph
+-- a lent graph that holds one of which nothing is cut
+abbrev pub Whole : Lent → Type 0
+Whole g = held_of g ≡ held (held_of g).graph
 
 -- a graph with these regions, or these handlers, for its own
 abbrev pub with_regions : Graph → List Region → Graph

@@ -4,6 +4,7 @@ pub mod Cursor
 pub mod Drafts
 pub mod Emit
 pub mod Ranges
+pub mod Code
 pub mod Marks
 pub mod EdgeCount
 pub mod Answers

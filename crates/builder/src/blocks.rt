@@ -1,32 +1,29 @@
 // The table and its blocks, the runs between leaders: stored in order, and numbered by position. `populate_blocks`.
-ghost use Rattle.std.specs.Prelude.{cond, not, ◌≡◌, ℕ, suc, ◌+◌, ◌≤◌, ◌<◌, length, get_or};
+ghost use Rattle.std.specs.Prelude.{◌≡◌, ℕ, suc, ◌+◌, ◌≤◌, ◌<◌, length, get_or};
 ghost use Rattle.image.specs.Image.{Image};
-ghost use Rattle.image.specs.There.{Holds};
-ghost use Rattle.graph.specs.Words.{held_in};
+ghost use Rattle.graph.specs.Lent.{held_of};
 ghost use Rattle.graph.specs.Stored.{Stored};
 ghost use Rattle.graph.specs.Adding.{with_table, with_blocks};
-ghost use Rattle.graph.specs.Transfer.{table_entry, size};
-ghost use Rattle.graph.specs.Blocks.{is_terminator, first_of, block_of, block_end, blocks_of};
-ghost use Rattle.graph.specs.Lookup.{entries_in};
+ghost use Rattle.graph.specs.Transfer.{table_entry, size, table_of};
+ghost use Rattle.graph.specs.Blocks.{first_of, block_of, block_end, blocks_of};
+ghost use Rattle.builder.specs.Code.{image_of};
 ghost use Rattle.builder.specs.Marks.{Leading};
 
+use crate::code::Code;
 use crate::edges::is_terminator;
 use graph::record::{Block, TableEntry};
-use graph::store::Words;
+use graph::store::Graph;
 use graph::store::blocks::add_block;
 use graph::store::table::add_entry;
-use image::access::instruction_in;
 use image::record::Instruction;
-use image::section::Section;
 
 // The instruction table, as the graph keeps it.
-pub fn store_table(g: &mut Words, s: &[u8], y: Section)
-    requires { Holds s.now y 31 }
-    ensures { Stored g.old g.new (with_table (held_in g.old) (entries_in s.now y)) }
+pub fn store_table(g: &mut Graph, code: &Code<'_>)
+    ensures { Stored g.old g.new (with_table (held_of g.old) (table_of (image_of code.now))) }
 {
-    let n = y.count as usize;
+    let n = code.size();
     for p in 0..n {
-        add_entry(g, table_entry(instruction_in(s, y, p)));
+        add_entry(g, table_entry(code.instruction(p)));
     }
 }
 
@@ -44,9 +41,9 @@ fn table_entry(i: Instruction) -> TableEntry
 }
 
 // The blocks of a table of n instructions whose leaders are marked; without an instruction, an empty one.
-pub fn store_blocks(g: &mut Words, marks: &[bool; 512], n: usize)
+pub fn store_blocks(g: &mut Graph, marks: &[bool; 512], n: usize)
     requires { n ≤ 512 }
-    ensures { (m : Image) → size m ≡ n → Leading m marks.now → Stored g.old g.new (with_blocks (held_in g.old) (blocks_of m)) }
+    ensures { (m : Image) → size m ≡ n → Leading m marks.now → Stored g.old g.new (with_blocks (held_of g.old) (blocks_of m)) }
 {
     if n == 0 {
         add_block(g, Block { first: 0, count: 0 });
@@ -59,12 +56,12 @@ pub fn store_blocks(g: &mut Words, marks: &[bool; 512], n: usize)
 }
 
 // The block that ends at p, if one does, and where the next instruction's block begins.
-fn store_block(g: &mut Words, marks: &[bool; 512], n: usize, first: usize, p: usize) -> usize
+fn store_block(g: &mut Graph, marks: &[bool; 512], n: usize, first: usize, p: usize) -> usize
     requires n_most { n ≤ 512 }
     requires p_in { p < n }
     requires first { first ≤ p }
     ensures within { result ≤ p + 1 }
-    ensures stored { (m : Image) → size m ≡ n → Leading m marks.now → first ≡ first_of m p → Stored g.old g.new (with_blocks (held_in g.old) (block_end m p)) }
+    ensures stored { (m : Image) → size m ≡ n → Leading m marks.now → first ≡ first_of m p → Stored g.old g.new (with_blocks (held_of g.old) (block_end m p)) }
     ensures first { (m : Image) → size m ≡ n → Leading m marks.now → first ≡ first_of m p → suc p < n → result ≡ first_of m (suc p) }
 {
     if !is_terminator(marks, n, p) {

@@ -1,15 +1,14 @@
 // A scan of the table: each instruction with what is given for it, and where its cases and given edges stand.
 //
 // The cursor is carried along, so that no position is counted anew.
-ghost use Rattle.std.specs.Prelude.{◌≡◌, ◌+◌, ◌<◌, ◌≤◌};
-ghost use Rattle.image.specs.Image.{Image, records_in, image_in};
-ghost use Rattle.image.specs.Record.{source_from};
-ghost use Rattle.image.specs.There.{Holds, ImageThere};
+ghost use Rattle.graph.specs.Transfer.{size};
+ghost use Rattle.std.specs.Prelude.{◌≡◌, ◌<◌};
+ghost use Rattle.image.specs.Image.{Image};
+ghost use Rattle.builder.specs.Code.{image_of};
 ghost use Rattle.builder.specs.Cursor.{Sourced, cursor_at, given_here, visit_at, after, Steps};
 
-use image::access::{instruction_in, source_in};
+use crate::code::Code;
 use image::record::Instruction;
-use image::section::{Layout, Section};
 
 // Position `at` of the table. The cases of its instruction stand from `case` on. `source` is the first given source that
 // does not stand before it, and that one's edges stand from `edge` on.
@@ -43,17 +42,15 @@ pub fn cursor_start() -> Cursor
 
 // A scan that every build makes does these three steps in its own loop instead: a `Visit` that is handed over costs more than
 // what is done with it.
-pub fn visit_at(s: &[u8], y: Layout, c: Cursor) -> Visit
-    requires sourced { Sourced (image_in s.now y) }
-    requires cursor { c ≡ cursor_at (image_in s.now y) c.at }
-    requires at_in { c.at < y.code.instructions.count }
-    requires there { ImageThere s.now y }
-    ensures { result ≡ visit_at (image_in s.now y) c.at }
+pub fn visit_at(code: &Code<'_>, c: Cursor) -> Visit
+    requires sourced { Sourced (image_of code.now) }
+    requires cursor { c ≡ cursor_at (image_of code.now) c.at }
+    requires at_in { c.at < size (image_of code.now) }
+    ensures { result ≡ visit_at (image_of code.now) c.at }
 {
-    let code = y.code;
     let at = c.at;
-    let instruction = instruction_in(s, code.instructions, at);
-    let given = given_at(s, code.sources, c.source, instruction.address);
+    let instruction = code.instruction(at);
+    let given = given_at(code, c.source, instruction.address);
     let next = cursor_after(c, instruction.cases, given);
     Visit {
         instruction,
@@ -62,13 +59,12 @@ pub fn visit_at(s: &[u8], y: Layout, c: Cursor) -> Visit
     }
 }
 
-pub fn given_at(s: &[u8], sources: Section, i: usize, address: u64) -> Option<usize>
-    requires { Holds s.now sources 12 }
-    ensures { result ≡ given_here (records_in source_from s.now sources) i address }
+pub fn given_at(code: &Code<'_>, i: usize, address: u64) -> Option<usize>
+    ensures { result ≡ given_here (image_of code.now).sources i address }
 {
-    let count = sources.count as usize;
-    if i < count {
-        let source = source_in(s, sources, i);
+    let sources = code.image.sources();
+    if i < sources.len() {
+        let source = sources.get(i);
         if source.address == address {
             return Some(source.edges);
         }

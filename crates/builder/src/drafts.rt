@@ -1,26 +1,22 @@
 // Drafts of regions: one for each protected range, the wider ones first. The ranges of the handlers are lent as two arrays.
 ghost use Rattle.std.specs.Prelude.{◌≡◌, ◌+◌, ◌≤◌, ◌<◌, length, take, replicate};
-ghost use Rattle.image.specs.Image.{Image, image_in};
-ghost use Rattle.image.specs.There.{ImageThere};
-ghost use Rattle.graph.specs.Leaders.{handler_at};
+ghost use Rattle.image.specs.Image.{Image};
 ghost use Rattle.graph.specs.Regions.{same_range, is_draft, span, place, drafts_below};
+ghost use Rattle.builder.specs.Code.{image_of};
 ghost use Rattle.builder.specs.Drafts.{Extents, Counted, Drafted, put};
 
-use image::access::handler_in;
-use image::record::Handler;
-use image::section::Layout;
+use crate::code::Code;
 
 // The ranges of all handlers, into arrays of zeros.
-pub fn read_ranges(starts: &mut [u64; 32], ends: &mut [u64; 32], s: &[u8], y: Layout)
+pub fn read_ranges(starts: &mut [u64; 32], ends: &mut [u64; 32], code: &Code<'_>)
     requires no_starts { starts.old ≡ replicate 32 0 }
     requires no_ends { ends.old ≡ replicate 32 0 }
-    requires few { length (image_in s.now y).handlers ≤ 32 }
-    requires there { ImageThere s.now y }
-    ensures { Extents (image_in s.now y) starts.new ends.new }
+    requires few { length (image_of code.now).handlers ≤ 32 }
+    ensures { Extents (image_of code.now) starts.new ends.new }
 {
-    let n = y.code.handlers.count as usize;
+    let n = code.handler_count();
     for h in 0..n {
-        let own = handler(s, y, h);
+        let own = code.handler(h);
         starts[h] = own.start;
         ends[h] = own.end;
     }
@@ -130,12 +126,4 @@ pub fn span(starts: &[u64; 32], ends: &[u64; 32], h: usize) -> u64
     ensures { (m : Image) → Extents m starts.now ends.now → result ≡ span m h }
 {
     ends[h].saturating_sub(starts[h])
-}
-
-pub fn handler(s: &[u8], y: Layout, h: usize) -> Handler
-    requires there { ImageThere s.now y }
-    requires h_in { h < y.code.handlers.count }
-    ensures { result ≡ handler_at (image_in s.now y) h }
-{
-    handler_in(s, y.code.handlers, h)
 }

@@ -1,83 +1,57 @@
 // The exception edges of handlers, which mode 0 adds: from each protected instruction that keeps its own, to the handler's entry.
-ghost use Rattle.std.specs.Prelude.{cond, true, [], ◌≡◌, ◌<◌};
+ghost use Rattle.std.specs.Prelude.{cond, true, [], ◌≡◌, ◌<◌, length};
 ghost use Rattle.image.specs.Refusal.{clear};
-ghost use Rattle.image.specs.Image.{image_in};
-ghost use Rattle.image.specs.There.{ImageThere};
-ghost use Rattle.graph.specs.Table.{code_end_of};
 ghost use Rattle.graph.specs.Flow.{Role, From};
-ghost use Rattle.graph.specs.Transfer.{table_of, size, instruction_at};
+ghost use Rattle.graph.specs.Transfer.{size, instruction_at};
 ghost use Rattle.graph.specs.Blocks.{block_at};
 ghost use Rattle.graph.specs.Build.{handler_check};
 ghost use Rattle.graph.specs.Edges.{resolved, transfer_edges, exception_edges};
 ghost use Rattle.graph.specs.Adding.{Added};
+ghost use Rattle.builder.specs.Code.{image_of};
 ghost use Rattle.builder.specs.Slots.{transfer_in};
-ghost use Rattle.builder.specs.Emit.{Numbered, handler_edges};
-ghost use Rattle.builder.specs.Drafts.{Handled};
+ghost use Rattle.builder.specs.Emit.{handler_edges};
 
-use crate::drafts::handler;
+use crate::code::Numbered;
 use crate::edges::{block_of, edge_between};
 use crate::ranges::range_check;
 use crate::regions::block_at;
 use crate::roles::EdgeRole;
 use crate::transfer::{Origin, Transfer};
-use graph::store::Words;
+use graph::store::Graph;
 use graph::store::edges::add_edge;
-use image::access::instruction_in;
-use image::section::Layout;
 
 // The exception edges of all handlers; the other modes add none.
 #[tactic(auto, using(crate::proofs::ExceptionLaws::other_modes_add))]
-pub fn add_exception_edges(
-    g: &mut Words,
-    s: &[u8],
-    y: Layout,
-    hints: &[u16],
-    code_end: u64,
-    blocks: &[u16],
-)
-    requires handled { Handled (image_in s.now y) blocks.now }
-    requires code_ends { code_end ≡ code_end_of (table_of (image_in s.now y)) }
-    requires there { ImageThere s.now y }
-    ensures { Added g.old g.new (exception_edges (image_in s.now y)) [] [] }
+pub fn add_exception_edges(g: &mut Graph, numbered: &Numbered<'_>)
+    ensures { Added g.old g.new (exception_edges (image_of numbered.now.code)) [] [] }
 {
-    if y.header.mode != 0 {
+    if numbered.code.image.layout.header.mode != 0 {
         return;
     }
-    let n = y.code.handlers.count as usize;
+    let n = numbered.code.handler_count();
     for h in 0..n {
-        add_handler_edges(g, s, y, hints, code_end, blocks, h);
+        add_handler_edges(g, numbered, h);
     }
 }
 
 // The edges of what handler h protects.
-fn add_handler_edges(
-    g: &mut Words,
-    s: &[u8],
-    y: Layout,
-    hints: &[u16],
-    code_end: u64,
-    blocks: &[u16],
-    h: usize,
-)
-    requires handled { Handled (image_in s.now y) blocks.now }
-    requires code_ends { code_end ≡ code_end_of (table_of (image_in s.now y)) }
-    requires there { ImageThere s.now y }
-    requires h_in { h < y.code.handlers.count }
-    requires checked { handler_check (image_in s.now y) h ≡ clear }
-    ensures { Added g.old g.new (handler_edges (image_in s.now y) h) [] [] }
+fn add_handler_edges(g: &mut Graph, numbered: &Numbered<'_>, h: usize)
+    requires h_in { h < length (image_of numbered.now.code).handlers }
+    requires checked { handler_check (image_of numbered.now.code) h ≡ clear }
+    ensures { Added g.old g.new (handler_edges (image_of numbered.now.code) h) [] [] }
 {
-    let own = handler(s, y, h);
-    let found = range_check(s, y.code.instructions, hints, code_end, own.start, own.end);
+    let own = numbered.code.handler(h);
+    let found = range_check(&numbered.code, own.start, own.end);
     let Ok(range) = found else {
         return;
     };
     let first = range.first;
     let past = range.past;
     let entry = own.entry;
-    let to = block_at(s, y, hints, blocks, entry);
+    let to = block_at(numbered, entry);
     let x = unwind_transfer(h, entry);
     for p in first..past {
-        add_if_kept(g, s, y, blocks, p, to, x);
+        add_if_kept(g, numbered, p, to, x);
     }
 }
 
@@ -95,16 +69,17 @@ fn unwind_transfer(h: usize, entry: u64) -> Transfer
 }
 
 // The edge to block `to` of a transfer of the instruction at p, where that one keeps its exception edge.
-fn add_if_kept(g: &mut Words, s: &[u8], y: Layout, blocks: &[u16], p: usize, to: u64, x: Transfer)
-    requires numbered { Numbered (image_in s.now y) blocks.now }
-    requires p_in { p < size (image_in s.now y) }
-    requires there { ImageThere s.now y }
-    requires resolved { resolved (image_in s.now y) (transfer_in x) ≡ true }
-    requires to { to ≡ block_at (image_in s.now y) x.target }
-    ensures { Added g.old g.new (cond (instruction_at (image_in s.now y) p).keeps (transfer_edges (image_in s.now y) p (transfer_in x)) []) [] [] }
+fn add_if_kept(g: &mut Graph, numbered: &Numbered<'_>, p: usize, to: u64, x: Transfer)
+    requires p_in { p < size (image_of numbered.now.code) }
+    requires resolved { resolved (image_of numbered.now.code) (transfer_in x) ≡ true }
+    requires to { to ≡ block_at (image_of numbered.now.code) x.target }
+    ensures { Added g.old g.new (cond (instruction_at (image_of numbered.now.code) p).keeps (transfer_edges (image_of numbered.now.code) p (transfer_in x)) []) [] [] }
 {
-    let i = instruction_in(s, y.code.instructions, p);
+    let i = numbered.code.instruction(p);
     if i.keeps {
-        add_edge(g, edge_between(block_of(blocks, p), to, i.address, x));
+        add_edge(
+            g,
+            edge_between(block_of(numbered.blocks, p), to, i.address, x),
+        );
     }
 }

@@ -5,6 +5,7 @@ mod blocks;
 pub mod build;
 mod calls;
 mod checks;
+mod code;
 mod continuations;
 mod cursor;
 mod drafts;

@@ -1,11 +1,10 @@
 // Address look-up: the position of the instruction that starts at an address.
-ghost use Rattle.std.specs.Prelude.{◌≡◌, true, ◌<◌, Some};
-ghost use Rattle.image.specs.There.{Holds};
-ghost use Rattle.graph.specs.Table.{entry_at};
-ghost use Rattle.graph.specs.Lookup.{entries_in, Rising, Finds};
+ghost use Rattle.std.specs.Prelude.{◌≡◌, true, Some};
+ghost use Rattle.graph.specs.Lookup.{Finds};
+ghost use Rattle.graph.specs.Transfer.{table_of};
+ghost use Rattle.builder.specs.Code.{image_of};
 
-use image::little::octet;
-use image::section::{Section, place};
+use crate::code::Code;
 
 // A hint says where an address is likely to stand. Whatever the hints are, an answer is the same: each is tried before it is
 // believed. This one is that address a stands at position p.
@@ -24,28 +23,28 @@ fn slot_of(a: u64, slots: usize) -> usize {
 }
 
 // In a table whose addresses rise: by its hint, or else by halving.
-pub fn find(s: &[u8], y: Section, hints: &[u16], a: u64) -> Option<usize>
-    requires rising { Rising (entries_in s.now y) }
-    requires there { Holds s.now y 31 }
-    ensures { Finds (entries_in s.now y) a result }
+pub fn find(code: &Code<'_>, a: u64) -> Option<usize>
+    ensures { Finds (table_of (image_of code.now)) a result }
 {
-    match hints.get(slot_of(a, hints.len())) {
-        Some(&near) => find_near(s, y, near as usize, a),
-        None => search(s, y, a),
+    let hints = code.hints;
+    if let Some(&near) = hints.get(slot_of(a, hints.len())) {
+        let near = near as usize;
+        if stands_at(code, near, a) {
+            return Some(near);
+        }
     }
+    search(code, a)
 }
 
-// By halving.
-fn search(s: &[u8], y: Section, a: u64) -> Option<usize>
-    requires rising { Rising (entries_in s.now y) }
-    requires there { Holds s.now y 31 }
-    ensures { Finds (entries_in s.now y) a result }
+// By halving. The table is bytes, of which std's search by halving has no slice.
+fn search(code: &Code<'_>, a: u64) -> Option<usize>
+    ensures { Finds (table_of (image_of code.now)) a result }
 {
     let mut lo = 0;
-    let mut hi = y.count as usize;
+    let mut hi = code.size();
     while lo < hi {
         let mid = lo + (hi - lo) / 2;
-        let x = address_at(s, y, mid);
+        let x = code.instruction(mid).address;
         if x == a {
             return Some(mid);
         }
@@ -59,44 +58,18 @@ fn search(s: &[u8], y: Section, a: u64) -> Option<usize>
 }
 
 // Where the position is likely to be `near`.
-pub fn find_near(s: &[u8], y: Section, near: usize, a: u64) -> Option<usize>
-    requires rising { Rising (entries_in s.now y) }
-    requires there { Holds s.now y 31 }
-    ensures { Finds (entries_in s.now y) a result }
+pub fn find_near(code: &Code<'_>, near: usize, a: u64) -> Option<usize>
+    ensures { Finds (table_of (image_of code.now)) a result }
 {
-    if stands_at(s, y, near, a) {
+    if stands_at(code, near, a) {
         return Some(near);
     }
-    search(s, y, a)
+    search(code, a)
 }
 
 // Whether the instruction at position i starts at address a.
-fn stands_at(s: &[u8], y: Section, i: usize, a: u64) -> bool
-    requires rising { Rising (entries_in s.now y) }
-    requires there { Holds s.now y 31 }
-    ensures { result ≡ true → Finds (entries_in s.now y) a (Some i) }
+fn stands_at(code: &Code<'_>, i: usize, a: u64) -> bool
+    ensures { result ≡ true → Finds (table_of (image_of code.now)) a (Some i) }
 {
-    let n = y.count as usize;
-    if n <= i {
-        return false;
-    }
-    let at = place(y, i);
-    octet(s, at) == a
-}
-
-// Where the instruction at position i starts, and where it ends: of its record that alone is read.
-pub fn address_at(s: &[u8], y: Section, i: usize) -> u64
-    requires i_in { i < y.count }
-    requires there { Holds s.now y 31 }
-    ensures { result ≡ (entry_at (entries_in s.now y) i).address }
-{
-    octet(s, place(y, i))
-}
-
-pub fn end_at(s: &[u8], y: Section, i: usize) -> u64
-    requires i_in { i < y.count }
-    requires there { Holds s.now y 31 }
-    ensures { result ≡ (entry_at (entries_in s.now y) i).end }
-{
-    octet(s, place(y, i) + 8)
+    i < code.size() && code.instruction(i).address == a
 }

@@ -1,18 +1,17 @@
 // Marks of positions, lent to be set: `[bool; 512]`, as many as a table may have.
-ghost use Rattle.std.specs.Prelude.{◌&&◌, ◌≡◌, ℕ, ◌≤◌, eqb, length};
+ghost use Rattle.std.specs.Prelude.{◌&&◌, ◌≡◌, ℕ, eqb, length};
 ghost use Rattle.image.specs.Refusal.{clear};
 ghost use Rattle.image.specs.Image.{Image};
-ghost use Rattle.image.specs.There.{Holds};
 ghost use Rattle.graph.specs.Table.{range_check};
-ghost use Rattle.graph.specs.Lookup.{Rising, entries_in};
-ghost use Rattle.graph.specs.Transfer.{table_of};
+ghost use Rattle.graph.specs.Transfer.{table_of, size};
 ghost use Rattle.graph.specs.Leaders.{range_mark};
+ghost use Rattle.builder.specs.Code.{image_of};
 ghost use Rattle.builder.specs.Marks.{Marked, start_mark};
 ghost use Rattle.builder.specs.Ranges.{Ranges};
 
+use crate::code::Code;
 use crate::lookup::find;
 use crate::ranges::{Positions, RangeError};
-use image::section::Section;
 
 // The positions of a range that no check refused, and the one behind them.
 pub fn mark_range(marks: &mut [bool; 512], found: Result<Positions, RangeError>)
@@ -28,21 +27,11 @@ pub fn mark_range(marks: &mut [bool; 512], found: Result<Positions, RangeError>)
 }
 
 // The start at a, where `leads` holds.
-pub fn mark_target_if(
-    marks: &mut [bool; 512],
-    s: &[u8],
-    y: Section,
-    hints: &[u16],
-    leads: bool,
-    a: u64,
-)
-    requires rising { Rising (entries_in s.now y) }
-    requires there { Holds s.now y 31 }
-    requires count_most { y.count ≤ 512 }
-    ensures { Marked y.count (λ p. leads && start_mark (entries_in s.now y) a p) marks.old marks.new }
+pub fn mark_target_if(marks: &mut [bool; 512], code: &Code<'_>, leads: bool, a: u64)
+    ensures { Marked (size (image_of code.now)) (λ p. leads && start_mark (table_of (image_of code.now)) a p) marks.old marks.new }
 {
     if leads {
-        mark_target(marks, s, y, hints, a);
+        mark_target(marks, code, a);
     }
 }
 
@@ -56,13 +45,10 @@ pub fn mark_if(marks: &mut [bool; 512], leads: bool, p: usize)
 }
 
 // The start at a, if there is one.
-pub fn mark_target(marks: &mut [bool; 512], s: &[u8], y: Section, hints: &[u16], a: u64)
-    requires rising { Rising (entries_in s.now y) }
-    requires there { Holds s.now y 31 }
-    requires count_most { y.count ≤ 512 }
-    ensures { Marked y.count (start_mark (entries_in s.now y) a) marks.old marks.new }
+pub fn mark_target(marks: &mut [bool; 512], code: &Code<'_>, a: u64)
+    ensures { Marked (size (image_of code.now)) (start_mark (table_of (image_of code.now)) a) marks.old marks.new }
 {
-    let Some(k) = find(s, y, hints, a) else {
+    let Some(k) = find(code, a) else {
         return;
     };
     mark_at(marks, k);

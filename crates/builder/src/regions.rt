@@ -2,146 +2,115 @@
 ghost use Rattle.std.specs.Prelude.{cond, true, [], ◌∷◌, ◌≡◌, ℕ, ◌+◌, ◌-◌, ◌≤◌, ◌<◌, length, get_or, take};
 ghost use Rattle.std.specs.Option.{option_to_list};
 ghost use Rattle.image.specs.Refusal.{clear};
-ghost use Rattle.image.specs.Image.{Image, image_in};
-ghost use Rattle.image.specs.There.{ImageThere};
+ghost use Rattle.image.specs.Image.{Image};
 ghost use Rattle.graph.specs.Graph.{held};
-ghost use Rattle.graph.specs.Words.{held_in};
+ghost use Rattle.graph.specs.Lent.{held_of};
 ghost use Rattle.graph.specs.Stored.{Stored};
 ghost use Rattle.graph.specs.Fold.{count};
-ghost use Rattle.graph.specs.Table.{is_start, code_end_of};
+ghost use Rattle.graph.specs.Table.{is_start};
 ghost use Rattle.graph.specs.Transfer.{table_of};
 ghost use Rattle.graph.specs.Blocks.{block_of, block_at};
 ghost use Rattle.graph.specs.Build.{handler_check};
 ghost use Rattle.graph.specs.Edges.{range_first, range_size};
 ghost use Rattle.graph.specs.Regions.{same_range, drafts, draft, contains, smaller, parent_below, set_below, region_at, regions_of, region_in, handler_record, handlers_of};
-ghost use Rattle.builder.specs.Emit.{Numbered};
-ghost use Rattle.builder.specs.Drafts.{Extents, Counted, Drafted, Handled, Whole, with_regions, with_handlers};
+ghost use Rattle.builder.specs.Code.{image_of};
+ghost use Rattle.builder.specs.Drafts.{Extents, Counted, Drafted, Whole, with_regions, with_handlers};
 
-use crate::drafts::{drafts_of, handler, read_ranges, same_range, span};
+use crate::code::Numbered;
+use crate::drafts::{drafts_of, read_ranges, same_range, span};
 use crate::edges::block_of;
 use crate::lookup::find;
 use crate::ranges::range_check;
 use graph::blockset::put_in;
 use graph::record::{HandlerRecord, Region};
-use graph::store::Words;
+use graph::store::Graph;
 use graph::store::handlers::add_handler;
 use graph::store::regions::add_region;
-use image::section::Layout;
 
 // The regions and the handlers of the image, in a graph that has none.
-pub fn add_regions(g: &mut Words, s: &[u8], y: Layout, hints: &[u16], code_end: u64, blocks: &[u16])
-    requires handled { Handled (image_in s.now y) blocks.now }
-    requires code_ends { code_end ≡ code_end_of (table_of (image_in s.now y)) }
-    requires there { ImageThere s.now y }
+pub fn add_regions(g: &mut Graph, numbered: &Numbered<'_>)
     requires whole { Whole g.old }
-    requires no_regions { (held_in g.old).graph.regions ≡ [] }
-    requires no_handlers { (held_in g.old).graph.handlers ≡ [] }
-    ensures { Stored g.old g.new (held (with_handlers (with_regions (held_in g.old).graph (regions_of (image_in s.now y))) (handlers_of (image_in s.now y)))) }
+    requires no_regions { (held_of g.old).graph.regions ≡ [] }
+    requires no_handlers { (held_of g.old).graph.handlers ≡ [] }
+    ensures { Stored g.old g.new (held (with_handlers (with_regions (held_of g.old).graph (regions_of (image_of numbered.now.code))) (handlers_of (image_of numbered.now.code)))) }
 {
-    let n = y.code.handlers.count as usize;
+    let n = numbered.code.handler_count();
     if n == 0 {
         return;
     }
     let mut starts = [0u64; 32];
     let mut ends = [0u64; 32];
-    read_ranges(&mut starts, &mut ends, s, y);
+    read_ranges(&mut starts, &mut ends, &numbered.code);
     let mut list = [0usize; 32];
     let count = drafts_of(&mut list, &starts, &ends, n);
-    store_regions(
-        g, s, y, hints, code_end, blocks, &starts, &ends, &list, count,
-    );
-    store_handlers(g, s, y, hints, blocks, &starts, &ends, &list, count);
+    store_regions(g, numbered, &starts, &ends, &list, count);
+    store_handlers(g, numbered, &starts, &ends, &list, count);
 }
 
 fn store_regions(
-    g: &mut Words,
-    s: &[u8],
-    y: Layout,
-    hints: &[u16],
-    code_end: u64,
-    blocks: &[u16],
+    g: &mut Graph,
+    numbered: &Numbered<'_>,
     starts: &[u64; 32],
     ends: &[u64; 32],
     list: &[usize; 32],
     count: usize,
 )
-    requires handled { Handled (image_in s.now y) blocks.now }
-    requires code_ends { code_end ≡ code_end_of (table_of (image_in s.now y)) }
-    requires there { ImageThere s.now y }
-    requires extents { Extents (image_in s.now y) starts.now ends.now }
-    requires drafted { Drafted list.now count (drafts (image_in s.now y)) }
+    requires extents { Extents (image_of numbered.now.code) starts.now ends.now }
+    requires drafted { Drafted list.now count (drafts (image_of numbered.now.code)) }
     requires whole { Whole g.old }
-    requires no_regions { (held_in g.old).graph.regions ≡ [] }
-    ensures { Stored g.old g.new (held (with_regions (held_in g.old).graph (regions_of (image_in s.now y)))) }
+    requires no_regions { (held_of g.old).graph.regions ≡ [] }
+    ensures { Stored g.old g.new (held (with_regions (held_of g.old).graph (regions_of (image_of numbered.now.code)))) }
 {
     for r in 0..count {
-        add_region(
-            g,
-            region_of(s, y, hints, code_end, blocks, starts, ends, list, count, r),
-        );
+        add_region(g, region_of(numbered, starts, ends, list, count, r));
     }
 }
 
 fn store_handlers(
-    g: &mut Words,
-    s: &[u8],
-    y: Layout,
-    hints: &[u16],
-    blocks: &[u16],
+    g: &mut Graph,
+    numbered: &Numbered<'_>,
     starts: &[u64; 32],
     ends: &[u64; 32],
     list: &[usize; 32],
     count: usize,
 )
-    requires handled { Handled (image_in s.now y) blocks.now }
-    requires extents { Extents (image_in s.now y) starts.now ends.now }
-    requires drafted { Drafted list.now count (drafts (image_in s.now y)) }
-    requires there { ImageThere s.now y }
+    requires extents { Extents (image_of numbered.now.code) starts.now ends.now }
+    requires drafted { Drafted list.now count (drafts (image_of numbered.now.code)) }
     requires whole { Whole g.old }
-    requires no_handlers { (held_in g.old).graph.handlers ≡ [] }
-    ensures { Stored g.old g.new (held (with_handlers (held_in g.old).graph (handlers_of (image_in s.now y)))) }
+    requires no_handlers { (held_of g.old).graph.handlers ≡ [] }
+    ensures { Stored g.old g.new (held (with_handlers (held_of g.old).graph (handlers_of (image_of numbered.now.code)))) }
 {
-    let n = y.code.handlers.count as usize;
+    let n = numbered.code.handler_count();
     for h in 0..n {
-        add_handler(
-            g,
-            handler_record(s, y, hints, blocks, starts, ends, list, count, h),
-        );
+        add_handler(g, handler_record(numbered, starts, ends, list, count, h));
     }
 }
 
 fn region_of(
-    s: &[u8],
-    y: Layout,
-    hints: &[u16],
-    code_end: u64,
-    blocks: &[u16],
+    numbered: &Numbered<'_>,
     starts: &[u64; 32],
     ends: &[u64; 32],
     list: &[usize; 32],
     count: usize,
     r: usize,
 ) -> Region
-    requires handled { Handled (image_in s.now y) blocks.now }
-    requires code_ends { code_end ≡ code_end_of (table_of (image_in s.now y)) }
-    requires there { ImageThere s.now y }
-    requires extents { Extents (image_in s.now y) starts.now ends.now }
-    requires drafted { Drafted list.now count (drafts (image_in s.now y)) }
+    requires extents { Extents (image_of numbered.now.code) starts.now ends.now }
+    requires drafted { Drafted list.now count (drafts (image_of numbered.now.code)) }
     requires r_in { r < count }
-    ensures { result ≡ region_at (image_in s.now y) r }
+    ensures { result ≡ region_at (image_of numbered.now.code) r }
 {
     let h = list[r];
     let start = starts[h];
     let end = ends[h];
     let parent = parent_of(starts, ends, list, count, r);
-    let n = y.code.handlers.count as usize;
+    let n = numbered.code.handler_count();
     Region {
         has_parent: u64::from(parent.is_some()),
         parent: parent.unwrap_or(0) as u64,
         start,
         end,
         handlers: same_ranges(starts, ends, h, n),
-        protected: protected_by(s, y, hints, code_end, blocks, h),
+        protected: protected_by(numbered, h),
     }
 }
 
@@ -217,27 +186,17 @@ fn same_ranges(starts: &[u64; 32], ends: &[u64; 32], h: usize, n: usize) -> u64
 }
 
 // The blocks that handler h protects.
-fn protected_by(
-    s: &[u8],
-    y: Layout,
-    hints: &[u16],
-    code_end: u64,
-    blocks: &[u16],
-    h: usize,
-) -> [u64; 16]
-    requires handled { Handled (image_in s.now y) blocks.now }
-    requires code_ends { code_end ≡ code_end_of (table_of (image_in s.now y)) }
-    requires there { ImageThere s.now y }
-    requires h_in { h < y.code.handlers.count }
-    requires checked { handler_check (image_in s.now y) h ≡ clear }
-    ensures { result ≡ set_below (λ i. block_of (image_in s.now y) (range_first (image_in s.now y) h + i)) (range_size (image_in s.now y) h) }
+fn protected_by(numbered: &Numbered<'_>, h: usize) -> [u64; 16]
+    requires h_in { h < length (image_of numbered.now.code).handlers }
+    requires checked { handler_check (image_of numbered.now.code) h ≡ clear }
+    ensures { result ≡ set_below (λ i. block_of (image_of numbered.now.code) (range_first (image_of numbered.now.code) h + i)) (range_size (image_of numbered.now.code) h) }
 {
-    let own = handler(s, y, h);
-    let found = range_check(s, y.code.instructions, hints, code_end, own.start, own.end);
+    let own = numbered.code.handler(h);
+    let found = range_check(&numbered.code, own.start, own.end);
     let Ok(range) = found else {
         return [0; 16];
     };
-    blocks_between(blocks, range.first, range.past)
+    blocks_between(numbered.blocks, range.first, range.past)
 }
 
 // The blocks of the instructions from `first` up to `past`.
@@ -254,30 +213,25 @@ fn blocks_between(blocks: &[u16], first: usize, past: usize) -> [u64; 16]
 }
 
 fn handler_record(
-    s: &[u8],
-    y: Layout,
-    hints: &[u16],
-    blocks: &[u16],
+    numbered: &Numbered<'_>,
     starts: &[u64; 32],
     ends: &[u64; 32],
     list: &[usize; 32],
     count: usize,
     h: usize,
 ) -> HandlerRecord
-    requires numbered { Numbered (image_in s.now y) blocks.now }
-    requires checked { handler_check (image_in s.now y) h ≡ clear }
+    requires checked { handler_check (image_of numbered.now.code) h ≡ clear }
     requires h_below { h < 32 }
-    requires there { ImageThere s.now y }
-    requires h_in { h < y.code.handlers.count }
-    requires extents { Extents (image_in s.now y) starts.now ends.now }
-    requires drafted { Drafted list.now count (drafts (image_in s.now y)) }
-    ensures { result ≡ handler_record (image_in s.now y) h }
+    requires h_in { h < length (image_of numbered.now.code).handlers }
+    requires extents { Extents (image_of numbered.now.code) starts.now ends.now }
+    requires drafted { Drafted list.now count (drafts (image_of numbered.now.code)) }
+    ensures { result ≡ handler_record (image_of numbered.now.code) h }
 {
-    let own = handler(s, y, h);
+    let own = numbered.code.handler(h);
     HandlerRecord {
         region: region_in(starts, ends, list, count, h),
         place: same_ranges(starts, ends, h, h),
-        entry: block_at(s, y, hints, blocks, own.entry),
+        entry: block_at(numbered, own.entry),
         kind: own.kind,
         filter: own.filter,
     }
@@ -304,14 +258,12 @@ fn region_in(
 }
 
 // The block of the instruction that starts at a.
-pub fn block_at(s: &[u8], y: Layout, hints: &[u16], blocks: &[u16], a: u64) -> u64
-    requires numbered { Numbered (image_in s.now y) blocks.now }
-    requires start { is_start (table_of (image_in s.now y)) a ≡ true }
-    requires there { ImageThere s.now y }
-    ensures { result ≡ block_at (image_in s.now y) a }
+pub fn block_at(numbered: &Numbered<'_>, a: u64) -> u64
+    requires start { is_start (table_of (image_of numbered.now.code)) a ≡ true }
+    ensures { result ≡ block_at (image_of numbered.now.code) a }
 {
-    let Some(p) = find(s, y.code.instructions, hints, a) else {
+    let Some(p) = find(&numbered.code, a) else {
         return 0;
     };
-    block_of(blocks, p)
+    block_of(numbered.blocks, p)
 }

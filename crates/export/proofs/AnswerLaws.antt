@@ -6,13 +6,13 @@
 --     counts                            how many records the sections have
 -- Assumes nothing.
 use mathlib.Core.Bool.{Bool, true, false}
-use mathlib.Core.Path.{◌≡◌, refl, sym, ap, ◌∙◌}
+use mathlib.Core.Path.{◌≡◌, refl, ap}
 use mathlib.Core.List.{List}
 use Prim.Native.Nat.{ℕ}
+use Rattle.graph.specs.declared.store.Graph.{Graph as Lent}
 use Rattle.std.proofs.Common.{Result, Ok, Err, is_ok}
-use Rattle.image.specs.Refusal.{Check, clear, refused, refusal}
+use Rattle.image.specs.Refusal.{clear, refused, refusal}
 use Rattle.image.specs.Image.{RouteImage}
-use Rattle.image.specs.Read.{read_routes}
 use Rattle.image.proofs.Tables.{length-records}
 use Rattle.graph.specs.Graph.{Held}
 use Rattle.graph.specs.Error.{check_of}
@@ -21,7 +21,7 @@ use Rattle.graph.specs.Answers.{ReachedIn}
 use Rattle.graph.specs.declared.reach.ReachedSet.{ReachedSet}
 use Rattle.graph.specs.declared.error.AddressBuildError.{AddressBuildError}
 use Rattle.builder.specs.Answers.{build_answer, BuildLeaves, Graphed as BuiltGraphed}
-use Rattle.unwind.specs.Answers.{image_of, answer_of as addition_of, add_answer, AddLeaves, Graphed}
+use Rattle.unwind.specs.Answers.{answer_of as addition_of, add_answer, AddLeaves, Graphed}
 use Rattle.sequence.specs.declared.SequenceError.{SequenceError}
 use Rattle.sequence.specs.declared.SequenceError.TheVariants.{Unrouted, Refused}
 use Rattle.sequence.specs.Sequences.{answer_of, Leaves as WholeLeaves}
@@ -30,28 +30,28 @@ use Rattle.export.specs.Additions.{told_addition, AdditionLeaves}
 use Rattle.export.specs.Sequences.{told_whole, told_sequence, SequenceLeaves}
 use Rattle.export.specs.Count.{counted, told_reached}
 
-pub built_told : (w : List ℕ) (r : Result Unit AddressBuildError) → told_build (build_answer w r) ≡ told r
+pub built_told : (w : Lent) (r : Result Unit AddressBuildError) → told_build (build_answer w r) ≡ told r
 built_told w (Ok _) = refl
 built_told w (Err e) = refl
 
-pub built_leaves : (w w' : List ℕ) (r : Result Unit AddressBuildError) → BuildLeaves w w' r → BuiltGraphed w' r → Leaves (build_answer w' r) w w'
+pub built_leaves : (w w' : Lent) (r : Result Unit AddressBuildError) → BuildLeaves w w' r → BuiltGraphed w' r → Leaves (build_answer w' r) w w'
 built_leaves w w' (Ok _) laid graph = (laid, graph)
 built_leaves w w' (Err e) same _ = same
 
-pub added_told : (m : RouteImage) (w h : List ℕ) (r : Result Unit AddressBuildError) → told_addition (addition_of m w h r) ≡ told r
+pub added_told : (m : RouteImage) (w : Lent) (h : List ℕ) (r : Result Unit AddressBuildError) → told_addition (addition_of m w h r) ≡ told r
 added_told m w h (Ok _) = refl
 added_told m w h (Err e) = refl
 
-pub added_leaves : (l w w' h h' : List ℕ) (r : Result Unit AddressBuildError) → AddLeaves w w' h h' r → Graphed w' r → AdditionLeaves (add_answer l w' h' r) l w w' h h'
+pub added_leaves : (l : List ℕ) (w w' : Lent) (h h' : List ℕ) (r : Result Unit AddressBuildError) → AddLeaves w w' h h' r → Graphed w' r → AdditionLeaves (add_answer l w' h' r) l w w' h h'
 added_leaves l w w' h h' (Ok _) left graph = (left.0, graph, record { holds = refl; kept = left.1 })
 added_leaves l w w' h h' (Err e) same _ = same
 
-pub whole_told : (l w h : List ℕ) (r : Result Unit SequenceError) → told_sequence (answer_of l w h r) ≡ told_whole r
+pub whole_told : (l : List ℕ) (w : Lent) (h : List ℕ) (r : Result Unit SequenceError) → told_sequence (answer_of l w h r) ≡ told_whole r
 whole_told l w h (Ok _) = refl
 whole_told l w h (Err (Unrouted e)) = refl
 whole_told l w h (Err (Refused e)) = refl
 
-pub whole_leaves : (l w w' h h' : List ℕ) (r : Result Unit SequenceError) → WholeLeaves w w' h h' r → SequenceLeaves (answer_of l w' h' r) l w w' h h'
+pub whole_leaves : (l : List ℕ) (w w' : Lent) (h h' : List ℕ) (r : Result Unit SequenceError) → WholeLeaves w w' h h' r → SequenceLeaves (answer_of l w' h' r) l w w' h h'
 whole_leaves l w w' h h' (Ok _) left = (left.0, left.1, record { holds = refl; kept = left.2 })
 whole_leaves l w w' h h' (Err (Unrouted e)) left = left
 whole_leaves l w w' h h' (Err (Refused e)) same = same

@@ -2,7 +2,8 @@
 use Rattle.std.specs.Prelude.{true, ◌≡◌, List, ℕ}
 use Rattle.image.specs.Refusal.{refusal}
 use Rattle.image.specs.Read.{read_routes}
-use Rattle.graph.specs.Words.{held_in}
+use Rattle.graph.specs.Lent.{held_of}
+use Rattle.graph.specs.declared.store.Graph.{Graph as Lent}
 use Rattle.graph.specs.WellFormed.{well_formed}
 use Rattle.graph.specs.Answers.{Laid}
 use Rattle.addition.specs.Add.{Outcome, added, refused}
@@ -15,8 +16,8 @@ abbrev pub told_addition : Outcome → Numbers
 told_addition (added a) = refusal_answer (refusal 0 0 0)
 told_addition (refused r) = refusal_answer r
 
--- The words hold the graph, which 21 lets pass again, and the hops, and what they do not use is as it was; refused, all of
--- them are.
-abbrev pub AdditionLeaves : Outcome → List ℕ → List ℕ → List ℕ → List ℕ → List ℕ → Type 0
-AdditionLeaves (added a) l w w' h h' = Laid w w' a.graph × (well_formed (held_in w') ≡ true) × HopsLaid (image_of (read_routes l)) h h' a.hops
+-- What is lent holds the graph, which 21 lets pass again, and the hops, and what they do not use is as it was; refused, all
+-- of it is.
+abbrev pub AdditionLeaves : Outcome → List ℕ → Lent → Lent → List ℕ → List ℕ → Type 0
+AdditionLeaves (added a) l w w' h h' = Laid w w' a.graph × (well_formed (held_of w') ≡ true) × HopsLaid (image_of (read_routes l)) h h' a.hops
 AdditionLeaves (refused r) l w w' h h' = (w' ≡ w) × (h' ≡ h)

@@ -1,4 +1,4 @@
--- A count of what words hold: number 0 before it, or 21 and none where they hold no graph.
+-- A count of what is lent: number 0 before it, or 21 and none where it is no graph.
 use Rattle.std.specs.Prelude.{Bool, cond, ℕ, length}
 use Rattle.graph.specs.Graph.{Held}
 use Rattle.graph.specs.WellFormed.{well_formed}

@@ -3,7 +3,8 @@
 use Rattle.std.specs.Prelude.{true, ◌≡◌, List, ℕ, Result, Ok, Err}
 use Rattle.image.specs.Refusal.{Refusal, refusal}
 use Rattle.image.specs.Read.{read_routes}
-use Rattle.graph.specs.Words.{held_in}
+use Rattle.graph.specs.Lent.{held_of}
+use Rattle.graph.specs.declared.store.Graph.{Graph as Lent}
 use Rattle.graph.specs.Error.{refusal_of}
 use Rattle.graph.specs.WellFormed.{well_formed}
 use Rattle.graph.specs.Answers.{Laid}
@@ -29,8 +30,8 @@ told_sequence (whole a) = sequence_answer 1 (refusal 0 0 0)
 told_sequence (unrouted g r) = sequence_answer 1 r
 told_sequence (refused r) = sequence_answer 0 r
 
--- The words hold the graph, which 21 lets pass, and the hops, and what they do not use is as it was; refused, all of them are.
-abbrev pub SequenceLeaves : Outcome → List ℕ → List ℕ → List ℕ → List ℕ → List ℕ → Type 0
-SequenceLeaves (whole a) l w w' h h' = Laid w w' a.graph × (well_formed (held_in w') ≡ true) × HopsLaid (image_of (read_routes (route_bytes l))) h h' a.hops
-SequenceLeaves (unrouted g r) l w w' h h' = Laid w w' g × (well_formed (held_in w') ≡ true) × (h' ≡ h)
+-- What is lent holds the graph, which 21 lets pass, and the hops, and what they do not use is as it was; refused, all of it is.
+abbrev pub SequenceLeaves : Outcome → List ℕ → Lent → Lent → List ℕ → List ℕ → Type 0
+SequenceLeaves (whole a) l w w' h h' = Laid w w' a.graph × (well_formed (held_of w') ≡ true) × HopsLaid (image_of (read_routes (route_bytes l))) h h' a.hops
+SequenceLeaves (unrouted g r) l w w' h h' = Laid w w' g × (well_formed (held_of w') ≡ true) × (h' ≡ h)
 SequenceLeaves (refused r) l w w' h h' = (w' ≡ w) × (h' ≡ h)

@@ -1,8 +1,8 @@
-// The text of a chart, line by line, in a buffer that the caller lends. Whether words hold a graph (21) is asked once, with
+// The text of a chart, line by line, in a buffer that the caller lends. Whether what is lent is a graph (21) is asked once, with
 // the count of its lines.
 ghost use Rattle.std.specs.Prelude.{◌≡◌, [], length, get_or};
 ghost use Rattle.image.specs.Image.{RouteImage};
-ghost use Rattle.graph.specs.Words.{held_in};
+ghost use Rattle.graph.specs.Lent.{held_of};
 ghost use Rattle.image.specs.Read.{read_routes};
 ghost use Rattle.unwind.specs.HopWords.{hops_in};
 ghost use Rattle.unwind.specs.Answers.{image_of};
@@ -13,7 +13,7 @@ ghost use Rattle.export.specs.Count.{told_lines};
 
 use crate::count::{Count, counted};
 use graph::rule::is_graph;
-use graph::store::Words;
+use graph::store::Graph;
 use text::chart::{line_at, line_count};
 use text::hops::{HopText, hop_line, lists_of};
 use text::routes::route_layout;
@@ -21,16 +21,16 @@ use unwind::hops::Hops;
 
 // How many lines a graph has up to its hops, or 21.
 #[unsafe(no_mangle)]
-pub extern "C" fn foldzine_line_count(g: &Words) -> Count
-    ensures { result ≡ told_lines (held_in g.now) }
+pub extern "C" fn foldzine_line_count(g: &Graph) -> Count
+    ensures { result ≡ told_lines (held_of g.now) }
 {
     counted(is_graph(g), line_count(g))
 }
 
 // Line k of a graph; past the last there is none.
 #[unsafe(no_mangle)]
-pub extern "C" fn foldzine_line(g: &Words, k: usize, out: &mut [u8; 256]) -> usize
-    ensures { Told (get_or (graph_lines (held_in g.now).graph) k []) out.old out.new result }
+pub extern "C" fn foldzine_line(g: &Graph, k: usize, out: &mut [u8; 256]) -> usize
+    ensures { Told (get_or (graph_lines (held_of g.now).graph) k []) out.old out.new result }
 {
     line_at(g, k, out)
 }

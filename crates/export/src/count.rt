@@ -1,4 +1,4 @@
-// A count of what words hold: number 0 before it, or 21 and none where they hold no graph.
+// A count of what is lent: number 0 before it, or 21 and none where it is no graph.
 ghost use Rattle.std.specs.Prelude.{◌≡◌};
 ghost use Rattle.export.specs.Count.{counted};
 

@@ -1,4 +1,4 @@
-// What Rust and C call: numbers, slices and the words of a graph.
+// What Rust and C call: numbers, slices, a graph and the words of hops.
 #![tactic(auto)]
 
 pub mod add;

@@ -5,7 +5,7 @@ ghost use Rattle.sequence.specs.Sequences.{sequence_from};
 ghost use Rattle.export.specs.Sequences.{told_whole, told_sequence, SequenceLeaves};
 
 use crate::build::told;
-use graph::store::Words;
+use graph::store::Graph;
 use sequence::{SequenceError, build_sequence};
 use text::refusal::Numbers;
 use text::routes::routes_at;
@@ -41,7 +41,7 @@ impl From<Result<(), SequenceError>> for SequenceAnswer {
 
 #[tactic(auto, using(crate::proofs::AnswerLaws::wholes))]
 #[unsafe(no_mangle)]
-pub extern "C" fn foldzine_sequence(s: &[u8], g: &mut Words, h: &mut Hops) -> SequenceAnswer
+pub extern "C" fn foldzine_sequence(s: &[u8], g: &mut Graph, h: &mut Hops) -> SequenceAnswer
     ensures answer { result ≡ told_sequence (sequence_from s.now) }
     ensures leaves { SequenceLeaves (sequence_from s.now) s.now g.old g.new h.old h.new }
 {

@@ -2,7 +2,9 @@
 --     length-table, get_or_table      f 0, f 1, .. below n: how many, and which stands at i
 --     table_same                   the list hangs on f below n alone
 --     all_at, all_more, all_fails  what holds of each number holds of one; one number more; one of which it does not hold
---     all_below, some_below        what the methods `all` and `any` answer of the numbers below n
+--     all_each                     what the method `all` answers of a slice
+--     all_between, all_below, some_below     what the methods `all` and `any` answer of numbers
+--     all_same, all_behind         it hangs on f below n alone; f holds of the first numbers
 --     some_same, some_more         it hangs on f below n alone; one number more
 --     some_front, some_or          the first number apart, and two tests
 --     some_at, some_where, some-none     it holds of some number if of one, of which one, and of none
@@ -18,7 +20,7 @@ use mathlib.Core.Path.{◌≡◌, refl, sym, ap, ◌∙◌}
 use mathlib.Core.Bool.{Bool, true, false, ◌&&◌, ◌||◌, and-false, and-true, and_assoc, or-true, or-false, or_assoc, false≢true}
 use mathlib.Core.Logic.{◌⊎◌, inl, inr, ⊎_elim}
 use mathlib.Core.List.{List, [], ◌∷◌, ◌++◌, append-nil, append_assoc}
-use Prim.Native.Nat.{ℕ, zero, suc, ◌+◌, ◌≤◌, ◌<◌}
+use Prim.Native.Nat.{ℕ, zero, suc, ◌+◌, ◌-◌, ◌≤◌, ◌<◌}
 use native.Mathlib.Nat.{add-zero, add-suc, eq-or-lt_of_le, le_of_suc-le-suc, not-suc-le-zero}
 use native.Mathlib.Numerals.{add-one}
 use native.Mathlib.Omega.{arith}
@@ -31,12 +33,14 @@ use Rattle.std.specs.Fn.{Called}
 use Rattle.std.specs.Iterator.{YieldsThen}
 use Rattle.std.specs.List.{FoldsTo, list_all, list_any, range_with_len}
 use Rattle.std.specs.Option.{MatchOption}
-use Rattle.std.proofs.Common.{Option}
-use Rattle.std.proofs.lemmas.Iterator.{YieldsList-from_range}
+use Rattle.std.proofs.Common.{Option, Iter}
+use Rattle.std.proofs.lemmas.Iterator.{YieldsList-from_range, YieldsList-from_slice}
 use Rattle.std.proofs.lemmas.Iterator.Search.{all_from_yields_List, any_from_yields_List}
 use denote.Param.Members.{Mut}
+use denote.Ref.{Bor}
+use Rattle.std.specs.Slice.Iter.{iter_rest}
 use Rattle.std.specs.declared.ops.Range.{Range}
-use Rattle.std.proofs.iter.Yields.{nat_range_steps}
+use Rattle.std.proofs.iter.Yields.{fronts, nat_range_steps}
 
 module _ {A : Type 0} where
   pub length-table : (f : ℕ → A) (n : ℕ) → length (table f n) ≡ n
@@ -90,10 +94,21 @@ all_fails f (suc n) i h out =
     (λ lt. rw (all_fails f n i lt out))
     (eq-or-lt_of_le (le_of_suc-le-suc h))
 
-all_same : (f g : ℕ → Bool) (n : ℕ) → ((i : ℕ) → f i ≡ g i) → all f n ≡ all g n
+pub all_same : (f g : ℕ → Bool) (n : ℕ) → ((i : ℕ) → i < n → f i ≡ g i) → all f n ≡ all g n
 unfolding all
 all_same f g zero same = refl
-all_same f g (suc n) same = rw (all_same f g n same, same n)
+all_same f g (suc n) same = rw (all_same f g n (λ i h. same i (omega arith)), same n (omega arith))
+
+-- f holds of each number below k: the rest decides
+pub all_behind : (f : ℕ → Bool) (k n : ℕ) → k ≤ n → all f k ≡ true → all (λ i. f (k + i)) (n - k) ≡ all f n
+unfolding all
+all_behind f k n h before =
+    let n-is : k + (n - k) ≡ n = omega arith in
+    rest (n - k) ∙ ap (all f) n-is
+  where
+    rest : (m : ℕ) → all (λ i. f (k + i)) m ≡ all f (k + m)
+    rest zero = let k-is : k + 0 ≡ k = omega arith in rw k-is (sym before)
+    rest (suc m) = let next : k + suc m ≡ suc (k + m) = omega arith in rw (next, rest m)
 
 all_front : (f : ℕ → Bool) (n : ℕ) → all f (suc n) ≡ (f 0 && all (λ k. f (suc k)) n)
 unfolding all
@@ -105,20 +120,39 @@ unfolding all
 all_listed f a zero = refl
 all_listed f a (suc n) =
     let here : a ≡ a + 0 = omega arith in
-    ap (λ (b : Bool). f a && b) (all_listed f (a + 1) n ∙ all_same (λ i. f (a + 1 + i)) (λ i. f (a + suc i)) n (λ i. ap f (omega arith)))
+    ap (λ (b : Bool). f a && b) (all_listed f (a + 1) n ∙ all_same (λ i. f (a + 1 + i)) (λ i. f (a + suc i)) n (λ i h. ap f (omega arith)))
     ∙ ap (λ (k : ℕ). f k && all (λ i. f (a + suc i)) n) here
     ∙ sym (all_front (λ i. f (a + i)) n)
 
--- what the method `all` answers of the numbers below n
+all_rows : {A : Type 0} (p : A → Bool) (l : List A) (d : A) → list_all p l ≡ all (λ i. p (get_or l i d)) (length l)
+unfolding all
+all_rows p [] d = refl
+all_rows p (x ∷ l) d = ap (λ (b : Bool). p x && b) (all_rows p l d) ∙ sym (all_front (λ i. p (get_or (x ∷ l) i d)) (length l))
+
+-- what the method `all` answers of a slice
+pub all_each : {A F : Type 0} {g : Mut F (Bor A × Unit {0}) Bool} (p : A → Bool) (l : List A) (d : A) {s : Iter A} (u : Iter A) (h : F) (r : Bool)
+    → (xs : List (Bor A)) × (o : Option (Bor A)) × (j : F) × YieldsThen fronts s xs o u × FoldsTo (λ f x q. Called g f (x, tt) true q) h xs j × MatchOption o (r ≡ true) (λ x. (r ≡ false) × ((k : F) × Called g j (x, tt) false k))
+    → iter_rest s ≡ l
+    → ((x : Bor A) (b : Bool) (q : F) → Called g h (x, tt) b q → (q ≡ h) × (b ≡ p x.now))
+    → r ≡ all (λ i. p (get_or l i d)) (length l)
+all_each p l d u h r ran is each = all_from_yields_List p u h r ran (YieldsList-from_slice l is) each ∙ all_rows p l d
+
+-- what the method `all` answers of the numbers from a on and below n, and of those below n
+pub all_between : {F : Type 0} {g : Mut F (ℕ × Unit {0}) Bool} (f : ℕ → Bool) (a n : ℕ) {s : Range ℕ} (u : Range ℕ) (h : F) (r : Bool)
+    → (xs : List ℕ) × (o : Option ℕ) × (j : F) × YieldsThen nat_range_steps s xs o u × FoldsTo (λ p x q. Called g p (x, tt) true q) h xs j × MatchOption o (r ≡ true) (λ x. (r ≡ false) × ((k : F) × Called g j (x, tt) false k))
+    → s ≡ record { start = a; end = n }
+    → ((x : ℕ) (b : Bool) (q : F) → Called g h (x, tt) b q → (q ≡ h) × (b ≡ f x))
+    → r ≡ all (λ i. f (a + i)) (n - a)
+all_between f a n u h r ran is each = all_from_yields_List f u h r ran (YieldsList-from_range a n (n - a) is refl) each ∙ all_listed f a (n - a)
+
 pub all_below : {F : Type 0} {g : Mut F (ℕ × Unit {0}) Bool} (f : ℕ → Bool) (n : ℕ) {s : Range ℕ} (u : Range ℕ) (h : F) (r : Bool)
     → (xs : List ℕ) × (o : Option ℕ) × (j : F) × YieldsThen nat_range_steps s xs o u × FoldsTo (λ p x q. Called g p (x, tt) true q) h xs j × MatchOption o (r ≡ true) (λ x. (r ≡ false) × ((k : F) × Called g j (x, tt) false k))
     → s ≡ record { start = 0; end = n }
     → ((x : ℕ) (b : Bool) (q : F) → Called g h (x, tt) b q → (q ≡ h) × (b ≡ f x))
     → r ≡ all f n
 all_below f n u h r ran is each =
-    all_from_yields_List f u h r ran (YieldsList-from_range 0 n n is (omega arith)) each
-    ∙ all_listed f 0 n
-    ∙ all_same (λ i. f (0 + i)) f n (λ i. ap f (omega arith))
+    let rest : n - 0 ≡ n = omega arith in
+    all_between f 0 n u h r ran is each ∙ ap (all (λ i. f (0 + i))) rest ∙ all_same (λ i. f (0 + i)) f n (λ i h. ap f (omega arith))
 
 -- ---- some
 

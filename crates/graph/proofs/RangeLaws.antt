@@ -1,6 +1,6 @@
 -- Ranges of a table that passed 3 to 5.
 --     rising, ends_above              its addresses rise, and each end stands above its address
---     code_end_more                   the greatest end, one entry more
+--     code_end_append, code_end_more  the greatest end of two lists, and one entry more
 --     below_code_end                  no start stands at or behind the greatest end
 --     below_less                      a range that starts at an instruction has one
 -- Assumes nothing.
@@ -50,7 +50,7 @@ module _ (t : List TableEntry) (passed : table_check t ≡ clear) where
   pub rising : Rising t
   rising = rises (λ p. (entry_at t p).address) (length t) next_above
 
-code_end_append : (t u : List TableEntry) → code_end_of (t ++ u) ≡ max (code_end_of t) (code_end_of u)
+pub code_end_append : (t u : List TableEntry) → code_end_of (t ++ u) ≡ max (code_end_of t) (code_end_of u)
 unfolding code_end_of
 code_end_append [] u = omega arith
 code_end_append (e ∷ t) u = omega (arith, code_end_append t u)

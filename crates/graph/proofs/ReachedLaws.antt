@@ -15,8 +15,7 @@ use borrow.Author.Tests.{eq-eqb, ne_eqb, eqb-true}
 use lib.Dec.{eqb}
 use lib.ListN.{length, get_or, length-append}
 use Rattle.graph.specs.Fold.{flat, count, among}
-use Rattle.graph.specs.Graph.{Graph}
-use Rattle.graph.specs.Words.{edge_of}
+use Rattle.graph.specs.Graph.{Graph, no_edge}
 use Rattle.graph.specs.BlockSet.{member, size_of}
 use Rattle.graph.specs.Reached.{Reached, start, step, along, rounds, reached_blocks}
 use Rattle.graph.specs.Search.{Finds, Ends}
@@ -48,7 +47,7 @@ taken s e = go (among s e.source) refl (among s e.target) refl
 
 -- each edge from the set leads into it
 abbrev Closed : List Edge → List ℕ → Type 0
-Closed es s = (i : ℕ) → i < length es → among s (get_or es i (edge_of [])).source ≡ true → among s (get_or es i (edge_of [])).target ≡ true
+Closed es s = (i : ℕ) → i < length es → among s (get_or es i no_edge).source ≡ true → among s (get_or es i no_edge).target ≡ true
 
 module _ (n : ℕ) (P : ℕ → Type 0) where
   -- what is in the set has P, and none is in it twice
@@ -65,7 +64,7 @@ module _ (n : ℕ) (P : ℕ → Type 0) where
       }
 
   along_holds : (es : List Edge) (s : List ℕ)
-      → ((i : ℕ) → i < length es → P (get_or es i (edge_of [])).source → P (get_or es i (edge_of [])).target × ((get_or es i (edge_of [])).target < n))
+      → ((i : ℕ) → i < length es → P (get_or es i no_edge).source → P (get_or es i no_edge).target × ((get_or es i no_edge).target < n))
       → Holds s → Holds (along es s)
   unfolding along
   along_holds [] s on w = w

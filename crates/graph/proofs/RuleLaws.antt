@@ -10,7 +10,7 @@
 --     in_place, place_test, place_fits     a built block begins where those before it end, and stays in the table
 --     covers_not, covers_full, covers_end     a block out of place, the one that fills the table, and none does
 --     covers_place, runs, first_is, rises     where the blocks of a graph that passes begin
---     is_run, runs_built, run_copy  a block is built or repeats one that is
+--     is_run, runs_built, copies_only     a block is built or repeats one that is; a copy repeats one
 --     Between, go_left, go_right, repeats_here, repeats_nowhere     a search by halving for the built run that a copy repeats
 --     Stands, stands, stands_so    each phrase of a graph that the rule lets pass, and back
 -- Assumes nothing.
@@ -34,7 +34,7 @@ use Rattle.graph.specs.Fold.{some, all, checks, sum}
 use Rattle.graph.specs.Table.{entry_at}
 use Rattle.graph.specs.Build.{order_check, instruction_check, table_check}
 use Rattle.graph.specs.WellFormed.{within_limits, passes, is_block, edge_ends_exist, region_blocks_exist, parents_exist, references_match, in_sets, filled, is_built, Built, covers_table, repeats, copies_repeat, none_empty, well_formed}
-use Rattle.graph.proofs.FoldLaws.{decided, all_fails, some_at}
+use Rattle.graph.proofs.FoldLaws.{decided, all_same, all_behind, all_fails, some_at}
 
 -- ---- the table
 
@@ -217,8 +217,15 @@ module _ (g : Graph) where
     unfolding all
     runs_built = all_from is_run 0 n (omega arith) refl (λ b le h. rw (built.1 b (omega (arith, built.0)) ∙ lt-ltb b n h))
 
-    pub run_copy : (b : ℕ) → n ≤ b → b < length g.blocks → is_run b ≡ some (repeats g b) (length g.blocks)
+    run_copy : (b : ℕ) → n ≤ b → b < length g.blocks → is_run b ≡ some (repeats g b) (length g.blocks)
     run_copy b le h = rw (built.1 b h ∙ le-ltb b n le)
+
+    -- the built ones need not be asked
+    pub copies_only : all (λ (i : ℕ). some (repeats g (n + i)) (length g.blocks)) (length g.blocks - n) ≡ copies_repeat g
+    unfolding copies_repeat
+    copies_only =
+        all_same _ (λ (i : ℕ). is_run (n + i)) (length g.blocks - n) (λ i h. sym (run_copy (n + i) (omega arith) (omega arith)))
+        ∙ all_behind is_run n (length g.blocks) built.0 runs_built
 
   -- ---- built blocks rise
 

@@ -7,7 +7,7 @@
 use mathlib.Core.Path.{◌≡◌, refl, sym, ap, ◌∙◌}
 use mathlib.Core.Bool.{Bool, true, false, ◌&&◌, ◌||◌, not, or-true, true≢false, false≢true}
 use mathlib.Core.Logic.{◌⊎◌, inl, inr, ⊎_elim}
-use mathlib.Core.List.{List, []}
+use mathlib.Core.List.{List}
 use Prim.Native.Nat.{ℕ, zero, suc, ◌+◌, ◌-◌, ◌≤◌, ◌<◌}
 use native.Mathlib.Nat.{not-suc-le-zero}
 use native.Mathlib.Decide.{ℕ_discrete, dec_lt}
@@ -16,8 +16,7 @@ use borrow.Author.Tests.{eq-eqb, ne_eqb, ltb-true}
 use lib.Dec.{T, eqb, ltb, ltb→lt}
 use lib.ListN.{length, get_or, set, length-set, drop_of_length-le, replicate, get_or-replicate}
 use lib.Seq.{drop-cons, get_or-set_same, get_or-set_other}
-use Rattle.graph.specs.Graph.{Graph, Held, edge}
-use Rattle.graph.specs.Words.{edge_of}
+use Rattle.graph.specs.Graph.{Graph, Held, edge, no_edge}
 use Rattle.graph.specs.BlockSet.{member, none, including, excluding}
 use Rattle.graph.specs.WellFormed.{is_block, edge_ends_exist, well_formed}
 use Rattle.graph.specs.Reached.{Reached, start, step}
@@ -70,11 +69,11 @@ module _ (g : Graph) where
 
   link_here : (b i : ℕ) → i < edges → source_of i ≡ b → link g b i ≡ suc i
   unfolding link link_in
-  link_here b i h is = rw (drop-cons g.edges i (edge_of []) h, eq-eqb _ _ is)
+  link_here b i h is = rw (drop-cons g.edges i no_edge h, eq-eqb _ _ is)
 
   link_later : (b i : ℕ) → i < edges → (source_of i ≡ b → ⊥) → link g b i ≡ link g b (suc i)
   unfolding link link_in
-  link_later b i h ne = rw (drop-cons g.edges i (edge_of []) h, ne_eqb _ _ ne)
+  link_later b i h ne = rw (drop-cons g.edges i no_edge h, ne_eqb _ _ ne)
 
   pub linked_none : (head next : List ℕ) → head ≡ replicate (length head) 0 → Linked g head next edges
   linked_none head next zeros =

@@ -1,49 +1,77 @@
 -- Stores one after the other, and graphs that hold all their records: what a loop above the store cites.
+--     grows_none, untouched_none   no count falls, and no row changes, where nothing does
+--     untouched_then               rows left alone, and then again
 --     stored_none, stored_then     no store, and one behind another
---     stored_onto                  a turn of a loop: what a leaf says of the words at hand, said of those at entry
---     emptied_then                 stores into an emptied graph: which words are as they were before it was
+--     stored_onto                  a turn of a loop: what a leaf says of the graph at hand, said of those at entry
+--     emptied_then                 stores into an emptied graph: which rows are as they were before it was
 --     held-nothing                 the emptied graph
---     whole, more_whole            a section that is not cut, and a record more
+--     whole, more_whole            a kind of which nothing is cut, and a record more
 --     region-more, handler-more    a graph with room, and a record more
 --     all_held                     within the limits nothing is cut
 -- Assumes nothing.
 use mathlib.Core.Path.{◌≡◌, refl, sym, ap, ◌∙◌}
 use mathlib.Core.Bool.{Bool, true, ◌&&◌, false}
 use mathlib.Core.List.{List, [], ◌∷◌, ◌++◌}
-use Prim.Native.Nat.{ℕ, ◌<◌, ◌≤◌}
+use Prim.Native.Nat.{ℕ, ◌+◌, ◌-◌, ◌<◌, ◌≤◌, min}
 use native.Mathlib.Omega.{arith}
 use borrow.Author.Tests.{lt-ltb}
 use lib.Dec.{T, leb, leb→le}
-use lib.ListN.{length, get_or, length-append}
-use Rattle.graph.specs.Section.{Section, size, records}
+use lib.ListN.{length, take, drop, length-append, length-take}
+use Rattle.std.proofs.lemmas.List.{drop-drop}
 use Rattle.graph.specs.Graph.{Graph, Held, held}
 use Rattle.graph.specs.WellFormed.{within_limits}
-use Rattle.graph.specs.Words.{table_rows, block_rows, edge_rows, region_rows, handler_rows, unresolved_rows, call_rows, entry_of, block_of, edge_of, region_of, handler_of, unresolved_of, call_of, Part, part, holding, held_in}
-use Rattle.graph.specs.Stored.{more, nothing, with_region, with_handler, Untouched, Stored, Emptied}
+use Rattle.graph.specs.Lent.{Part, part, holding, held_of, Sized}
+use Rattle.graph.specs.Stored.{more, nothing, with_region, with_handler, Grows, Untouched, Stored, Emptied}
+use Rattle.graph.specs.Graph.{Counts}
+use Rattle.graph.specs.declared.store.Graph.{Graph as Lent}
 use Rattle.graph.specs.declared.record.Region.{Region}
 use Rattle.graph.specs.declared.record.HandlerRecord.{HandlerRecord}
-use Rattle.graph.proofs.SectionLaws.{length-records}
 
 -- ---- one store behind another
 
-pub stored_none : (l : List ℕ) → Stored l l (held_in l)
-stored_none l = record { holds = refl; uses = λ k u. u; kept = λ k u. refl }
+pub grows_none : (c : Counts) → Grows c c
+grows_none c = record { table = omega arith; blocks = omega arith; edges = omega arith; regions = omega arith; handlers = omega arith; unresolved = omega arith; calls = omega arith }
 
-pub stored_then : {l m n : List ℕ} {h h' : Held} → Stored l m h → Stored m n h' → Stored l n h'
+pub untouched_none : (g : Lent) → Untouched g g
+untouched_none g = record { spare = refl; table = refl; blocks = refl; edges = refl; regions = refl; handlers = refl; unresolved = refl; calls = refl }
+
+-- rows that are alike from n on are so from m on
+later : {A : Type 0} (n m : ℕ) (k l : List A) → n ≤ m → drop n k ≡ drop n l → drop m k ≡ drop m l
+later n m k l h e =
+    let all : n + (m - n) ≡ m = omega arith in
+    rw (← all) (sym (drop-drop (m - n) n k) ∙ ap (drop (m - n)) e ∙ drop-drop (m - n) n l)
+
+pub untouched_then : {f g h : Lent} → Untouched f g → Grows g.counts h.counts → Untouched g h → Untouched f h
+untouched_then {f} {g} {h} a up b =
+    record {
+      spare = b.spare ∙ a.spare;
+      table = b.table ∙ later g.counts.table h.counts.table g.table f.table up.table a.table;
+      blocks = b.blocks ∙ later g.counts.blocks h.counts.blocks g.blocks f.blocks up.blocks a.blocks;
+      edges = b.edges ∙ later g.counts.edges h.counts.edges g.edges f.edges up.edges a.edges;
+      regions = b.regions ∙ later g.counts.regions h.counts.regions g.regions f.regions up.regions a.regions;
+      handlers = b.handlers ∙ later g.counts.handlers h.counts.handlers g.handlers f.handlers up.handlers a.handlers;
+      unresolved = b.unresolved ∙ later g.counts.unresolved h.counts.unresolved g.unresolved f.unresolved up.unresolved a.unresolved;
+      calls = b.calls ∙ later g.counts.calls h.counts.calls g.calls f.calls up.calls a.calls;
+    }
+
+pub stored_none : (g : Lent) → Stored g g (held_of g)
+stored_none g = record { holds = refl; grows = grows_none g.counts; kept = untouched_none g }
+
+pub stored_then : {f g h : Lent} {x y : Held} → Stored f g x → Stored g h y → Stored f h y
 stored_then a b =
     record {
       holds = b.holds;
-      uses = λ k u. a.uses k (b.uses k u);
-      kept = λ k u. b.kept k u ∙ a.kept k (b.uses k u);
+      grows = record { table = omega (arith, a.grows.table, b.grows.table); blocks = omega (arith, a.grows.blocks, b.grows.blocks); edges = omega (arith, a.grows.edges, b.grows.edges); regions = omega (arith, a.grows.regions, b.grows.regions); handlers = omega (arith, a.grows.handlers, b.grows.handlers); unresolved = omega (arith, a.grows.unresolved, b.grows.unresolved); calls = omega (arith, a.grows.calls, b.grows.calls) };
+      kept = untouched_then a.kept b.grows b.kept;
     }
 
-pub stored_onto : {l m n : List ℕ} {h h' : Held} (f : Held → Held) → Stored l m h → Stored m n (f (held_in m)) → f h ≡ h' → Stored l n h'
-stored_onto f a b is =
+pub stored_onto : {f g h : Lent} {x y : Held} (into : Held → Held) → Stored f g x → Stored g h (into (held_of g)) → into x ≡ y → Stored f h y
+stored_onto into a b is =
     let c = stored_then a b in
-    record { holds = c.holds ∙ ap f a.holds ∙ is; uses = c.uses; kept = c.kept }
+    record { holds = c.holds ∙ ap into a.holds ∙ is; grows = c.grows; kept = c.kept }
 
-pub emptied_then : {l m n : List ℕ} {h : Held} → Emptied l m → Stored m n h → Untouched l n
-emptied_then a b k u = b.kept k u ∙ a.kept k (b.uses k u)
+pub emptied_then : {f g h : Lent} {x : Held} → Emptied f g → Stored g h x → Untouched f h
+emptied_then a b = untouched_then a.kept b.grows b.kept
 
 -- ---- graphs that hold all their records
 
@@ -55,27 +83,26 @@ pub held-nothing : nothing ≡ held (record { entry = 0; table = []; blocks = []
 unfolding held
 held-nothing = refl
 
-pub more_whole : {A : Type 0} (s : Section) (p : List A) (a : A) → length p < s.most → more s (whole p) a ≡ whole (p ++ (a ∷ []))
+pub more_whole : {A : Type 0} (most : ℕ) (p : List A) (a : A) → length p < most → more most (whole p) a ≡ whole (p ++ (a ∷ []))
 unfolding more
-more_whole s p a h = rw (lt-ltb (length p) s.most h) (λ t. record { count = sym (length-append p (a ∷ [])) t; list = p ++ (a ∷ []) })
+more_whole most p a h = rw (lt-ltb (length p) most h) (λ t. record { count = sym (length-append p (a ∷ [])) t; list = p ++ (a ∷ []) })
 
 module _ (g : Graph) where
   pub region-more : (r : Region) → length g.regions < 32 → with_region (held g) r ≡ held (record { entry = g.entry; table = g.table; blocks = g.blocks; edges = g.edges; regions = g.regions ++ (r ∷ []); handlers = g.handlers; unresolved = g.unresolved; calls = g.calls })
   unfolding held
-  region-more r h = ap (λ (p : Part Region). holding g.entry (whole g.table) (whole g.blocks) (whole g.edges) p (whole g.handlers) (whole g.unresolved) (whole g.calls)) (more_whole region_rows g.regions r h)
+  region-more r h = ap (λ (p : Part Region). holding g.entry (whole g.table) (whole g.blocks) (whole g.edges) p (whole g.handlers) (whole g.unresolved) (whole g.calls)) (more_whole 32 g.regions r h)
 
   pub handler-more : (r : HandlerRecord) → length g.handlers < 32 → with_handler (held g) r ≡ held (record { entry = g.entry; table = g.table; blocks = g.blocks; edges = g.edges; regions = g.regions; handlers = g.handlers ++ (r ∷ []); unresolved = g.unresolved; calls = g.calls })
   unfolding held
-  handler-more r h = ap (λ (p : Part HandlerRecord). holding g.entry (whole g.table) (whole g.blocks) (whole g.edges) (whole g.regions) p (whole g.unresolved) (whole g.calls)) (more_whole handler_rows g.handlers r h)
+  handler-more r h = ap (λ (p : Part HandlerRecord). holding g.entry (whole g.table) (whole g.blocks) (whole g.edges) (whole g.regions) p (whole g.unresolved) (whole g.calls)) (more_whole 32 g.handlers r h)
 
--- ---- words within the limits
+-- ---- within the limits
 
-exact : {A : Type 0} (s : Section) (of : List ℕ → A) (l : List ℕ) → get_or l s.count 0 ≤ s.most → part s of l ≡ whole (records s of l)
-unfolding size
-exact s of l h = λ t. record { count = is t; list = records s of l }
+exact : {A : Type 0} (most n : ℕ) (rows : List A) → length rows ≡ most → n ≤ most → part most n rows ≡ whole (take (min n most) rows)
+exact most n rows sized h = λ t. record { count = is t; list = take (min n most) rows }
   where
-    is : get_or l s.count 0 ≡ length (records s of l)
-    is = omega (arith, length-records s of l)
+    is : n ≡ length (take (min n most) rows)
+    is = simp length-take (omega arith)
 
 each : (a b c d e f g h : Bool) → T (a && b && c && d && e && f && g && h) → T a × T c × T d × T e × T f × T g × T h
 each true true true true true true true true t = (tt, tt, tt, tt, tt, tt, tt)
@@ -88,18 +115,19 @@ each true true true true true false g h t = elim t [ ]
 each true true true true true true false h t = elim t [ ]
 each true true true true true true true false t = elim t [ ]
 
-pub all_held : (l : List ℕ) → within_limits (held_in l).counts ≡ true → held_in l ≡ held (held_in l).graph
-unfolding held_in held within_limits
-all_held l e =
-    let within : T (within_limits (held_in l).counts) = rw e tt in
-    let c = each (leb (get_or l 0 0) 512) (leb 1 (get_or l 1 0)) (leb (get_or l 1 0) 1024) (leb (get_or l 2 0) 4096) (leb (get_or l 3 0) 32) (leb (get_or l 4 0) 32) (leb (get_or l 5 0) 1024) (leb (get_or l 6 0) 512) within in
+pub all_held : (g : Lent) → Sized g → within_limits (held_of g).counts ≡ true → held_of g ≡ held (held_of g).graph
+unfolding held_of held within_limits
+all_held g sized e =
+    let n = g.counts in
+    let within : T (within_limits (held_of g).counts) = rw e tt in
+    let c = each (leb n.table 512) (leb 1 n.blocks) (leb n.blocks 1024) (leb n.edges 4096) (leb n.regions 32) (leb n.handlers 32) (leb n.unresolved 1024) (leb n.calls 512) within in
     λ t.
     holding
-    (get_or l 7 0)
-    (exact table_rows entry_of l (leb→le _ _ c.0) t)
-    (exact block_rows block_of l (leb→le _ _ c.1) t)
-    (exact edge_rows edge_of l (leb→le _ _ c.2) t)
-    (exact region_rows region_of l (leb→le _ _ c.3) t)
-    (exact handler_rows handler_of l (leb→le _ _ c.4) t)
-    (exact unresolved_rows unresolved_of l (leb→le _ _ c.5) t)
-    (exact call_rows call_of l (leb→le _ _ c.6) t)
+    g.entry
+    (exact 512 n.table g.table sized.table (leb→le _ _ c.0) t)
+    (exact 1024 n.blocks g.blocks sized.blocks (leb→le _ _ c.1) t)
+    (exact 4096 n.edges g.edges sized.edges (leb→le _ _ c.2) t)
+    (exact 32 n.regions g.regions sized.regions (leb→le _ _ c.3) t)
+    (exact 32 n.handlers g.handlers sized.handlers (leb→le _ _ c.4) t)
+    (exact 1024 n.unresolved g.unresolved sized.unresolved (leb→le _ _ c.5) t)
+    (exact 512 n.calls g.calls sized.calls (leb→le _ _ c.6) t)

@@ -7,6 +7,7 @@ use Rattle.graph.specs.declared.record.Region.{Region}
 use Rattle.graph.specs.declared.record.HandlerRecord.{HandlerRecord}
 use Rattle.graph.specs.declared.record.UnresolvedTransfer.{UnresolvedTransfer}
 use Rattle.graph.specs.declared.record.CallSite.{CallSite}
+pub use Rattle.graph.specs.declared.record.Counts.{Counts}
 
 pub record Graph : Type 0 where
   pub entry : ℕ
@@ -18,17 +19,7 @@ pub record Graph : Type 0 where
   pub unresolved : List UnresolvedTransfer
   pub calls : List CallSite
 
--- How many records of each kind there are, as the words of a graph say it.
-pub record Counts : Type 0 where
-  pub table : ℕ
-  pub blocks : ℕ
-  pub edges : ℕ
-  pub regions : ℕ
-  pub handlers : ℕ
-  pub unresolved : ℕ
-  pub calls : ℕ
-
--- What words hold: the counts that they say, and the graph, whose lists are cut at document 01's limits. Rule 21 asks
+-- What a lent graph holds: its counts, and the graph, whose lists are cut at document 01's limits. Rule 21 asks
 -- of the counts that nothing was cut.
 pub record Held : Type 0 where
   pub counts : Counts
@@ -52,22 +43,38 @@ held g =
     }
 
 -- records by their numbers, of zeros past the end
+abbrev pub no_block : Block
+no_block = record { first = 0; count = 0 }
+
 abbrev pub block : Graph → ℕ → Block
-block g b = get_or g.blocks b (record { first = 0; count = 0 })
+block g b = get_or g.blocks b no_block
+
+abbrev pub no_edge : Edge
+no_edge = record { source = 0; target = 0; kind = 0; role = 0; number = 0; key = 0; source_address = 0; target_address = 0 }
 
 abbrev pub edge : Graph → ℕ → Edge
-edge g e =
-    get_or g.edges e (record { source = 0; target = 0; kind = 0; role = 0; number = 0; key = 0; source_address = 0; target_address = 0 })
+edge g e = get_or g.edges e no_edge
+
+abbrev pub no_region : Region
+no_region = record { has_parent = 0; parent = 0; start = 0; end = 0; handlers = 0; protected = replicate 16 0 }
 
 abbrev pub region : Graph → ℕ → Region
-region g r =
-    get_or g.regions r (record { has_parent = 0; parent = 0; start = 0; end = 0; handlers = 0; protected = replicate 16 0 })
+region g r = get_or g.regions r no_region
+
+abbrev pub no_handler : HandlerRecord
+no_handler = record { region = 0; place = 0; entry = 0; kind = 0; filter = 0 }
 
 abbrev pub handler : Graph → ℕ → HandlerRecord
-handler g h = get_or g.handlers h (record { region = 0; place = 0; entry = 0; kind = 0; filter = 0 })
+handler g h = get_or g.handlers h no_handler
+
+abbrev pub no_unresolved : UnresolvedTransfer
+no_unresolved = record { source = 0; target = 0; role = 0; case_index = 0 }
 
 abbrev pub unresolved_transfer : Graph → ℕ → UnresolvedTransfer
-unresolved_transfer g u = get_or g.unresolved u (record { source = 0; target = 0; role = 0; case_index = 0 })
+unresolved_transfer g u = get_or g.unresolved u no_unresolved
+
+abbrev pub no_call : CallSite
+no_call = record { source = 0; has_target = 0; target = 0 }
 
 abbrev pub call_site : Graph → ℕ → CallSite
-call_site g c = get_or g.calls c (record { source = 0; has_target = 0; target = 0 })
+call_site g c = get_or g.calls c no_call

@@ -2,7 +2,7 @@ pub mod Graph
 pub mod Fold
 pub mod Table
 pub mod Section
-pub mod Words
+pub mod Lent
 pub mod Stored
 pub mod Adding
 pub mod BlockSet

@@ -1,8 +1,8 @@
--- What stores do to the graph that words hold, and to the words that it does not use.
-use Rattle.std.specs.Prelude.{cond, List, [], ◌∷◌, ◌++◌, ◌≡◌, ℕ, ◌+◌, ◌≤◌, ◌<◌, ltb, get_or}
-use Rattle.graph.specs.Section.{Section, Beside}
-use Rattle.graph.specs.Graph.{Held}
-use Rattle.graph.specs.Words.{table_rows, block_rows, edge_rows, region_rows, handler_rows, unresolved_rows, call_rows, section, Part, holding, held_in}
+-- What stores do to the graph that a lent one holds, and to the rows that it does not use.
+use Rattle.std.specs.Prelude.{cond, [], ◌∷◌, ◌++◌, ◌≡◌, ℕ, ◌+◌, ◌≤◌, ltb, drop}
+use Rattle.graph.specs.Graph.{Counts, Held}
+use Rattle.graph.specs.Lent.{Part, holding, held_of}
+use Rattle.graph.specs.declared.store.Graph.{Graph as Lent}
 use Rattle.graph.specs.declared.record.TableEntry.{TableEntry}
 use Rattle.graph.specs.declared.record.Block.{Block}
 use Rattle.graph.specs.declared.record.Edge.{Edge}
@@ -13,9 +13,9 @@ use Rattle.graph.specs.declared.record.CallSite.{CallSite}
 
 -- ---- the graph
 
--- one record more behind the others; none where the section is full
-unfoldable pub more : {A : Type 0} → Section → Part A → A → Part A
-more s p a = cond (ltb p.count s.most) (record { count = p.count + 1; list = p.list ++ (a ∷ []) }) p
+-- one record more behind the others; none where there are as many as there may be
+unfoldable pub more : {A : Type 0} → ℕ → Part A → A → Part A
+more most p a = cond (ltb p.count most) (record { count = p.count + 1; list = p.list ++ (a ∷ []) }) p
 
 abbrev pub table_in : Held → Part TableEntry
 table_in h = record { count = h.counts.table; list = h.graph.table }
@@ -39,25 +39,25 @@ abbrev pub calls_in : Held → Part CallSite
 calls_in h = record { count = h.counts.calls; list = h.graph.calls }
 
 abbrev pub with_entry : Held → TableEntry → Held
-with_entry h r = holding h.graph.entry (more table_rows (table_in h) r) (blocks_in h) (edges_in h) (regions_in h) (handlers_in h) (unresolved_in h) (calls_in h)
+with_entry h r = holding h.graph.entry (more 512 (table_in h) r) (blocks_in h) (edges_in h) (regions_in h) (handlers_in h) (unresolved_in h) (calls_in h)
 
 abbrev pub with_block : Held → Block → Held
-with_block h r = holding h.graph.entry (table_in h) (more block_rows (blocks_in h) r) (edges_in h) (regions_in h) (handlers_in h) (unresolved_in h) (calls_in h)
+with_block h r = holding h.graph.entry (table_in h) (more 1024 (blocks_in h) r) (edges_in h) (regions_in h) (handlers_in h) (unresolved_in h) (calls_in h)
 
 abbrev pub with_edge : Held → Edge → Held
-with_edge h r = holding h.graph.entry (table_in h) (blocks_in h) (more edge_rows (edges_in h) r) (regions_in h) (handlers_in h) (unresolved_in h) (calls_in h)
+with_edge h r = holding h.graph.entry (table_in h) (blocks_in h) (more 4096 (edges_in h) r) (regions_in h) (handlers_in h) (unresolved_in h) (calls_in h)
 
 abbrev pub with_region : Held → Region → Held
-with_region h r = holding h.graph.entry (table_in h) (blocks_in h) (edges_in h) (more region_rows (regions_in h) r) (handlers_in h) (unresolved_in h) (calls_in h)
+with_region h r = holding h.graph.entry (table_in h) (blocks_in h) (edges_in h) (more 32 (regions_in h) r) (handlers_in h) (unresolved_in h) (calls_in h)
 
 abbrev pub with_handler : Held → HandlerRecord → Held
-with_handler h r = holding h.graph.entry (table_in h) (blocks_in h) (edges_in h) (regions_in h) (more handler_rows (handlers_in h) r) (unresolved_in h) (calls_in h)
+with_handler h r = holding h.graph.entry (table_in h) (blocks_in h) (edges_in h) (regions_in h) (more 32 (handlers_in h) r) (unresolved_in h) (calls_in h)
 
 abbrev pub with_unresolved : Held → UnresolvedTransfer → Held
-with_unresolved h r = holding h.graph.entry (table_in h) (blocks_in h) (edges_in h) (regions_in h) (handlers_in h) (more unresolved_rows (unresolved_in h) r) (calls_in h)
+with_unresolved h r = holding h.graph.entry (table_in h) (blocks_in h) (edges_in h) (regions_in h) (handlers_in h) (more 1024 (unresolved_in h) r) (calls_in h)
 
 abbrev pub with_call : Held → CallSite → Held
-with_call h r = holding h.graph.entry (table_in h) (blocks_in h) (edges_in h) (regions_in h) (handlers_in h) (unresolved_in h) (more call_rows (calls_in h) r)
+with_call h r = holding h.graph.entry (table_in h) (blocks_in h) (edges_in h) (regions_in h) (handlers_in h) (unresolved_in h) (more 512 (calls_in h) r)
 
 abbrev pub entered : Held → ℕ → Held
 entered h n = holding n (table_in h) (blocks_in h) (edges_in h) (regions_in h) (handlers_in h) (unresolved_in h) (calls_in h)
@@ -69,25 +69,37 @@ nothing = holding 0 none none none none none none none
     none : {A : Type 0} → Part A
     none = record { count = 0; list = [] }
 
--- ---- the words that it does not use
+-- ---- the rows that it does not use
 
--- word k neither counts nor is a word of a record
-pub record Unused (l : List ℕ) (k : ℕ) : Type 0 where
-  pub behind : 8 ≤ k
-  pub beside : (i : ℕ) → i < 7 → Beside (section i) l k
+-- no count falls
+pub record Grows (c c' : Counts) : Type 0 where
+  pub table : c.table ≤ c'.table
+  pub blocks : c.blocks ≤ c'.blocks
+  pub edges : c.edges ≤ c'.edges
+  pub regions : c.regions ≤ c'.regions
+  pub handlers : c.handlers ≤ c'.handlers
+  pub unresolved : c.unresolved ≤ c'.unresolved
+  pub calls : c.calls ≤ c'.calls
 
--- each word that l' does not use is as it is in l
-abbrev pub Untouched : List ℕ → List ℕ → Type 0
-Untouched l l' = (k : ℕ) → Unused l' k → get_or l' k 0 ≡ get_or l k 0
+-- each row past the counts of g', and each spare word, is as it is in g
+pub record Untouched (g g' : Lent) : Type 0 where
+  pub spare : g'.spare ≡ g.spare
+  pub table : drop g'.counts.table g'.table ≡ drop g'.counts.table g.table
+  pub blocks : drop g'.counts.blocks g'.blocks ≡ drop g'.counts.blocks g.blocks
+  pub edges : drop g'.counts.edges g'.edges ≡ drop g'.counts.edges g.edges
+  pub regions : drop g'.counts.regions g'.regions ≡ drop g'.counts.regions g.regions
+  pub handlers : drop g'.counts.handlers g'.handlers ≡ drop g'.counts.handlers g.handlers
+  pub unresolved : drop g'.counts.unresolved g'.unresolved ≡ drop g'.counts.unresolved g.unresolved
+  pub calls : drop g'.counts.calls g'.calls ≡ drop g'.counts.calls g.calls
 
--- Stores took l to l', which holds h, and wrote no word but those that h uses. Nothing that l used is free again, so such
+-- Stores took g to g', which holds h, and wrote no row but those that h uses. No row that g used is free again, so such
 -- steps follow one another.
-pub record Stored (l l' : List ℕ) (h : Held) : Type 0 where
-  pub holds : held_in l' ≡ h
-  pub uses : (k : ℕ) → Unused l' k → Unused l k
-  pub kept : Untouched l l'
+pub record Stored (g g' : Lent) (h : Held) : Type 0 where
+  pub holds : held_of g' ≡ h
+  pub grows : Grows g.counts g'.counts
+  pub kept : Untouched g g'
 
--- the same where what l used may be free
-pub record Emptied (l l' : List ℕ) : Type 0 where
-  pub holds : held_in l' ≡ nothing
-  pub kept : Untouched l l'
+-- the same where what g used may be free
+pub record Emptied (g g' : Lent) : Type 0 where
+  pub holds : held_of g' ≡ nothing
+  pub kept : Untouched g g'

@@ -4,8 +4,11 @@ use Rattle.image.specs.Refusal.{Check, refusal, ◌then◌, unless}
 use Rattle.graph.specs.declared.record.TableEntry.{TableEntry}
 
 -- the entry at a position, of zeros past the end
+abbrev pub no_entry : TableEntry
+no_entry = record { address = 0; end = 0; has_end = 0; keeps = 0; flow = 0 }
+
 unfoldable pub entry_at : List TableEntry → ℕ → TableEntry
-entry_at t p = get_or t p (record { address = 0; end = 0; has_end = 0; keeps = 0; flow = 0 })
+entry_at t p = get_or t p no_entry
 
 -- an instruction starts at a
 unfoldable pub is_start : List TableEntry → ℕ → Bool

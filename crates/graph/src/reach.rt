@@ -1,6 +1,6 @@
 // The search for the reached blocks: a worklist over two sets, along edges that are linked by their source once.
 ghost use Rattle.std.specs.Prelude.{◌≡◌, ◌+◌, ◌≤◌, ◌<◌, length, replicate};
-ghost use Rattle.graph.specs.Words.{held_in};
+ghost use Rattle.graph.specs.Lent.{held_of};
 ghost use Rattle.graph.specs.Answers.{ReachedIn};
 ghost use Rattle.graph.specs.Search.{Finds, Ends, Linked, Roomy, Follows, seeing};
 
@@ -8,10 +8,10 @@ use crate::blockset::{BlockSet, has_in, lowest_below, put_in, take_from};
 use crate::error::AddressBuildError;
 use crate::rule::is_graph;
 use crate::store::blocks::block_count;
-use crate::store::edges::{edge_at, edge_count};
-use crate::store::{Words, entry};
+use crate::store::edges::{edge_count, edge_in};
+use crate::store::{Graph, entry};
 
-// Which blocks are reached, and how many; where the words hold no graph (21), none.
+// Which blocks are reached, and how many; where no graph is held (21), none.
 #[derive(Clone, Copy)]
 pub struct ReachedSet {
     pub found: Result<(), AddressBuildError>,
@@ -19,8 +19,8 @@ pub struct ReachedSet {
     pub count: usize,
 }
 
-pub fn reached(g: &Words) -> ReachedSet
-    ensures { ReachedIn (held_in g.now) result }
+pub fn reached(g: &Graph) -> ReachedSet
+    ensures { ReachedIn (held_of g.now) result }
 {
     if !is_graph(g) {
         return ReachedSet {
@@ -39,9 +39,9 @@ pub fn reached(g: &Words) -> ReachedSet
 
 // The blocks that are reached in a graph whose ends exist.
 #[tactic(auto, using(crate::proofs::RecordLaws::block_most, crate::proofs::RecordLaws::edge_most))]
-fn reach(g: &Words) -> BlockSet
-    requires { Ends (held_in g.now).graph }
-    ensures { Finds (held_in g.now).graph result.words }
+fn reach(g: &Graph) -> BlockSet
+    requires { Ends (held_of g.now).graph }
+    ensures { Finds (held_of g.now).graph result.words }
 {
     if block_count(g) <= 64 && edge_count(g) <= 256 {
         reach_within::<64, 256>(g)
@@ -51,12 +51,12 @@ fn reach(g: &Words) -> BlockSet
 }
 
 // The same with room for the links of so many blocks and edges.
-fn reach_within<const BLOCKS: usize, const EDGES: usize>(g: &Words) -> BlockSet
-    requires ends { Ends (held_in g.now).graph }
-    requires blocks { length (held_in g.now).graph.blocks ≤ BLOCKS }
-    requires edges { length (held_in g.now).graph.edges ≤ EDGES }
+fn reach_within<const BLOCKS: usize, const EDGES: usize>(g: &Graph) -> BlockSet
+    requires ends { Ends (held_of g.now).graph }
+    requires blocks { length (held_of g.now).graph.blocks ≤ BLOCKS }
+    requires edges { length (held_of g.now).graph.edges ≤ EDGES }
     requires small { BLOCKS + EDGES ≤ 65536 }
-    ensures { Finds (held_in g.now).graph result.words }
+    ensures { Finds (held_of g.now).graph result.words }
 {
     let mut head = [0u16; BLOCKS];
     let mut next = [0u16; EDGES];
@@ -65,23 +65,23 @@ fn reach_within<const BLOCKS: usize, const EDGES: usize>(g: &Words) -> BlockSet
 }
 
 // Links the edges by their source, the last first, so that a block's edges are met in their order.
-pub fn link(g: &Words, head: &mut [u16], next: &mut [u16])
-    requires { Ends (held_in g.now).graph × Roomy (held_in g.now).graph head.old next.old × (head.old ≡ replicate (length head.old) 0) }
-    ensures { Linked (held_in g.now).graph head.new next.new 0 × Roomy (held_in g.now).graph head.new next.new }
+pub fn link(g: &Graph, head: &mut [u16], next: &mut [u16])
+    requires { Ends (held_of g.now).graph × Roomy (held_of g.now).graph head.old next.old × (head.old ≡ replicate (length head.old) 0) }
+    ensures { Linked (held_of g.now).graph head.new next.new 0 × Roomy (held_of g.now).graph head.new next.new }
 {
     for i in (0..edge_count(g)).rev() {
-        let b = edge_at(g, i).source as usize;
+        let b = edge_in(g, i).source as usize;
         next[i] = head[b];
         head[b] = (i + 1) as u16;
     }
 }
 
 // From the entry on: the lowest pending block is followed, until none is pending.
-fn walk(g: &Words, head: &[u16], next: &[u16]) -> BlockSet
-    requires ends { Ends (held_in g.now).graph }
-    requires room { Roomy (held_in g.now).graph head.now next.now }
-    requires links { Linked (held_in g.now).graph head.now next.now 0 }
-    ensures { Finds (held_in g.now).graph result.words }
+fn walk(g: &Graph, head: &[u16], next: &[u16]) -> BlockSet
+    requires ends { Ends (held_of g.now).graph }
+    requires room { Roomy (held_of g.now).graph head.now next.now }
+    requires links { Linked (held_of g.now).graph head.now next.now 0 }
+    ensures { Finds (held_of g.now).graph result.words }
 {
     let blocks = block_count(g);
     let start = entry(g) as usize;
@@ -98,23 +98,23 @@ fn walk(g: &Words, head: &[u16], next: &[u16]) -> BlockSet
 
 // Follows the edges from b. There is no slice to go over: each link says where the next one stands.
 fn follow(
-    g: &Words,
+    g: &Graph,
     head: &[u16],
     next: &[u16],
     b: usize,
     seen: &mut [u64; 16],
     pending: &mut [u64; 16],
 )
-    requires ends { Ends (held_in g.now).graph }
-    requires room { Roomy (held_in g.now).graph head.now next.now }
-    requires links { Linked (held_in g.now).graph head.now next.now 0 }
-    requires there { b < length (held_in g.now).graph.blocks }
-    ensures { Follows (held_in g.now).graph b (length (held_in g.now).graph.edges) seen.old pending.old seen.new pending.new }
+    requires ends { Ends (held_of g.now).graph }
+    requires room { Roomy (held_of g.now).graph head.now next.now }
+    requires links { Linked (held_of g.now).graph head.now next.now 0 }
+    requires there { b < length (held_of g.now).graph.blocks }
+    ensures { Follows (held_of g.now).graph b (length (held_of g.now).graph.edges) seen.old pending.old seen.new pending.new }
 {
     let mut at = head[b] as usize;
     while at != 0 {
         let e = at - 1;
-        see(seen, pending, edge_at(g, e).target as usize);
+        see(seen, pending, edge_in(g, e).target as usize);
         at = next[e] as usize;
     }
 }

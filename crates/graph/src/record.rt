@@ -1,7 +1,8 @@
-// The records of a graph, as words. A graph that is handed in may hold any word in each of them.
+// The records of a graph. Each field is a word, and a graph that is handed in may hold any word in each of them.
 
 // One instruction of the table. A target and cases stay in the image.
-#[derive(Clone, Copy)]
+#[repr(C)]
+#[derive(Clone, Copy, Default)]
 pub struct TableEntry {
     pub address: u64,
     pub end: u64,
@@ -11,14 +12,16 @@ pub struct TableEntry {
 }
 
 // A run of the table: `count` instructions from position `first` on.
-#[derive(Clone, Copy)]
+#[repr(C)]
+#[derive(Clone, Copy, Default)]
 pub struct Block {
     pub first: u64,
     pub count: u64,
 }
 
 // An edge with its AddressEdgeInfo: `number` is what the role carries (or a given edge's payload), `key` a case's key.
-#[derive(Clone, Copy)]
+#[repr(C)]
+#[derive(Clone, Copy, Default)]
 pub struct Edge {
     pub source: u64,
     pub target: u64,
@@ -31,7 +34,8 @@ pub struct Edge {
 }
 
 // A protected range with its set of blocks and how many handlers it has.
-#[derive(Clone, Copy)]
+#[repr(C)]
+#[derive(Clone, Copy, Default)]
 pub struct Region {
     pub has_parent: u64,
     pub parent: u64,
@@ -42,7 +46,8 @@ pub struct Region {
 }
 
 // Handler `place` of `region`. Its input index is its place in the graph's list: the handler's reference.
-#[derive(Clone, Copy)]
+#[repr(C)]
+#[derive(Clone, Copy, Default)]
 pub struct HandlerRecord {
     pub region: u64,
     pub place: u64,
@@ -52,7 +57,8 @@ pub struct HandlerRecord {
 }
 
 // A transfer whose target starts no instruction. Its role tells whether it has a target and a case index.
-#[derive(Clone, Copy)]
+#[repr(C)]
+#[derive(Clone, Copy, Default)]
 pub struct UnresolvedTransfer {
     pub source: u64,
     pub target: u64,
@@ -61,9 +67,23 @@ pub struct UnresolvedTransfer {
 }
 
 // A flattened call.
-#[derive(Clone, Copy)]
+#[repr(C)]
+#[derive(Clone, Copy, Default)]
 pub struct CallSite {
     pub source: u64,
     pub has_target: u64,
     pub target: u64,
+}
+
+// How many records of each kind there are.
+#[repr(C)]
+#[derive(Clone, Copy)]
+pub struct Counts {
+    pub table: u64,
+    pub blocks: u64,
+    pub edges: u64,
+    pub regions: u64,
+    pub handlers: u64,
+    pub unresolved: u64,
+    pub calls: u64,
 }

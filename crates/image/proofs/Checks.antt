@@ -3,7 +3,6 @@
 --     then_left, then_right        what is clear in a row is clear by itself; unless_clear, field_clear, byte_clear likewise
 --     checks_each                  so is each of n checks
 --     not_clear                    what is refused is not clear
---     field_there                  the bytes of a field that is clear are there
 --     place_next                   the place of the next record
 --     product                      a product of two numbers of 32 bits
 -- Assumes nothing.
@@ -61,14 +60,6 @@ field_clear l at w good h = go (leb (at + w) (length l)) h
   where
     go : (there : Bool) → cond there (bad at good) (refused (refusal 1 (length l) 0)) ≡ clear → good ≡ true
     go true e = unless_clear good (refusal 1 at 0) e
-    go false e = absurd (let z : ◌≡◌ {A = ℕ} 0 1 = cc in omega arith)
-
-pub field_there : (l : List ℕ) (at w : ℕ) (good : Bool) → field l at w good ≡ clear → at + w ≤ length l
-unfolding field
-field_there l at w good h = leb-true (at + w) (length l) (go (leb (at + w) (length l)) h)
-  where
-    go : (there : Bool) → cond there (bad at good) (refused (refusal 1 (length l) 0)) ≡ clear → there ≡ true
-    go true e = refl
     go false e = absurd (let z : ◌≡◌ {A = ℕ} 0 1 = cc in omega arith)
 
 pub byte_clear : (l : List ℕ) (at most : ℕ) → byte l at most ≡ clear → le1 l at ≤ most

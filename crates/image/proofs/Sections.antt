@@ -12,21 +12,16 @@ use Prim.Native.Nat.{ℕ, ◌+◌, ◌≤◌}
 use native.Mathlib.Nat.{min-le_right}
 use native.Mathlib.Omega.{arith}
 use borrow.Author.Tests.{leb-true}
-use lib.Dec.{leb}
 use Rattle.image.specs.Little.{le4}
-use Rattle.image.specs.Refusal.{refusal, Check, clear, ◌then◌, unless}
-use Rattle.image.specs.Form.{bad, used4}
-use Rattle.image.specs.Read.{width_of, limit_of, adds, count_form, section_at, code_layout_of, end_of}
+use Rattle.image.specs.Refusal.{clear}
+use Rattle.image.specs.Read.{width_of, limit_of, count_form, section_at, code_layout_of, end_of}
 use Rattle.image.specs.Kind.{Kind, Instructions, Cases, Sources, Edges, Handlers, Routes, Paths, Steps}
 use Rattle.image.proofs.Checks.{then_left, then_right, unless_clear}
 
 module _ (k : Kind) (l : List ℕ) (at : ℕ) where
   module _ (used : Bool) (sum : Option ℕ) (h : count_form k l at used sum ≡ clear) where
     pub count-within : le4 l at ≤ limit_of k
-    count-within =
-        let limit : Check = unless (leb (le4 l at) (limit_of k)) (refusal 2 at 0) in
-        let both = then_left (used4 l at used then limit) (bad at (adds sum (le4 l at))) h in
-        leb-true (le4 l at) (limit_of k) (unless_clear _ (refusal 2 at 0) (then_right (used4 l at used) limit both))
+    count-within = grind (arith, then_left, then_right, unless_clear, leb-true)
 
 pub width_least : (k : Kind) → 9 ≤ width_of k
 width_least Instructions = omega arith

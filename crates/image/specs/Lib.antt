@@ -5,8 +5,10 @@ pub mod Kind
 pub mod Form
 pub mod Verdict
 pub mod Image
+pub mod Table
 pub mod Read
 pub mod Scanned
 pub mod There
 pub mod Deal
 pub mod Accepted
+pub mod Whole

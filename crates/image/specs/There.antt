@@ -2,6 +2,7 @@
 use Rattle.std.specs.Prelude.{◌≡◌, List, ℕ, ◌≤◌, length, Result, Ok, Err}
 use Rattle.image.specs.Image.{place_in}
 use Rattle.image.specs.declared.section.Section.{Section}
+use Rattle.image.specs.declared.section.CodeLayout.{CodeLayout}
 use Rattle.image.specs.declared.section.RouteLayout.{RouteLayout}
 use Rattle.image.specs.declared.section.Layout.{Layout}
 use Rattle.image.specs.declared.form.ImageError.{ImageError}
@@ -20,6 +21,14 @@ pub record RoutesThere (l : List ℕ) (y : RouteLayout) : Type 0 where
 abbrev pub RoutesReadThere : List ℕ → Result RouteLayout ImageError → Type 0
 RoutesReadThere l (Ok y) = RoutesThere l y
 RoutesReadThere l (Err e) = Unit {0}
+
+-- all of the five sections before them
+pub record CodeThere (l : List ℕ) (y : CodeLayout) : Type 0 where
+  pub instructions_there : Holds l y.instructions 31
+  pub cases_there : Holds l y.cases 12
+  pub sources_there : Holds l y.sources 12
+  pub edges_there : Holds l y.edges 13
+  pub handlers_there : Holds l y.handlers 29
 
 -- all of the eight sections of an image
 pub record ImageThere (l : List ℕ) (y : Layout) : Type 0 where

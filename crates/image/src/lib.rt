@@ -10,3 +10,5 @@ pub mod read;
 pub mod record;
 mod scan;
 pub mod section;
+pub mod table;
+pub mod whole;

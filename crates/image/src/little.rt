@@ -50,15 +50,21 @@ pub fn octet(s: &[u8], at: usize) -> u64
     requires { at + 8 ≤ length s.now }
     ensures { result ≡ le8 s.now at }
 {
-    quad(s, at) + 0x100000000 * quad(s, at + 4)
+    u64::from_le_bytes([
+        s[at],
+        s[at + 1],
+        s[at + 2],
+        s[at + 3],
+        s[at + 4],
+        s[at + 5],
+        s[at + 6],
+        s[at + 7],
+    ])
 }
 
 pub fn quad(s: &[u8], at: usize) -> u64
     requires { at + 4 ≤ length s.now }
     ensures { (result ≡ le4 s.now at) × (result < 4294967296) }
 {
-    u64::from(s[at])
-        + 0x100 * u64::from(s[at + 1])
-        + 0x10000 * u64::from(s[at + 2])
-        + 0x1000000 * u64::from(s[at + 3])
+    u64::from(u32::from_le_bytes([s[at], s[at + 1], s[at + 2], s[at + 3]]))
 }

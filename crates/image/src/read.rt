@@ -5,14 +5,14 @@ ghost use Rattle.std.specs.Prelude.{◌≡◌, ◌<◌, IfOk, Some, None};
 ghost use Rattle.image.specs.Verdict.{check_of};
 ghost use Rattle.image.specs.Read.{read_image, read_routes, section_at, end_of, children_of, pair_form, code_form, code_layout_of, routes_form, route_layout_at, end_form};
 ghost use Rattle.image.specs.Scanned.{image_answer, routes_answer};
-ghost use Rattle.image.specs.There.{RoutesReadThere, ImageReadThere};
+ghost use Rattle.image.specs.There.{Holds, CodeThere, RoutesThere, RoutesReadThere, ImageReadThere};
 
 use crate::form::{ImageError, header_form};
 use crate::kinds::Record;
 use crate::record::{
     Case, GivenEdge, GivenSource, Handler, Instruction, Path, Route, Step, header_from,
 };
-use crate::scan::read_section;
+use crate::scan::{read_section, section_of};
 use crate::section::{CodeLayout, Layout, RouteLayout, Section, end_of};
 
 // A section and that of its children, where this one ends, and how many children it has in turn.
@@ -24,7 +24,7 @@ pub struct PairRead {
     pub grandchildren: u64,
 }
 
-#[tactic(auto, using(crate::proofs::ThereLaws::there, crate::proofs::Sections::ends), unfolding(crate::specs::Read::read_image, crate::specs::Read::image_form, crate::specs::Read::layout_of))]
+#[tactic(auto, using(crate::proofs::Sections::ends), unfolding(crate::specs::Read::read_image, crate::specs::Read::image_form, crate::specs::Read::layout_of))]
 pub fn read_image(s: &[u8]) -> Result<Layout, ImageError>
     ensures answer { image_answer s.now result ≡ read_image s.now }
     ensures there { ImageReadThere s.now result }
@@ -41,7 +41,7 @@ pub fn read_image(s: &[u8]) -> Result<Layout, ImageError>
     })
 }
 
-#[tactic(auto, using(crate::proofs::ThereLaws::there), unfolding(crate::specs::Read::read_routes))]
+#[tactic(auto, unfolding(crate::specs::Read::read_routes))]
 pub fn read_routes(s: &[u8]) -> Result<RouteLayout, ImageError>
     ensures answer { routes_answer s.now result ≡ read_routes s.now }
     ensures there { RoutesReadThere s.now result }
@@ -66,6 +66,7 @@ fn check_end(s: &[u8], end: usize) -> Result<(), ImageError>
 fn read_code(s: &[u8], given: bool) -> Result<CodeLayout, ImageError>
     ensures check { check_of result ≡ code_form s.now given }
     ensures layout { IfOk result (λ y. y ≡ code_layout_of s.now) }
+    ensures there { IfOk result (λ y. CodeThere s.now y) }
 {
     let instructions = read_pair::<Instruction, Case>(s, 12, true)?;
     let sources = read_pair::<GivenSource, GivenEdge>(s, instructions.end, given)?;
@@ -75,7 +76,7 @@ fn read_code(s: &[u8], given: bool) -> Result<CodeLayout, ImageError>
         cases: instructions.children,
         sources: sources.parents,
         edges: sources.children,
-        handlers: handlers.section,
+        handlers: section_of::<Handler>(sources.end, handlers.count),
     })
 }
 
@@ -85,13 +86,14 @@ fn read_route_sections(s: &[u8], at: usize, used: bool) -> Result<RouteLayout, I
     requires { at < 8388608 }
     ensures check { check_of result ≡ routes_form s.now at used }
     ensures layout { IfOk result (λ y. y ≡ route_layout_at s.now at) }
+    ensures there { IfOk result (λ y. RoutesThere s.now y) }
 {
     let routes = read_pair::<Route, Path>(s, at, used)?;
     let steps = read_section::<Step>(s, routes.end, used, Some(routes.grandchildren))?;
     Ok(RouteLayout {
         routes: routes.parents,
         paths: routes.children,
-        steps: steps.section,
+        steps: section_of::<Step>(routes.end, steps.count),
     })
 }
 
@@ -103,12 +105,14 @@ fn read_pair<P: Record, C: Record>(s: &[u8], at: usize, used: bool) -> Result<Pa
     ensures children { IfOk result (λ r. r.children ≡ section_at C.kind s.now (end_of (section_at P.kind s.now at))) }
     ensures end { IfOk result (λ r. r.end ≡ end_of (section_at C.kind s.now (end_of (section_at P.kind s.now at)))) }
     ensures grandchildren { IfOk result (λ r. r.grandchildren ≡ children_of C.kind s.now (section_at C.kind s.now (end_of (section_at P.kind s.now at)))) }
+    ensures parents_there { IfOk result (λ r. Holds s.now r.parents P.WIDTH) }
+    ensures children_there { IfOk result (λ r. Holds s.now r.children C.WIDTH) }
 {
     let parents = read_section::<P>(s, at, used, None)?;
     let children = read_section::<C>(s, parents.end, used, Some(parents.children))?;
     Ok(PairRead {
-        parents: parents.section,
-        children: children.section,
+        parents: section_of::<P>(at, parents.count),
+        children: section_of::<C>(parents.end, children.count),
         end: children.end,
         grandchildren: children.children,
     })

@@ -17,10 +17,10 @@ pub struct Scanned {
     pub children: u64,
 }
 
-// A section, where it ends, and how many children its records have in all.
+// How many records a section has, where they end, and how many children they have in all.
 #[derive(Clone, Copy)]
 pub struct SectionRead {
-    pub section: Section,
+    pub count: u32,
     pub end: usize,
     pub children: u64,
 }
@@ -45,6 +45,7 @@ fn read_count<R: Record>(
     requires { at < 16777216 }
     ensures check { check_of result ≡ count_form R.kind s.now at used sum }
     ensures value { IfOk result (λ n. n ≡ le4 s.now at) }
+    ensures there { IfOk result (λ _. at + 4 ≤ length s.now) }
 {
     check_used4(s, at, used)?;
     let count = quad(s, at);
@@ -60,9 +61,11 @@ fn scan_records<R: Record>(s: &[u8], base: usize, n: usize) -> Result<Scanned, I
     requires behind { 4 ≤ base }
     requires low { base < 1073741824 }
     requires few { n ≤ 512 }
+    requires there { base ≤ length s.now }
     ensures check { check_of result ≡ records_form R.kind s.now base n }
     ensures end { IfOk result (λ r. r.end ≡ base + R.WIDTH * n) }
     ensures children { IfOk result (λ r. r.children ≡ children_in R.kind s.now base n) }
+    ensures there { IfOk result (λ r. r.end ≤ length s.now) }
 {
     let mut at = base;
     let mut children: u64 = 0;
@@ -83,20 +86,28 @@ pub fn read_section<R: Record>(
 ) -> Result<SectionRead, ImageError>
     requires { at < 16777216 }
     ensures check { check_of result ≡ section_form R.kind s.now at used sum }
-    ensures section { IfOk result (λ r. r.section ≡ section_at R.kind s.now at) }
+    ensures count { IfOk result (λ r. r.count ≡ (section_at R.kind s.now at).count) }
     ensures end { IfOk result (λ r. r.end ≡ end_of (section_at R.kind s.now at)) }
     ensures children { IfOk result (λ r. r.children ≡ children_of R.kind s.now (section_at R.kind s.now at)) }
+    ensures there { IfOk result (λ r. at + 4 + R.WIDTH * r.count ≤ length s.now) }
 {
     let count = read_count::<R>(s, at, used, sum)?;
     let scanned = scan_records::<R>(s, at + 4, count as usize)?;
-    let section = Section {
-        at: (at + 4) as u32,
-        width: R::WIDTH as u32,
-        count: count as u32,
-    };
     Ok(SectionRead {
-        section,
+        count: count as u32,
         end: scanned.end,
         children: scanned.children,
     })
+}
+
+// Where the records of a section stand whose count stands at `at`.
+pub fn section_of<R: Record>(at: usize, count: u32) -> Section
+    requires { at < 16777216 }
+    ensures { result ≡ record { at = at + 4; width = R.WIDTH; count = count } }
+{
+    Section {
+        at: (at + 4) as u32,
+        width: R::WIDTH as u32,
+        count,
+    }
 }

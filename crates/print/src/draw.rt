@@ -4,11 +4,11 @@ ghost use Rattle.text.specs.Chart.{chart_from};
 ghost use Rattle.print.specs.Drawn.{drawn_lines};
 
 use graph::error::AddressBuildError;
-use graph::store::Words;
+use graph::store::Graph;
 use sequence::{SequenceError, build_sequence};
 use unwind::hops::Hops;
 
-pub fn draw(s: &[u8], g: &mut Words, h: &mut Hops) -> Result<(), AddressBuildError>
+pub fn draw(s: &[u8], g: &mut Graph, h: &mut Hops) -> Result<(), AddressBuildError>
     ensures { drawn_lines s.now g.new h.new result ≡ chart_from s.now }
 {
     match build_sequence(s, g, h) {

@@ -1,4 +1,4 @@
-// A chart on standard output. No contract can say what is written: `draw` says what the words hold whose lines are printed,
+// A chart on standard output. No contract can say what is written: `draw` says what the graph and the hops hold whose lines are printed,
 // and each line is what `text` says it is.
 #![tactic(auto)]
 
@@ -7,7 +7,7 @@ mod draw;
 use crate::draw::draw;
 use graph::error::AddressBuildError;
 use graph::reach::reached;
-use graph::store::Words;
+use graph::store::{Graph, zeros};
 use image::section::RouteLayout;
 use text::chart::{line_at, line_count, reached_line, refused_line};
 use text::hops::{HopText, hop_line, lists_of};
@@ -16,7 +16,7 @@ use unwind::hops::{Hops, hop_count};
 
 // The chart of an image.
 pub fn print_chart(s: &[u8]) {
-    let mut g = [0u64; 43872];
+    let mut g = zeros();
     let mut h = [0u64; 18440];
     match draw(s, &mut g, &mut h) {
         Err(e) => print_refusal(e),
@@ -30,7 +30,7 @@ pub fn print_chart(s: &[u8]) {
 }
 
 // All lines of a graph up to the hops.
-fn print_graph(g: &Words) {
+fn print_graph(g: &Graph) {
     let mut line = [0u8; 256];
     for k in 0..line_count(g) {
         let n = line_at(g, k, &mut line);
@@ -56,7 +56,7 @@ fn print_lists(h: &Hops, s: &[u8], y: RouteLayout, i: usize, line: &mut HopText)
 }
 
 // How many blocks are reached.
-fn print_reached(g: &Words) {
+fn print_reached(g: &Graph) {
     let mut line = [0u8; 256];
     let n = reached_line(reached(g).count, &mut line);
     io::write_all(1, &line[..n]);

@@ -1,5 +1,5 @@
 -- What a build and an addition of the image's own routes give together.
---     laid_on                      words that are laid over words that were laid
+--     laid_on                      a graph that is laid over one that was laid
 --     own_checked                  the checks of an image's own routes, where its graph is built
 --     unrouted_limits              routes that are refused behind a build are so by 18, 19 or 20
 --     Stands, stands               a graph that was built of an image
@@ -11,12 +11,11 @@
 -- Assumes nothing.
 use mathlib.Core.Path.{◌≡◌, refl, sym, ap, subst, ◌∙◌}
 use mathlib.Core.Bool.{Bool, true, false, cond}
-use mathlib.Core.Logic.{inl, inr}
 use mathlib.Core.List.{List, []}
+use Rattle.graph.specs.declared.store.Graph.{Graph as Lent}
 use Rattle.std.proofs.Common.{Result, Ok, Err}
 use Rattle.std.specs.Result.{IsErrAnd, MatchResult}
-use Prim.Native.Nat.{ℕ, zero, suc, ◌≤◌, ◌<◌}
-use native.Mathlib.Nat.{mul-le-mul_left}
+use Prim.Native.Nat.{ℕ}
 use native.Mathlib.Omega.{arith}
 use borrow.Author.Tests.{eq-eqb, ne_eqb}
 use lib.Dec.{eqb}
@@ -31,9 +30,9 @@ use Rattle.image.specs.declared.section.Layout.{Layout}
 use Rattle.image.specs.Verdict.{refusal_of as form_refusal}
 use Rattle.image.specs.declared.form.ImageError.{ImageError}
 use Rattle.image.proofs.Accepted.{accepted_routes}
-use Rattle.graph.specs.Section.{Section, size, Beside}
 use Rattle.graph.specs.Graph.{Graph, Held, held}
-use Rattle.graph.specs.Words.{section, held_in}
+use Rattle.graph.specs.declared.record.Counts.{Counts}
+use Rattle.graph.specs.Lent.{Sized, held_of}
 use Rattle.graph.specs.Error.{refusal_of}
 use Rattle.graph.specs.Fold.{checks}
 use Rattle.graph.specs.Build.{Outcome as Building, built, refused as not_built, outcome, build_check, graph_from, build_of, build_read, build_from}
@@ -42,7 +41,8 @@ use Rattle.graph.specs.Answers.{Laid}
 use Rattle.graph.specs.declared.record.Block.{Block}
 use Rattle.graph.specs.declared.record.Edge.{Edge}
 use Rattle.graph.specs.declared.error.AddressBuildError.{AddressBuildError}
-use Rattle.graph.proofs.RecordLaws.{entry_count, block-count, edge_count, region-count, handler-count, unresolved_count, call_count}
+use Rattle.graph.specs.Stored.{Grows}
+use Rattle.graph.proofs.StoredLaws.{untouched_then}
 use Rattle.addition.specs.Add.{route_check, extended, Addition, addition, Outcome as Adding, added, refused as not_added, add_routes_to, add_read, add_routes}
 use Rattle.addition.specs.Demand.{Conditions, Demand3}
 use Rattle.addition.proofs.Accepted.{accepted}
@@ -60,30 +60,26 @@ use Rattle.sequence.specs.declared.SequenceError.{SequenceError}
 use Rattle.sequence.specs.declared.SequenceError.TheVariants.{Unrouted, Refused}
 use Rattle.sequence.specs.Sequences.{whole, unrouted, routed, with_routes, sequence_from, answer_of, Leaves, Gives}
 
--- ---- words that are laid twice
+-- ---- graphs that are laid twice
 
 -- a graph with more blocks and edges has no fewer records of any kind
-grown : (g : Graph) (bs : List Block) (es : List Edge) (v w : List ℕ) → (held_in v).graph ≡ g → (held_in w).graph ≡ extended g bs es → (i : ℕ) → i < 7 → size (section i) v ≤ size (section i) w
-unfolding extended
-grown g bs es v w was is zero h = omega (arith, entry_count v, entry_count w, ap (λ (x : Graph). length x.table) was, ap (λ (x : Graph). length x.table) is)
-grown g bs es v w was is (suc zero) h = omega (arith, block-count v, block-count w, ap (λ (x : Graph). length x.blocks) was, ap (λ (x : Graph). length x.blocks) is, length-append g.blocks bs)
-grown g bs es v w was is (suc (suc zero)) h = omega (arith, edge_count v, edge_count w, ap (λ (x : Graph). length x.edges) was, ap (λ (x : Graph). length x.edges) is, length-append g.edges es)
-grown g bs es v w was is (suc (suc (suc zero))) h = omega (arith, region-count v, region-count w, ap (λ (x : Graph). length x.regions) was, ap (λ (x : Graph). length x.regions) is)
-grown g bs es v w was is (suc (suc (suc (suc zero)))) h = omega (arith, handler-count v, handler-count w, ap (λ (x : Graph). length x.handlers) was, ap (λ (x : Graph). length x.handlers) is)
-grown g bs es v w was is (suc (suc (suc (suc (suc zero))))) h = omega (arith, unresolved_count v, unresolved_count w, ap (λ (x : Graph). length x.unresolved) was, ap (λ (x : Graph). length x.unresolved) is)
-grown g bs es v w was is (suc (suc (suc (suc (suc (suc zero)))))) h = omega (arith, call_count v, call_count w, ap (λ (x : Graph). length x.calls) was, ap (λ (x : Graph). length x.calls) is)
-grown g bs es v w was is (suc (suc (suc (suc (suc (suc (suc i))))))) h = absurd (omega arith)
-
-beside_on : (s : Section) (v w : List ℕ) (k : ℕ) → size s v ≤ size s w → Beside s w k → Beside s v k
-beside_on s v w k h (inl before) = inl before
-beside_on s v w k h (inr behind) = inr (omega (arith, mul-le-mul_left s.stride h, behind))
-
-pub laid_on : {u v w : List ℕ} {f g : Graph} → ((i : ℕ) → i < 7 → size (section i) v ≤ size (section i) w) → Laid u v f → Laid v w g → Laid u w g
-laid_on {u} {v} {w} grows a b =
+grown : (g : Graph) (bs : List Block) (es : List Edge) (v w : Lent) → held_of v ≡ held g → held_of w ≡ held (extended g bs es) → Grows v.counts w.counts
+unfolding held_of held extended
+grown g bs es v w was is =
+    let before = ap (λ (x : Held). x.counts) was in
+    let now = ap (λ (x : Held). x.counts) is in
     record {
-      holds = b.holds;
-      kept = λ k unused. b.kept k unused ∙ a.kept k (record { behind = unused.behind; beside = λ i h. beside_on (section i) v w k (grows i h) (unused.beside i h) });
+      table = omega (arith, ap (λ (c : Counts). c.table) before, ap (λ (c : Counts). c.table) now);
+      blocks = omega (arith, ap (λ (c : Counts). c.blocks) before, ap (λ (c : Counts). c.blocks) now, length-append g.blocks bs);
+      edges = omega (arith, ap (λ (c : Counts). c.edges) before, ap (λ (c : Counts). c.edges) now, length-append g.edges es);
+      regions = omega (arith, ap (λ (c : Counts). c.regions) before, ap (λ (c : Counts). c.regions) now);
+      handlers = omega (arith, ap (λ (c : Counts). c.handlers) before, ap (λ (c : Counts). c.handlers) now);
+      unresolved = omega (arith, ap (λ (c : Counts). c.unresolved) before, ap (λ (c : Counts). c.unresolved) now);
+      calls = omega (arith, ap (λ (c : Counts). c.calls) before, ap (λ (c : Counts). c.calls) now);
     }
+
+pub laid_on : {u v w : Lent} {f g : Graph} → Grows v.counts w.counts → Laid u v f → Laid v w g → Laid u w g
+laid_on grows a b = record { holds = b.holds; kept = untouched_then a.kept grows b.kept }
 
 -- ---- an image's own routes
 
@@ -145,7 +141,7 @@ whole_added : (g : Graph) (a : Addition) (o : Adding) → whole a ≡ routed g o
 whole_added g a (added b) e = cc
 whole_added g a (not_added r) e = absurd (let z : ◌≡◌ {A = ℕ} 0 1 = cc in omega arith)
 
-module _ (l w h : List ℕ) (r : Result Unit SequenceError) where
+module _ (l : List ℕ) (w : Lent) (h : List ℕ) (r : Result Unit SequenceError) where
   spelled : answer_of l w h r ≡ sequence_from l → (g : Graph) (m : RouteImage) → build_from l ≡ built g → (le1 l 1 ≡ 0 → ⊥) → read_routes (route_bytes l) ≡ read m → r ≡ Ok tt → Conditions g (routes_of m) → Demand3 (routes_of m) (addition_in m w h)
   unfolding held with_routes sequence_from
   spelled answer g m is some found all conditions =
@@ -157,13 +153,13 @@ module _ (l w h : List ℕ) (r : Result Unit SequenceError) where
       ∙ ap (λ (b : Bool). cond b (whole (record { graph = g; hops = [] })) (routed g (add_routes (held g) (route_bytes l)))) (ne_eqb (le1 l 1) 0 some) in
       demand3 (held g) (route_bytes l) m (addition_in m w h) found (whole_added g (addition_in m w h) (add_routes (held g) (route_bytes l)) told) conditions
 
-  gives : {w₀ h₀ : List ℕ} → answer_of l w h r ≡ sequence_from l → Leaves w₀ w h₀ h r → Gives l w₀ w h₀ h r
+  gives : {w₀ : Lent} {h₀ : List ℕ} → answer_of l w h r ≡ sequence_from l → Leaves w₀ w h₀ h r → Gives l w₀ w h₀ h r
   gives answer leaves =
       record {
         answer = answer;
         leaves = leaves;
         spells = spelled answer;
-        limits = λ e is. unrouted_limits l (held_in w).graph (refusal_of e) (ap (answer_of l w h) (sym is) ∙ answer);
+        limits = λ e is. unrouted_limits l (held_of w).graph (refusal_of e) (ap (answer_of l w h) (sym is) ∙ answer);
       }
 
 -- ---- what is given
@@ -178,31 +174,31 @@ mapped (Ok _) o is = is
 mapped (Err e) (Err d) is = ap Err is
 mapped (Err e) (Ok _) is = absurd is
 
--- a graph that was built of an image, as the words hold it
-pub record Stands (l u v : List ℕ) (y : Layout) : Type 0 where
-  pub of_image : built (held_in v).graph ≡ build_of (image_in l y)
-  pub is : built (held_in v).graph ≡ build_from l
-  pub laid : Laid u v (held_in v).graph
-  pub graph : well_formed (held_in v) ≡ true
+-- a graph that was built of an image, as it is held
+pub record Stands (l : List ℕ) (u v : Lent) (y : Layout) : Type 0 where
+  pub of_image : built (held_of v).graph ≡ build_of (image_in l y)
+  pub is : built (held_of v).graph ≡ build_from l
+  pub laid : Laid u v (held_of v).graph
+  pub graph : well_formed (held_of v) ≡ true
 
 module _ (l : List ℕ) where
-  pub refused_gives : (u w h : List ℕ) (e : AddressBuildError) → not_built (refusal_of e) ≡ build_from l → w ≡ u → Gives l u w h h (Err (Refused e))
+  pub refused_gives : (u w : Lent) (h : List ℕ) (e : AddressBuildError) → not_built (refusal_of e) ≡ build_from l → w ≡ u → Gives l u w h h (Err (Refused e))
   unfolding with_routes sequence_from
   refused_gives u w h e is same = gives l w h (Err (Refused e)) (ap (with_routes l) is) (same, refl)
 
   -- a reading that is refused, and a build, as `?` hands them on
-  pub unread_gives : (u h : List ℕ) (x : ImageError) (r : Result Unit SequenceError) → refusing (form_refusal x) ≡ read_image l → IsErrAnd r (λ e. (a : AddressBuildError) × (e ≡ Refused a) × (refusal_of a ≡ form_refusal x)) → Gives l u u h h r
+  pub unread_gives : (u : Lent) (h : List ℕ) (x : ImageError) (r : Result Unit SequenceError) → refusing (form_refusal x) ≡ read_image l → IsErrAnd r (λ e. (a : AddressBuildError) × (e ≡ Refused a) × (refusal_of a ≡ form_refusal x)) → Gives l u u h h r
   unread_gives u h x (Err e) found is = rw is.1 (refused_gives u u h is.0 (read_refused l {A = Unit} u x (Err is.0) is.2 found) refl)
   unread_gives u h x (Ok _) found is = absurd is
 
-  pub unbuilt_gives : (u w h : List ℕ) (m : Image) (x : AddressBuildError) (r : Result Unit SequenceError) → read m ≡ read_image l → not_built (refusal_of x) ≡ build_of m → w ≡ u → IsErrAnd r (λ e. e ≡ Refused x) → Gives l u w h h r
+  pub unbuilt_gives : (u w : Lent) (h : List ℕ) (m : Image) (x : AddressBuildError) (r : Result Unit SequenceError) → read m ≡ read_image l → not_built (refusal_of x) ≡ build_of m → w ≡ u → IsErrAnd r (λ e. e ≡ Refused x) → Gives l u w h h r
   unbuilt_gives u w h m x (Err e) found is same err = rw err (refused_gives u w h x (is ∙ read_built l m found) same)
   unbuilt_gives u w h m x (Ok _) found is same err = absurd err
 
-  module _ (u v : List ℕ) (y : Layout) where
-    pub stands : read (image_in l y) ≡ read_image l → built (held_in v).graph ≡ build_of (image_in l y) → Laid u v (held_in v).graph → Stands l u v y
+  module _ (u v : Lent) (y : Layout) where
+    pub stands : read (image_in l y) ≡ read_image l → built (held_of v).graph ≡ build_of (image_in l y) → Laid u v (held_of v).graph → Stands l u v y
     stands found of laid =
-        let is : built (held_in v).graph ≡ build_from l = of ∙ read_built l (image_in l y) found in
+        let is : built (held_of v).graph ≡ build_from l = of ∙ read_built l (image_in l y) found in
         record { of_image = of; is = is; laid = laid; graph = graphed {A = Unit} l u v (Ok tt) is laid }
 
     module _ (s : Stands l u v y) where
@@ -210,10 +206,10 @@ module _ (l : List ℕ) where
       unfolding with_routes sequence_from row_hops
       plain_gives mode {h} {h'} none kept = gives l v h' (Ok tt) (rw (← s.is, eq-eqb (le1 l 1) 0 mode, none)) (s.laid, s.graph, kept)
 
-      pub checked : (n : ℕ) → read (image_in l y) ≡ read_image l → n ≡ length (held_in v).graph.blocks → RoutesChecked (held_in v) n (routes_in l y.routes)
+      pub checked : (n : ℕ) → read (image_in l y) ≡ read_image l → n ≡ length (held_of v).graph.blocks → RoutesChecked (held_of v) n (routes_in l y.routes)
       checked n found all =
           let m = image_in l y in
-          own_checked m (held_in v) n s.of_image s.graph (accepted_routes (route_bytes l) m.routes (routes_alone l m (sym found))) all
+          own_checked m (held_of v) n s.of_image s.graph (accepted_routes (route_bytes l) m.routes (routes_alone l m (sym found))) all
 
       module _ (mode : le1 l 1 ≡ 0 → ⊥) (found : read (image_in l y) ≡ read_image l) where
         abbrev m : RouteImage
@@ -222,17 +218,17 @@ module _ (l : List ℕ) where
         alone : read m ≡ read_routes (route_bytes l)
         alone = sym (routes_alone l (image_in l y) (sym found))
 
-        added_from : (o : Adding) → o ≡ add_routes (held_in v) (route_bytes l) → routed (held_in v).graph o ≡ sequence_from l
+        added_from : (o : Adding) → o ≡ add_routes (held_of v) (route_bytes l) → routed (held_of v).graph o ≡ sequence_from l
         unfolding with_routes sequence_from
-        added_from o e = rw (← s.is, ne_eqb (le1 l 1) 0 mode) (ap (routed (held_in v).graph) (e ∙ ap (λ (x : Held). add_routes x (route_bytes l)) s.laid.holds))
+        added_from o e = rw (← s.is, ne_eqb (le1 l 1) 0 mode) (ap (routed (held_of v).graph) (e ∙ ap (λ (x : Held). add_routes x (route_bytes l)) s.laid.holds))
 
-        pub routed_gives : (w h h' : List ℕ) (r : Result Unit AddressBuildError) → Adds m v w h h' r → Gives l u w h h' (sequence_of r)
+        pub routed_gives : (w : Lent) (h h' : List ℕ) (r : Result Unit AddressBuildError) → Sized v → Adds m v w h h' r → Gives l u w h h' (sequence_of r)
         unfolding addition
-        routed_gives w h h' (Ok _) adds =
+        routed_gives w h h' (Ok _) rows adds =
             let answer = read_answer (route_bytes l) v w h h' (Ok tt) s.graph m alone adds in
-            let is-addition = (accepted (held_in v).graph (routes_of m) (addition_in m w h') (sym adds.answer)).is in
+            let is-addition = (accepted (held_of v).graph (routes_of m) (addition_in m w h') (sym adds.answer)).is in
             gives l w h' (Ok tt) (added_from _ answer)
-            (laid_on (grown (held_in v).graph _ _ v w refl (sym (ap (λ (a : Addition). a.graph) is-addition))) s.laid adds.leaves.0, added_graphed (route_bytes l) v w h h' (Ok tt) answer adds.leaves, adds.leaves.1)
-        routed_gives w h h' (Err e) adds =
-            subst (λ (x : List ℕ). Gives l u x h h' (Err (Unrouted e))) (sym adds.leaves.0)
+            (laid_on (grown (held_of v).graph _ _ v w s.laid.holds (adds.leaves.0.holds ∙ ap held (sym (ap (λ (a : Addition). a.graph) is-addition)))) s.laid adds.leaves.0, added_graphed (route_bytes l) v w h h' (Ok tt) rows answer adds.leaves, adds.leaves.1)
+        routed_gives w h h' (Err e) rows adds =
+            subst (λ (x : Lent). Gives l u x h h' (Err (Unrouted e))) (sym adds.leaves.0)
             (gives l v h' (Err (Unrouted e)) (added_from _ (read_answer (route_bytes l) v w h h' (Err e) s.graph m alone adds)) (s.laid, s.graph, adds.leaves.1))

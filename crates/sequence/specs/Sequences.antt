@@ -1,4 +1,4 @@
--- A sequence with its own routes: what an image gives, and what is left of it in the words that are lent.
+-- A sequence with its own routes: what an image gives, and what is left of it in the graph and the hops that are lent.
 use Rattle.std.specs.Prelude.{true, cond, ◌≡◌, List, [], ℕ, ◌≤◌, eqb, get_or, Result, Ok, Err}
 use Rattle.image.specs.Little.{le1}
 use Rattle.image.specs.Refusal.{Refusal}
@@ -6,7 +6,8 @@ use Rattle.image.specs.Image.{RouteImage}
 use Rattle.image.specs.Read.{read, read_routes}
 use Rattle.image.specs.Deal.{routes_of}
 use Rattle.graph.specs.Graph.{Graph, held}
-use Rattle.graph.specs.Words.{held_in}
+use Rattle.graph.specs.Lent.{held_of}
+use Rattle.graph.specs.declared.store.Graph.{Graph as Lent}
 use Rattle.graph.specs.Error.{refusal_of}
 use Rattle.graph.specs.Build.{Outcome as Building, built, refused as not_built, build_from}
 use Rattle.graph.specs.WellFormed.{well_formed}
@@ -39,19 +40,19 @@ with_routes l (built g) = cond (eqb (le1 l 1) 0) (whole (record { graph = g; hop
 unfoldable pub sequence_from : List ℕ → Outcome
 sequence_from l = with_routes l (build_from l)
 
--- as the words hold it
-abbrev pub answer_of : List ℕ → List ℕ → List ℕ → Result Unit SequenceError → Outcome
+-- as they hold it
+abbrev pub answer_of : List ℕ → Lent → List ℕ → Result Unit SequenceError → Outcome
 answer_of l w h (Ok _) = whole (addition_in (image_of (read_routes (route_bytes l))) w h)
-answer_of l w h (Err (Unrouted e)) = unrouted (held_in w).graph (refusal_of e)
+answer_of l w h (Err (Unrouted e)) = unrouted (held_of w).graph (refusal_of e)
 answer_of l w h (Err (Refused e)) = refused (refusal_of e)
 
--- the words hold the graph, which 21 lets pass, and the hops, and each word that they do not use is as it was; refused, every word
-abbrev pub Leaves : List ℕ → List ℕ → List ℕ → List ℕ → Result Unit SequenceError → Type 0
-Leaves w w' h h' (Ok _) = Laid w w' (held_in w').graph × (well_formed (held_in w') ≡ true) × ((k : ℕ) → HopsUnused h' k → get_or h' k 0 ≡ get_or h k 0)
-Leaves w w' h h' (Err (Unrouted e)) = Laid w w' (held_in w').graph × (well_formed (held_in w') ≡ true) × (h' ≡ h)
+-- they hold the graph, which 21 lets pass, and the hops, and what these do not use is as it was; refused, all is
+abbrev pub Leaves : Lent → Lent → List ℕ → List ℕ → Result Unit SequenceError → Type 0
+Leaves w w' h h' (Ok _) = Laid w w' (held_of w').graph × (well_formed (held_of w') ≡ true) × ((k : ℕ) → HopsUnused h' k → get_or h' k 0 ≡ get_or h k 0)
+Leaves w w' h h' (Err (Unrouted e)) = Laid w w' (held_of w').graph × (well_formed (held_of w') ≡ true) × (h' ≡ h)
 Leaves w w' h h' (Err (Refused e)) = (w' ≡ w) × (h' ≡ h)
 
-pub record Gives (l w w' h h' : List ℕ) (r : Result Unit SequenceError) : Type 0 where
+pub record Gives (l : List ℕ) (w w' : Lent) (h h' : List ℕ) (r : Result Unit SequenceError) : Type 0 where
   pub answer : answer_of l w' h' r ≡ sequence_from l
   pub leaves : Leaves w w' h h' r
   -- DEMAND 3 of the graph that is built and the routes in the image

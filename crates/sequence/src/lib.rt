@@ -12,11 +12,12 @@ ghost use Rattle.sequence.specs.Sequences.{Gives};
 
 use builder::build::build_read;
 use graph::error::AddressBuildError;
-use graph::store::Words;
 use graph::store::blocks::block_count;
+use graph::store::{Graph, sized};
 use image::form::ImageError;
 use image::little::byte_at;
 use image::read::read_image;
+use image::whole::Image;
 use unwind::add::frames::add_checked;
 use unwind::hops::{Hops, empty_hops};
 
@@ -44,15 +45,17 @@ impl From<ImageError> for SequenceError {
 }
 
 // Of any bytes: the graph with its routes, and their hops.
-pub fn build_sequence(s: &[u8], g: &mut Words, h: &mut Hops) -> Result<(), SequenceError>
+pub fn build_sequence(s: &[u8], g: &mut Graph, h: &mut Hops) -> Result<(), SequenceError>
     ensures { Gives s.now g.old g.new h.old h.new result }
 {
-    let y = read_image(s)?;
-    build_read(s, y, g)?;
+    let layout = read_image(s)?;
+    let image = Image { bytes: s, layout };
+    build_read(&image, g)?;
     if byte_at(s, 1) == 0 {
         empty_hops(h);
         return Ok(());
     }
+    sized(g);
     let built = block_count(g);
-    add_checked(g, built, s, y.routes, h).map_err(SequenceError::Unrouted)
+    add_checked(g, built, s, layout.routes, h).map_err(SequenceError::Unrouted)
 }

@@ -10,12 +10,12 @@ use Prim.Native.Nat.{ℕ, suc, ◌+◌, ◌≤◌, ◌<◌}
 use native.Mathlib.Omega.{arith}
 use lib.ListN.{length, get_or, length-append, get_or-append, get_or-eq_default}
 use lib.Seq.{get_or-append-add}
+use Rattle.graph.specs.declared.store.Graph.{Graph as Lent}
 use Rattle.image.specs.Image.{table}
 use Rattle.graph.specs.Graph.{Graph}
-use Rattle.graph.specs.Words.{held_in, region_rows, handler_rows, unresolved_rows, call_rows}
+use Rattle.graph.specs.Lent.{held_of}
 use Rattle.graph.proofs.FoldLaws.{length-table, get_or_table}
-use Rattle.graph.proofs.SectionLaws.{size_most}
-use Rattle.graph.proofs.RecordLaws.{block_most, edge_most, region-count, handler-count, unresolved_count, call_count}
+use Rattle.graph.proofs.RecordLaws.{block_most, edge_most, region_most, handler_most, unresolved_most, call_most}
 use Rattle.text.specs.Chart.{built_line, block_line, edge_line, region_line, handler_line, unresolved_line, call_line, graph_lines}
 
 abbrev pub from_calls : Graph → List (List ℕ)
@@ -97,9 +97,9 @@ pub lines_length : (g : Graph) →
 unfolding graph_lines
 lines_length g = simp (length-append, length-table) (omega arith)
 
-pub records_few : (l : List ℕ) →
-    length (held_in l).graph.blocks + length (held_in l).graph.edges + length (held_in l).graph.regions + length (held_in l).graph.handlers + length (held_in l).graph.unresolved + length (held_in l).graph.calls ≤ 6720
+pub records_few : (l : Lent) →
+    length (held_of l).graph.blocks + length (held_of l).graph.edges + length (held_of l).graph.regions + length (held_of l).graph.handlers + length (held_of l).graph.unresolved + length (held_of l).graph.calls ≤ 6720
 records_few l =
-    omega (arith, block_most l, edge_most l, region-count l, size_most region_rows l, handler-count l, size_most handler_rows l, unresolved_count l, size_most unresolved_rows l, call_count l, size_most call_rows l)
+    omega (arith, block_most l, edge_most l, region_most l, handler_most l, unresolved_most l, call_most l)
 
 pub ruleset lines = (at_start, at_block, at_edge, at_region, at_handler, at_unresolved, at_call, at_end, lines_length)

@@ -1,6 +1,6 @@
 // The chart, line by line: the lines of a graph by their number, the line of what is reached, and that of a refusal.
 ghost use Rattle.std.specs.Prelude.{[], ◌≡◌, length, get_or};
-ghost use Rattle.graph.specs.Words.{held_in};
+ghost use Rattle.graph.specs.Lent.{held_of};
 ghost use Rattle.graph.specs.Error.{refusal_of};
 ghost use Rattle.text.specs.Put.{Told};
 ghost use Rattle.text.specs.Chart.{graph_lines, reached_line, refused_line};
@@ -12,7 +12,7 @@ use crate::lines::{
 use crate::put::put_line;
 use crate::refusal::Numbers;
 use graph::error::AddressBuildError;
-use graph::store::Words;
+use graph::store::Graph;
 use graph::store::blocks::block_count;
 use graph::store::calls::call_count;
 use graph::store::edges::edge_count;
@@ -22,8 +22,8 @@ use graph::store::unresolved::unresolved_count;
 
 // How many lines a graph has.
 #[tactic(auto, using(crate::proofs::LineLaws::lines_length, crate::proofs::LineLaws::records_few))]
-pub fn line_count(g: &Words) -> usize
-    ensures { result ≡ length (graph_lines (held_in g.now).graph) }
+pub fn line_count(g: &Graph) -> usize
+    ensures { result ≡ length (graph_lines (held_of g.now).graph) }
 {
     1 + block_count(g)
         + edge_count(g)
@@ -35,8 +35,8 @@ pub fn line_count(g: &Words) -> usize
 
 // Line k of a graph: what is left of k behind the lines of a kind is a line from the next kind on. Past the last there is none.
 #[tactic(auto, using(crate::proofs::LineLaws::lines))]
-pub fn line_at(g: &Words, k: usize, out: &mut [u8; 256]) -> usize
-    ensures { Told (get_or (graph_lines (held_in g.now).graph) k []) out.old out.new result }
+pub fn line_at(g: &Graph, k: usize, out: &mut [u8; 256]) -> usize
+    ensures { Told (get_or (graph_lines (held_of g.now).graph) k []) out.old out.new result }
 {
     let Some(b) = k.checked_sub(1) else {
         return built_line(g, out);

@@ -1,12 +1,12 @@
-// The lines of a graph's records. A buffer of 256 bytes holds each of them, whatever the words of the graph are.
+// The lines of a graph's records. A buffer of 256 bytes holds each of them, whatever the rows of the graph are.
 ghost use Rattle.std.specs.Prelude.{◌≡◌};
-ghost use Rattle.graph.specs.Words.{held_in};
+ghost use Rattle.graph.specs.Lent.{held_of};
 ghost use Rattle.text.specs.Put.{Told};
 ghost use Rattle.text.specs.Chart.{built_line, block_line, edge_line, region_line, handler_line, computes, unresolved_line, call_line};
 
 use crate::field::{Field, present_if};
 use crate::put::put_line;
-use graph::store::Words;
+use graph::store::Graph;
 use graph::store::blocks::{block_at, block_count};
 use graph::store::calls::{call_at, call_count};
 use graph::store::edges::{edge_at, edge_count};
@@ -15,7 +15,7 @@ use graph::store::regions::{region_at, region_count};
 use graph::store::table::table_at;
 use graph::store::unresolved::{unresolved_at, unresolved_count};
 
-// Kinds and roles stand in a graph's words as numbers, and any number may: so they stay numbers here.
+// Kinds and roles stand in a graph's rows as numbers, and any number may: so they stay numbers here.
 //
 // The kind of a handler that has a filter block.
 const FILTER: u64 = 4;
@@ -33,8 +33,8 @@ const TRAP: u64 = 9;
 
 // How many records there are.
 #[tactic(auto, unfolding(crate::specs::Line::bytes, crate::specs::Chart::built_line))]
-pub fn built_line(g: &Words, out: &mut [u8; 256]) -> usize
-    ensures { Told (built_line (held_in g.now).graph) out.old out.new result }
+pub fn built_line(g: &Graph, out: &mut [u8; 256]) -> usize
+    ensures { Told (built_line (held_of g.now).graph) out.old out.new result }
 {
     let counts = [
         Field::Number(block_count(g) as u64),
@@ -48,8 +48,8 @@ pub fn built_line(g: &Words, out: &mut [u8; 256]) -> usize
 
 // Block k. An empty one has no first address.
 #[tactic(auto, unfolding(crate::specs::Line::bytes, crate::specs::Chart::block_line))]
-pub fn block_line(g: &Words, k: usize, out: &mut [u8; 256]) -> usize
-    ensures { Told (block_line (held_in g.now).graph k) out.old out.new result }
+pub fn block_line(g: &Graph, k: usize, out: &mut [u8; 256]) -> usize
+    ensures { Told (block_line (held_of g.now).graph k) out.old out.new result }
 {
     let b = block_at(g, k);
     let first = table_at(g, b.first as usize);
@@ -63,8 +63,8 @@ pub fn block_line(g: &Words, k: usize, out: &mut [u8; 256]) -> usize
 
 // Edge k.
 #[tactic(auto, unfolding(crate::specs::Line::bytes, crate::specs::Chart::edge_line))]
-pub fn edge_line(g: &Words, k: usize, out: &mut [u8; 256]) -> usize
-    ensures { Told (edge_line (held_in g.now).graph k) out.old out.new result }
+pub fn edge_line(g: &Graph, k: usize, out: &mut [u8; 256]) -> usize
+    ensures { Told (edge_line (held_of g.now).graph k) out.old out.new result }
 {
     let e = edge_at(g, k);
     let fields = [
@@ -80,8 +80,8 @@ pub fn edge_line(g: &Words, k: usize, out: &mut [u8; 256]) -> usize
 
 // Region k.
 #[tactic(auto, unfolding(crate::specs::Line::bytes, crate::specs::Chart::region_line))]
-pub fn region_line(g: &Words, k: usize, out: &mut [u8; 256]) -> usize
-    ensures { Told (region_line (held_in g.now).graph k) out.old out.new result }
+pub fn region_line(g: &Graph, k: usize, out: &mut [u8; 256]) -> usize
+    ensures { Told (region_line (held_of g.now).graph k) out.old out.new result }
 {
     let r = region_at(g, k);
     let fields = [
@@ -95,8 +95,8 @@ pub fn region_line(g: &Words, k: usize, out: &mut [u8; 256]) -> usize
 
 // The handler with input index k.
 #[tactic(auto, unfolding(crate::specs::Line::bytes, crate::specs::Chart::handler_line))]
-pub fn handler_line(g: &Words, k: usize, out: &mut [u8; 256]) -> usize
-    ensures { Told (handler_line (held_in g.now).graph k) out.old out.new result }
+pub fn handler_line(g: &Graph, k: usize, out: &mut [u8; 256]) -> usize
+    ensures { Told (handler_line (held_of g.now).graph k) out.old out.new result }
 {
     let h = handler_at(g, k);
     let fields = [
@@ -112,8 +112,8 @@ pub fn handler_line(g: &Words, k: usize, out: &mut [u8; 256]) -> usize
 
 // Unresolved record k.
 #[tactic(auto, unfolding(crate::specs::Line::bytes, crate::specs::Chart::unresolved_line))]
-pub fn unresolved_line(g: &Words, k: usize, out: &mut [u8; 256]) -> usize
-    ensures { Told (unresolved_line (held_in g.now).graph k) out.old out.new result }
+pub fn unresolved_line(g: &Graph, k: usize, out: &mut [u8; 256]) -> usize
+    ensures { Told (unresolved_line (held_of g.now).graph k) out.old out.new result }
 {
     let u = unresolved_at(g, k);
     let fields = [
@@ -127,8 +127,8 @@ pub fn unresolved_line(g: &Words, k: usize, out: &mut [u8; 256]) -> usize
 
 // Flattened call k.
 #[tactic(auto, unfolding(crate::specs::Line::bytes, crate::specs::Chart::call_line))]
-pub fn call_line(g: &Words, k: usize, out: &mut [u8; 256]) -> usize
-    ensures { Told (call_line (held_in g.now).graph k) out.old out.new result }
+pub fn call_line(g: &Graph, k: usize, out: &mut [u8; 256]) -> usize
+    ensures { Told (call_line (held_of g.now).graph k) out.old out.new result }
 {
     let c = call_at(g, k);
     let fields = [

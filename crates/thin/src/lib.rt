@@ -1,10 +1,10 @@
-// A graph and its hops as structs behind a reference, where the Rust's Emitter stood: each function lends the words to the store's,
-// and promises what that one does.
+// A graph and its hops as structs behind a reference, where the Rust's Emitter stood: each function lends what they hold to the
+// store's, and promises what that one does.
 #![tactic(auto)]
 
 ghost use Rattle.std.specs.Prelude.{◌≡◌};
 ghost use Rattle.graph.specs.Graph.{edge};
-ghost use Rattle.graph.specs.Words.{held_in};
+ghost use Rattle.graph.specs.Lent.{held_of};
 ghost use Rattle.graph.specs.Stored.{with_edge, Stored};
 ghost use Rattle.addition.specs.Add.{add_routes};
 ghost use Rattle.unwind.specs.Answers.{add_answer, AddLeaves, Graphed, Spells};
@@ -12,12 +12,11 @@ ghost use Rattle.unwind.specs.HopWords.{hop_at, rows_in, with_hop_if_room, HopsS
 
 use graph::error::AddressBuildError;
 use graph::record::Edge;
-use graph::store::Words;
 use unwind::hops::{HopRow, Hops};
 
 #[derive(Drop)]
 pub struct Graph {
-    pub words: Words,
+    pub rows: graph::store::Graph,
 }
 
 #[derive(Drop)]
@@ -27,16 +26,16 @@ pub struct HopList {
 
 // One edge more, behind the others; where there is no room, nothing changes.
 pub fn add_edge(g: &mut Graph, e: Edge)
-    ensures { Stored g.old.words g.new.words (with_edge (held_in g.old.words) e) }
+    ensures { Stored g.old.rows g.new.rows (with_edge (held_of g.old.rows) e) }
 {
-    graph::store::edges::add_edge(&mut g.words, e)
+    graph::store::edges::add_edge(&mut g.rows, e)
 }
 
 // Edge i, and zeros past the last.
 pub fn edge_at(g: &Graph, i: usize) -> Edge
-    ensures { result ≡ edge (held_in g.now.words).graph i }
+    ensures { result ≡ edge (held_of g.now.rows).graph i }
 {
-    graph::store::edges::edge_at(&g.words, i)
+    graph::store::edges::edge_at(&g.rows, i)
 }
 
 // One hop more, behind the others; where there is no room, nothing changes.
@@ -53,12 +52,12 @@ pub fn hop_at(h: &HopList, i: usize) -> HopRow
     unwind::hops::hop_or_zeros(&h.words, i)
 }
 
-// To a graph that any words hold, and routes that any bytes hold: the edges and copies that they want, and their hops.
+// To what any lent graph holds, and routes that any bytes hold: the edges and copies that they want, and their hops.
 pub fn add_unwind_routes(g: &mut Graph, s: &[u8], h: &mut HopList) -> Result<(), AddressBuildError>
-    ensures answer { add_answer s.now g.new.words h.new.words result ≡ add_routes (held_in g.old.words) s.now }
-    ensures leaves { AddLeaves g.old.words g.new.words h.old.words h.new.words result }
-    ensures spells { Spells s.now g.old.words g.new.words h.new.words result }
-    ensures graphed { Graphed g.new.words result }
+    ensures answer { add_answer s.now g.new.rows h.new.words result ≡ add_routes (held_of g.old.rows) s.now }
+    ensures leaves { AddLeaves g.old.rows g.new.rows h.old.words h.new.words result }
+    ensures spells { Spells s.now g.old.rows g.new.rows h.new.words result }
+    ensures graphed { Graphed g.new.rows result }
 {
-    unwind::add::add_unwind_routes(&mut g.words, s, &mut h.words)
+    unwind::add::add_unwind_routes(&mut g.rows, s, &mut h.words)
 }

@@ -17,7 +17,7 @@ use lib.ListN.{length, get_or, drop, drop_of_length-le, get_or-eq_default}
 use lib.Seq.{drop-cons}
 use Rattle.graph.specs.declared.record.Edge.{Edge}
 use Rattle.graph.specs.Graph.{Graph, edge}
-use Rattle.graph.specs.Words.{edge_of}
+use Rattle.graph.specs.Graph.{no_edge}
 use Rattle.graph.specs.Fold.{among}
 use Rattle.graph.specs.BlockSet.{member, excluding}
 use Rattle.graph.specs.Search.{Ends, link_in, link, Linked, Roomy}
@@ -47,19 +47,19 @@ module _ (g : Graph) (b : ℕ) where
 
   link_here : (i : ℕ) → i < length g.edges → (edge g i).source ≡ b → link g b i ≡ suc i
   unfolding link link_in
-  link_here i h is = rw (drop-cons g.edges i (edge_of []) h, eq-eqb _ _ is)
+  link_here i h is = rw (drop-cons g.edges i no_edge h, eq-eqb _ _ is)
 
   link_later : (i : ℕ) → i < length g.edges → ((edge g i).source ≡ b → ⊥) → link g b i ≡ link g b (suc i)
   unfolding link link_in
-  link_later i h ne = rw (drop-cons g.edges i (edge_of []) h, ne_eqb _ _ ne)
+  link_later i h ne = rw (drop-cons g.edges i no_edge h, ne_eqb _ _ ne)
 
   kept_later : (i : ℕ) → i < length g.edges → ((edge g i).source ≡ b → ⊥) → keep (λ e. eqb e.source b) (drop i g.edges) ≡ keep (λ e. eqb e.source b) (drop (suc i) g.edges)
   unfolding keep
-  kept_later i h ne = rw (drop-cons g.edges i (edge_of []) h, ne_eqb _ _ ne)
+  kept_later i h ne = rw (drop-cons g.edges i no_edge h, ne_eqb _ _ ne)
 
   kept_here : (i : ℕ) → i < length g.edges → (edge g i).source ≡ b → keep (λ e. eqb e.source b) (drop i g.edges) ≡ edge g i ∷ keep (λ e. eqb e.source b) (drop (suc i) g.edges)
   unfolding keep
-  kept_here i h is = rw (drop-cons g.edges i (edge_of []) h, eq-eqb _ _ is)
+  kept_here i h is = rw (drop-cons g.edges i no_edge h, eq-eqb _ _ is)
 
   linked_chain : (n i : ℕ) → i + n ≡ length g.edges → keep (λ e. eqb e.source b) (drop i g.edges) ≡ chain (link g b i)
   unfolding link link_in keep chain
@@ -90,7 +90,7 @@ module _ (g : Graph) (b : ℕ) where
               let eq : at ≡ 0 = is ∙ get_or-eq_default head 0 (omega arith) in
               rw eq (
                 record { here = λ e z. absurd (omega arith) },
-                sym (keep-none (λ e. eqb e.source b) g.edges (edge_of []) (λ i h. ne_eqb _ b (λ same. omega (arith, source_lt g ends i h, roomy.blocks)))),
+                sym (keep-none (λ e. eqb e.source b) g.edges no_edge (λ i h. ne_eqb _ b (λ same. omega (arith, source_lt g ends i h, roomy.blocks)))),
               )
         ]
 

@@ -1,23 +1,23 @@
--- The words behind the stores of an addition: copies of edges, copies of blocks, then route edges.
+-- The graph behind the stores of an addition: copies of edges, copies of blocks, then route edges.
 --     copies_held, copies_graph    behind the copies nothing is cut
 --     finished                     behind the route edges the graph of the addition is laid
 -- Assumes nothing.
 use mathlib.Core.Path.{◌≡◌, ap, ◌∙◌}
 use mathlib.Core.Bool.{true}
 use mathlib.Core.List.{List, [], ◌++◌, append-nil, append_assoc}
-use Prim.Native.Nat.{ℕ, ◌+◌, ◌≤◌}
+use Prim.Native.Nat.{◌+◌, ◌≤◌}
 use native.Mathlib.Omega.{arith}
 use lib.ListN.{length, length-append}
+use Rattle.graph.specs.declared.store.Graph.{Graph as Lent}
 use Rattle.graph.specs.declared.record.Block.{Block}
 use Rattle.graph.specs.declared.record.Edge.{Edge}
 use Rattle.graph.specs.Graph.{Graph, Held, held}
-use Rattle.graph.specs.Words.{unresolved_rows, call_rows, held_in}
+use Rattle.graph.specs.Lent.{Sized, held_of}
 use Rattle.graph.specs.Stored.{Stored}
 use Rattle.graph.specs.Adding.{Added, adding, with_blocks}
 use Rattle.graph.specs.Answers.{Laid}
 use Rattle.graph.specs.WellFormed.{well_formed}
-use Rattle.graph.proofs.SectionLaws.{size_most}
-use Rattle.graph.proofs.RecordLaws.{unresolved_count, call_count}
+use Rattle.graph.proofs.RecordLaws.{unresolved_most, call_most}
 use Rattle.graph.proofs.RuleLaws as rule
 use Rattle.graph.proofs.StoredLaws.{stored_then, all_held}
 use Rattle.graph.proofs.AddingLaws.{adding-held, blocks_held}
@@ -33,29 +33,29 @@ edges_held g es fit unresolved_fit calls_fit =
     adding-held g es [] [] fit (omega arith) (omega arith)
     ∙ (λ t. held (record { entry = g.entry; table = g.table; blocks = g.blocks; edges = g.edges ++ es; regions = g.regions; handlers = g.handlers; unresolved = append-nil g.unresolved t; calls = append-nil g.calls t }))
 
-module _ {w w₁ w₂ : List ℕ} (ok : well_formed (held_in w) ≡ true) (bs : List Block) (ce : List Edge) (cloned : Added w w₁ ce [] []) (copied : Stored w₁ w₂ (with_blocks (held_in w₁) bs)) (blocks_fit : length (held_in w).graph.blocks + length bs ≤ 1024) where
+module _ {w w₁ w₂ : Lent} (sized : Sized w) (ok : well_formed (held_of w) ≡ true) (bs : List Block) (ce : List Edge) (cloned : Added w w₁ ce [] []) (copied : Stored w₁ w₂ (with_blocks (held_of w₁) bs)) (blocks_fit : length (held_of w).graph.blocks + length bs ≤ 1024) where
   abbrev before : Graph
-  before = (held_in w).graph
+  before = (held_of w).graph
 
   unresolved_fit : length before.unresolved ≤ 1024
-  unresolved_fit = omega (arith, unresolved_count w, size_most unresolved_rows w)
+  unresolved_fit = omega (arith, unresolved_most w)
 
   calls_fit : length before.calls ≤ 512
-  calls_fit = omega (arith, call_count w, size_most call_rows w)
+  calls_fit = omega (arith, call_most w)
 
-  pub copies_held : length (held_in w).graph.edges + length ce ≤ 4096 → held_in w₂ ≡ held (extended (held_in w).graph bs ce)
+  pub copies_held : length (held_of w).graph.edges + length ce ≤ 4096 → held_of w₂ ≡ held (extended (held_of w).graph bs ce)
   unfolding extended
   copies_held fit =
       copied.holds
       ∙ ap (λ (h : Held). with_blocks h bs)
-      (cloned.stored.holds ∙ ap (λ (h : Held). adding h ce [] []) (all_held w (rule.stands (held_in w) ok).limits) ∙ edges_held before ce fit unresolved_fit calls_fit)
+      (cloned.stored.holds ∙ ap (λ (h : Held). adding h ce [] []) (all_held w sized (rule.stands (held_of w) ok).limits) ∙ edges_held before ce fit unresolved_fit calls_fit)
       ∙ blocks_held (with_edges before ce) bs blocks_fit
 
-  pub copies_graph : length (held_in w).graph.edges + length ce ≤ 4096 → (held_in w₂).graph ≡ extended (held_in w).graph bs ce
+  pub copies_graph : length (held_of w).graph.edges + length ce ≤ 4096 → (held_of w₂).graph ≡ extended (held_of w).graph bs ce
   unfolding held
   copies_graph fit = ap (λ (h : Held). h.graph) (copies_held fit)
 
-  pub finished : {w₃ : List ℕ} (re : List Edge) → Added w₂ w₃ re [] [] → length (held_in w).graph.edges + length ce + length re ≤ 4096 → Laid w w₃ (extended (held_in w).graph bs (ce ++ re))
+  pub finished : {w₃ : Lent} (re : List Edge) → Added w₂ w₃ re [] [] → length (held_of w).graph.edges + length ce + length re ≤ 4096 → Laid w w₃ (extended (held_of w).graph bs (ce ++ re))
   unfolding extended
   finished {w₃} re routed fit =
       let all : Stored w w₃ _ = stored_then cloned.stored (stored_then copied routed.stored) in

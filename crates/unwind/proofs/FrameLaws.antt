@@ -11,6 +11,7 @@ use Prim.Native.Nat.{ℕ, ◌≤◌, ◌<◌}
 use native.Mathlib.Omega.{arith}
 use borrow.Author.Tests.{ltb-true}
 use lib.ListN.{length}
+use Rattle.graph.specs.declared.store.Graph.{Graph as Lent}
 use Rattle.image.specs.Refusal.{Check, clear}
 use Rattle.image.specs.Record.{route_from, path_from, step_from}
 use Rattle.image.specs.Image.{RouteImage, routes_in}
@@ -19,7 +20,7 @@ use Rattle.image.specs.Accepted.{AcceptedRoutes}
 use Rattle.image.specs.declared.section.RouteLayout.{RouteLayout}
 use Rattle.image.proofs.Tables.{length-records}
 use Rattle.graph.specs.Graph.{Graph, Held}
-use Rattle.graph.specs.Words.{held_in}
+use Rattle.graph.specs.Lent.{held_of}
 use Rattle.graph.specs.Fold.{checks}
 use Rattle.graph.specs.Search.{Linked, Roomy}
 use Rattle.graph.specs.WellFormed.{is_block}
@@ -55,7 +56,7 @@ all_few s y ok =
     record { steps_few = omega arith; paths_few = omega arith; routes_few = omega arith }
 
 -- all graphs
-pub all_small : (w : List ℕ) → Small (held_in w).graph 1024 4096
+pub all_small : (w : Lent) → Small (held_of w).graph 1024 4096
 all_small w = record { blocks_few = block_most w; edges_few = edge_most w }
 
 module _ (s : List ℕ) (y : RouteLayout) (g : Graph) {starts nodes edges ends stack roots head next bases heads parts guards landings exits : List ℕ} (f : Frame y g starts nodes edges ends stack roots head next bases heads parts guards landings exits) where

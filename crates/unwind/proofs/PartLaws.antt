@@ -22,7 +22,7 @@ use lib.ListN.{length, get_or, drop, length-map, get_or-map}
 use Rattle.image.specs.Deal.{UnwindRoute}
 use Rattle.graph.specs.declared.record.Edge.{Edge}
 use Rattle.graph.specs.Graph.{Graph, edge}
-use Rattle.graph.specs.Words.{edge_of}
+use Rattle.graph.specs.Graph.{no_edge}
 use Rattle.graph.specs.Fold.{all, among}
 use Rattle.graph.specs.BlockSet.{member, none, including, Common}
 use Rattle.graph.specs.Reached.{Reached, start, step}
@@ -72,11 +72,11 @@ module _ (w : List ℕ) where
       go true = refl
       go false = refl
 
-  bent_zeros : bent w (edge_of []) ≡ edge_of []
+  bent_zeros : bent w no_edge ≡ no_edge
   unfolding bent
-  bent_zeros = go (followed w (edge_of []))
+  bent_zeros = go (followed w no_edge)
     where
-      go : (t : Bool) → cond t (edge_of []) (edge_of []) ≡ edge_of []
+      go : (t : Bool) → cond t no_edge no_edge ≡ no_edge
       go true = refl
       go false = refl
 
@@ -91,7 +91,7 @@ module _ (g : Graph) (w : List ℕ) (e : ℕ) where
 
   pub edge-bent : (i : ℕ) → edge g' i ≡ bent w (edge g i)
   unfolding bounded
-  edge-bent i = ap (λ (d : Edge). get_or (map (bent w) g.edges) i d) (sym (bent_zeros w)) ∙ get_or-map (bent w) g.edges i (edge_of [])
+  edge-bent i = ap (λ (d : Edge). get_or (map (bent w) g.edges) i d) (sym (bent_zeros w)) ∙ get_or-map (bent w) g.edges i no_edge
 
   source_bent : (i : ℕ) → (edge g' i).source ≡ (edge g i).source
   source_bent i = ap (λ (d : Edge). d.source) (edge-bent i) ∙ bent_source w (edge g i)
@@ -236,7 +236,7 @@ module _ (g : Graph) (stands : Stands g) (w : List ℕ) (e : ℕ) (entry : Built
       i = (mem_at there).0
 
       is : edge g i ≡ d
-      is = at_get_or g.edges (mem_at there).0 (edge_of []) (mem_at there).1
+      is = at_get_or g.edges (mem_at there).0 no_edge (mem_at there).1
 
       h : i < length g.edges
       h = at_lt g.edges (mem_at there).0 (mem_at there).1

@@ -1,6 +1,6 @@
 -- A graph that 21 lets pass: its table, its built blocks, and the block that an address starts.
 --     stands_of                    what is used of 21
---     less_before, less_behind     of numbers that rise, those that are less than one stand before the others
+--     less_point                   of numbers that rise, those that are less than one stand before the others
 --     table_rises                  the addresses of its table rise
 --     below-cut, below_test, start_nowhere     how many starts are below an address, and whether one is there
 --     built_is, is-built           the first n blocks are the built ones
@@ -24,7 +24,9 @@ use native.Mathlib.Omega.{arith}
 use borrow.Author.Tests.{eq-eqb, ne_eqb, eqb-true, lt-ltb, le-ltb, ltb-true}
 use Rattle.std.proofs.lemmas.Bool.{ltb-false}
 use lib.Dec.{eqb, ltb}
-use lib.ListN.{length, get_or-eq_default}
+use lib.ListN.{length, get_or, get_or-eq_default}
+use Rattle.std.specs.List.Sorted.{IsPartitionedBy, IsPartitionPoint}
+use Rattle.std.proofs.lemmas.List.Sorted.{IsPartitionedBy-ltb, IsNonDecreasingBy-from_default}
 use Rattle.image.specs.Refusal.{Check, clear, refused}
 use Rattle.graph.specs.declared.record.TableEntry.{TableEntry}
 use Rattle.graph.specs.Graph.{Graph, Held, block}
@@ -56,12 +58,16 @@ stands_of h e =
 
 -- ---- numbers that rise, against one
 
-module _ (f : ℕ → ℕ) (n p : ℕ) (rise : (i j : ℕ) → i < j → j < n → f i < f j) (i j : ℕ) (lt : i < j) (h : j < n) where
-  pub less_before : true ≡ ltb (f j) p → true ≡ ltb (f i) p
-  less_before e = sym (lt-ltb (f i) p (omega (arith, rise i j lt h, ltb-true (f j) p (sym e))))
-
-  pub less_behind : false ≡ ltb (f i) p → false ≡ ltb (f j) p
-  less_behind e = sym (le-ltb (f j) p (omega (arith, rise i j lt h, ltb-false (f i) p (sym e))))
+-- those that are less than t stand before the others
+pub less_point : {A : Type 0} (f : A → ℕ) (l : List A) (d : A) (t r : ℕ) → ((i j : ℕ) → i < j → j < length l → f (get_or l i d) < f (get_or l j d))
+    → (IsPartitionedBy (λ x. ltb (f x) t) l → IsPartitionPoint (λ x. ltb (f x) t ≡ true) (λ x. ltb (f x) t ≡ false) l r)
+    → ((k : ℕ) → k < r → f (get_or l k d) < t) × ((k : ℕ) → r ≤ k → k < length l → t ≤ f (get_or l k d))
+less_point f l d t r rise found =
+    let point = found (IsPartitionedBy-ltb f l t (IsNonDecreasingBy-from_default f l d up)) in
+    (λ k h. ltb-true _ _ (point.0 k d (omega arith) h), λ k le h. ltb-false _ _ (point.1 k d le h))
+  where
+    up : (i j : ℕ) → i ≤ j → j < length l → f (get_or l i d) ≤ f (get_or l j d)
+    up i j le h = elim (ℕ_discrete i j) [ yes e ↦ rw e (omega arith) | no ne ↦ omega (arith, rise i j (omega arith) h) ]
 
 -- ---- the first of the kept
 

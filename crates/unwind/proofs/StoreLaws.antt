@@ -20,6 +20,7 @@ use native.Mathlib.Omega.{arith}
 use borrow.Author.Tests.{le-leb, lt-leb, leb-true}
 use lib.Dec.{leb}
 use lib.ListN.{length, get_or, length-append, length-map}
+use Rattle.graph.specs.declared.store.Graph.{Graph as Lent}
 use Rattle.std.proofs.Common.{Result, Ok, Err}
 use Rattle.std.specs.Result.{is_ok}
 use Rattle.image.specs.Refusal.{refusal, Check, clear, ◌then◌, unless}
@@ -30,7 +31,7 @@ use Rattle.graph.specs.declared.error.AddressBuildError.{AddressBuildError}
 use Rattle.graph.specs.declared.record.Block.{Block}
 use Rattle.graph.specs.declared.record.Edge.{Edge}
 use Rattle.graph.specs.Graph.{Graph, Held, held, block}
-use Rattle.graph.specs.Words.{edge_rows, held_in}
+use Rattle.graph.specs.Lent.{held_of, Sized as RowsSized}
 use Rattle.graph.specs.Fold.{flat}
 use Rattle.graph.specs.Error.{refusal_of, check_of}
 use Rattle.graph.specs.Stored.{Stored}
@@ -62,8 +63,7 @@ use Rattle.addition.specs.Walk.{◌∈◌}
 use Rattle.addition.proofs.Lists.{and_both}
 use Rattle.addition.proofs.Sound.{sound}
 use Rattle.addition.proofs.AgainWays.{way_ends, way_table}
-use Rattle.graph.proofs.SectionLaws.{size_most}
-use Rattle.graph.proofs.RecordLaws.{edge_count}
+use Rattle.graph.proofs.RecordLaws.{edge_most}
 use Rattle.unwind.proofs.StoodLaws.{blocks_stay}
 use Rattle.unwind.proofs.Standing.{stands_of}
 use Rattle.unwind.proofs.TrieNodes.{length_nodes}
@@ -82,8 +82,8 @@ use Rattle.unwind.proofs.Finished.{copies_graph, finished}
 abbrev counts_check : ℕ → Sizes → Check
 counts_check n sz = unless (leb n 4096) (refusal 19 0 0) then unless (leb sz.hops 2048 && leb sz.lists 4096) (refusal 20 0 0)
 
-pub edges_held : (l : List ℕ) → length (held_in l).graph.edges ≤ 4096
-edges_held l = omega (arith, edge_count l, size_most edge_rows l)
+pub edges_held : (l : Lent) → length (held_of l).graph.edges ≤ 4096
+edges_held l = omega (arith, edge_most l)
 
 module _ (n : ℕ) (sz : Sizes) where
   pub edges_over : 4096 < n → Check.refused (refusal 19 0 0) ≡ counts_check n sz
@@ -120,9 +120,9 @@ passed a e =
 
 -- ---- what is at hand
 
-module _ (w : List ℕ) (m : RouteImage) {nodes edges ends roots head next bases heads parts returns guards landings exits : List ℕ} {c : Counts} (x : AtHand (held_in w) m nodes edges ends roots head next bases heads parts returns guards landings exits c) where
+module _ (w : Lent) (m : RouteImage) {nodes edges ends roots head next bases heads parts returns guards landings exits : List ℕ} {c : Counts} (x : AtHand (held_of w) m nodes edges ends roots head next bases heads parts returns guards landings exits c) where
   abbrev g : Graph
-  g = (held_in w).graph
+  g = (held_of w).graph
 
   abbrev rs : List UnwindRoute
   rs = routes_of m
@@ -139,7 +139,7 @@ module _ (w : List ℕ) (m : RouteImage) {nodes edges ends roots head next bases
   abbrev wanted : List Edge
   wanted = route_edges (extended g new_blocks []) [] (ways g rs)
 
-  pub exits_kept : {exits' : List ℕ} → length exits' ≡ length exits → AtHand (held_in w) m nodes edges ends roots head next bases heads parts returns guards landings exits' c
+  pub exits_kept : {exits' : List ℕ} → length exits' ≡ length exits → AtHand (held_of w) m nodes edges ends roots head next bases heads parts returns guards landings exits' c
   exits_kept long =
       record {
         graphed = x.graphed;
@@ -175,7 +175,7 @@ module _ (w : List ℕ) (m : RouteImage) {nodes edges ends roots head next bases
   sets_here = sets_in g few x.instances.bounded.some rs z bases heads parts c.nodes x.instances.placed x.instances.slots.parts_fit
 
   pub links_lent : Ends g × links.Roomy g head next × Linked g head next 0 × (c.nodes ≤ 1024) × SetsIn g parts c.nodes × (c.nodes ≤ length bases)
-  links_lent = ((stands_of (held_in w) x.graphed).ends, x.links, x.linked, omega (arith, x.instances.trie.nodes_most), sets_here, x.instances.slots.bases_fit)
+  links_lent = ((stands_of (held_of w) x.graphed).ends, x.links, x.linked, omega (arith, x.instances.trie.nodes_most), sets_here, x.instances.slots.bases_fit)
 
   edges_copied : edge_copies g bases parts c.nodes ≡ new_edges
   edges_copied = edges_are g few x.instances.bounded.some rs z bases heads parts c.nodes x.instances.placed all_nodes
@@ -227,20 +227,20 @@ module _ (w : List ℕ) (m : RouteImage) {nodes edges ends roots head next bases
 
   -- ---- behind the copies of edges
 
-  module _ {w₁ : List ℕ} (cloned : Added w w₁ (edge_copies g bases parts c.nodes) [] []) where
-    blocks_stood : (held_in w₁).graph.blocks ≡ g.blocks
+  module _ {w₁ : Lent} (cloned : Added w w₁ (edge_copies g bases parts c.nodes) [] []) where
+    blocks_stood : (held_of w₁).graph.blocks ≡ g.blocks
     blocks_stood = blocks_stay cloned
 
-    pub sets_stood : SetsIn (held_in w₁).graph parts c.nodes
+    pub sets_stood : SetsIn (held_of w₁).graph parts c.nodes
     sets_stood = record { fit = sets_here.fit; stand = λ i b h k. rw blocks_stood (sets_here.stand i b h k) }
 
-    copies_same : block_copies (held_in w₁).graph bases parts c.nodes ≡ new_blocks
+    copies_same : block_copies (held_of w₁).graph bases parts c.nodes ≡ new_blocks
     unfolding block_copies
     copies_same = ap (λ (l : List Block). map (λ (b : ℕ). get_or l b (record { first = 0; count = 0 })) (flat (copies_in bases parts) c.nodes)) blocks_stood ∙ blocks_copied
 
     -- ---- behind the copies of blocks
 
-    module _ (fits : size_check (addition g rs) ≡ clear) {w₂ : List ℕ} (copies : Stored w₁ w₂ (with_blocks (held_in w₁) (block_copies (held_in w₁).graph bases parts c.nodes))) where
+    module _ (rows : RowsSized w) (fits : size_check (addition g rs) ≡ clear) {w₂ : Lent} (copies : Stored w₁ w₂ (with_blocks (held_of w₁) (block_copies (held_of w₁).graph bases parts c.nodes))) where
       edges_fit : length g.edges + length new_edges + length wanted ≤ 4096
       unfolding addition extended
       edges_fit = omega (arith, (passed (addition g rs) fits).0, length-append g.edges (new_edges ++ wanted), length-append new_edges wanted)
@@ -248,37 +248,37 @@ module _ (w : List ℕ) (m : RouteImage) {nodes edges ends roots head next bases
       edges_stored : Added w w₁ new_edges [] []
       edges_stored = subst (λ (l : List Edge). Added w w₁ l [] []) edges_copied cloned
 
-      blocks_stored : Stored w₁ w₂ (with_blocks (held_in w₁) new_blocks)
-      blocks_stored = subst (λ (l : List Block). Stored w₁ w₂ (with_blocks (held_in w₁) l)) copies_same copies
+      blocks_stored : Stored w₁ w₂ (with_blocks (held_of w₁) new_blocks)
+      blocks_stored = subst (λ (l : List Block). Stored w₁ w₂ (with_blocks (held_of w₁) l)) copies_same copies
 
-      graph_is : (held_in w₂).graph ≡ extended g new_blocks new_edges
-      graph_is = copies_graph {w = w} {w₁ = w₁} {w₂ = w₂} x.graphed new_blocks new_edges edges_stored blocks_stored blocks_fit (omega (arith, edges_fit))
+      graph_is : (held_of w₂).graph ≡ extended g new_blocks new_edges
+      graph_is = copies_graph {w = w} {w₁ = w₁} {w₂ = w₂} rows x.graphed new_blocks new_edges edges_stored blocks_stored blocks_fit (omega (arith, edges_fit))
 
-      pub joins_stood : {h h' : List ℕ} → HopsLaid m h h' (hops_of (ways g rs)) → HopsJoin h' (held_in w₂).graph
+      pub joins_stood : {h h' : List ℕ} → HopsLaid m h h' (hops_of (ways g rs)) → HopsJoin h' (held_of w₂).graph
       unfolding extended
       joins_stood {h} {h'} laid =
           subst (HopsJoin h') (sym graph_is)
-          (record { runs = runs_in g (stands_of (held_in w) x.graphed) (funclets rs) z new_edges; joins = λ s t stands. join s t (stood_way m h' (ways g rs) laid.holds (pair s t) stands) })
+          (record { runs = runs_in g (stands_of (held_of w) x.graphed) (funclets rs) z new_edges; joins = λ s t stands. join s t (stood_way m h' (ways g rs) laid.holds (pair s t) stands) })
         where
           long : length (extended g new_blocks new_edges).blocks ≡ length g.blocks + length new_blocks
           long = length-append g.blocks new_blocks
 
           join : (s t : ℕ) → (v : Way) × (v ∈ ways g rs) × (pair s t ≡ leap v) → (s < length (extended g new_blocks new_edges).blocks) × (t < length (extended g new_blocks new_edges).blocks) × ((block (extended g new_blocks new_edges) t).first < length (extended g new_blocks new_edges).table)
           join s t v =
-              let ends = way_ends g rs (sound (held_in w) x.graphed) x.checked v.0 v.1 in
+              let ends = way_ends g rs (sound (held_of w) x.graphed) x.checked v.0 v.1 in
               let there : t < length (extended g new_blocks new_edges).blocks = omega (arith, long, ends.end t (ap (λ (l : Leap). l.end) (sym v.2))) in (
                 omega (arith, long, ends.source, ap (λ (l : Leap). l.source) v.2),
                 there,
-                starts_in g (stands_of (held_in w) x.graphed) rs new_edges (way_table g rs (sound (held_in w) x.graphed) x.checked v.0 v.1) t there,
+                starts_in g (stands_of (held_of w) x.graphed) rs new_edges (way_table g rs (sound (held_of w) x.graphed) x.checked v.0 v.1) t there,
               )
 
-      pub addition_laid : {w₃ : List ℕ} → Added w₂ w₃ (route_edges (held_in w₂).graph [] (lent_ways m nodes edges ends heads landings roots guards bases parts returns (length m.routes) c.nodes)) [] [] → Laid w w₃ (addition g rs).graph
+      pub addition_laid : {w₃ : Lent} → Added w₂ w₃ (route_edges (held_of w₂).graph [] (lent_ways m nodes edges ends heads landings roots guards bases parts returns (length m.routes) c.nodes)) [] [] → Laid w w₃ (addition g rs).graph
       unfolding addition
       addition_laid {w₃} routed =
-          finished {w = w} {w₁ = w₁} {w₂ = w₂} x.graphed new_blocks new_edges edges_stored blocks_stored blocks_fit {w₃ = w₃} wanted
+          finished {w = w} {w₁ = w₁} {w₂ = w₂} rows x.graphed new_blocks new_edges edges_stored blocks_stored blocks_fit {w₃ = w₃} wanted
           (subst (λ (l : List Edge). Added w₂ w₃ l [] []) edges_wanted routed) edges_fit
         where
-          edges_wanted : route_edges (held_in w₂).graph [] (lent_ways m nodes edges ends heads landings roots guards bases parts returns (length m.routes) c.nodes) ≡ wanted
+          edges_wanted : route_edges (held_of w₂).graph [] (lent_ways m nodes edges ends heads landings roots guards bases parts returns (length m.routes) c.nodes) ≡ wanted
           edges_wanted =
               ap (λ (k : Graph). route_edges k [] (lent_ways m nodes edges ends heads landings roots guards bases parts returns (length m.routes) c.nodes)) graph_is
               ∙ ap (route_edges (extended g new_blocks new_edges) []) (ways_within g m nodes edges ends roots bases heads parts returns guards landings c x.instances)
@@ -301,15 +301,15 @@ pub ok_clear : (r : Result Unit AddressBuildError) → is_ok r ≡ true → chec
 ok_clear (Ok x) e = refl
 ok_clear (Err x) e = cc
 
-module _ (m : RouteImage) (w h : List ℕ) where
+module _ (m : RouteImage) (w : Lent) (h : List ℕ) where
   abbrev gives : Addition
-  gives = addition (held_in w).graph (routes_of m)
+  gives = addition (held_of w).graph (routes_of m)
 
-  pub sized_refused : (e : AddressBuildError) → Check.refused (refusal_of e) ≡ size_check (addition (held_in w).graph (routes_of m)) → Sized m w w h h (Err e)
+  pub sized_refused : (e : AddressBuildError) → Check.refused (refusal_of e) ≡ size_check (addition (held_of w).graph (routes_of m)) → Sized m w w h h (Err e)
   unfolding outcome
   sized_refused e is = record { answer = ap (λ (k : Check). outcome k gives) is; leaves = (refl, refl) }
 
-  pub sized_stored : {w' h' : List ℕ} → size_check (addition (held_in w).graph (routes_of m)) ≡ clear → Laid w w' (addition (held_in w).graph (routes_of m)).graph → HopsLaid m h h' (addition (held_in w).graph (routes_of m)).hops → Sized m w w' h h' (Ok tt)
+  pub sized_stored : {w' : Lent} {h' : List ℕ} → size_check (addition (held_of w).graph (routes_of m)) ≡ clear → Laid w w' (addition (held_of w).graph (routes_of m)).graph → HopsLaid m h h' (addition (held_of w).graph (routes_of m)).hops → Sized m w w' h h' (Ok tt)
   unfolding outcome held
   sized_stored {w'} {h'} fits laid hops =
       record {
@@ -317,5 +317,5 @@ module _ (m : RouteImage) (w h : List ℕ) where
         leaves = (record { holds = laid.holds ∙ ap held (sym graph_is); kept = laid.kept }, hops.kept);
       }
     where
-      graph_is : (held_in w').graph ≡ gives.graph
+      graph_is : (held_of w').graph ≡ gives.graph
       graph_is = ap (λ (k : Held). k.graph) laid.holds

@@ -26,10 +26,11 @@ use native.Mathlib.Omega.{arith}
 use borrow.Author.Tests.{ne_eqb}
 use lib.Dec.{compare_is_eq}
 use lib.ListN.{length, get_or, replicate, length-replicate}
+use Rattle.graph.specs.declared.store.Graph.{Graph as Lent}
 use Rattle.image.specs.Image.{RouteImage, table}
 use Rattle.graph.specs.declared.record.Edge.{Edge}
 use Rattle.graph.specs.Graph.{Graph, Held}
-use Rattle.graph.specs.Words.{held_in}
+use Rattle.graph.specs.Lent.{held_of}
 use Rattle.graph.specs.Fold.{flat, count}
 use Rattle.graph.specs.BlockSet.{member, excluding}
 use Rattle.graph.specs.Stored.{with_edge, Stored}
@@ -70,7 +71,7 @@ use Rattle.unwind.proofs.FlagLaws.{flag-none}
 same_runs : (g : Graph) → SameRuns g g
 same_runs g = record { table = refl; blocks = refl }
 
-pub added_runs : {l l' : List ℕ} {es : List Edge} → Added l l' es [] [] → SameRuns (held_in l).graph (held_in l').graph
+pub added_runs : {l l' : Lent} {es : List Edge} → Added l l' es [] [] → SameRuns (held_of l).graph (held_of l').graph
 unfolding adding mores
 added_runs a = record { table = ap (λ (h : Held). h.graph.table) a.stored.holds; blocks = ap (λ (h : Held). h.graph.blocks) a.stored.holds }
 
@@ -114,16 +115,16 @@ unfolding seen_with
 seen_then seen [] vs = refl
 seen_then seen (w ∷ ws) vs = seen_then (leap w ∷ seen) ws vs
 
-pub wants_none : (h g : List ℕ) (done : List ℕ) → EdgesWanted h g done [] g done
+pub wants_none : (h : List ℕ) (g : Lent) (done : List ℕ) → EdgesWanted h g done [] g done
 unfolding route_edges seen_with
-wants_none h g done = record { runs = same_runs (held_in g).graph; added = λ seen f. added_none g; flags = λ seen f. f }
+wants_none h g done = record { runs = same_runs (held_of g).graph; added = λ seen f. added_none g; flags = λ seen f. f }
 
-pub wants_then : {h g g₁ g₂ : List ℕ} {done done₁ done₂ : List ℕ} {ws vs : List Way} → EdgesWanted h g done ws g₁ done₁ → EdgesWanted h g₁ done₁ vs g₂ done₂ → EdgesWanted h g done (ws ++ vs) g₂ done₂
+pub wants_then : {h : List ℕ} {g g₁ g₂ : Lent} {done done₁ done₂ : List ℕ} {ws vs : List Way} → EdgesWanted h g done ws g₁ done₁ → EdgesWanted h g₁ done₁ vs g₂ done₂ → EdgesWanted h g done (ws ++ vs) g₂ done₂
 wants_then {h} {g} {g₁} {g₂} {done} {done₁} {done₂} {ws} {vs} a b =
     record {
       runs = record { table = b.runs.table ∙ a.runs.table; blocks = b.runs.blocks ∙ a.runs.blocks };
       added = λ seen f.
-          rw (edges_then (held_in g).graph seen ws vs)
+          rw (edges_then (held_of g).graph seen ws vs)
           (added_then (a.added seen f) (rw (edges_same a.runs (seen_with ws seen) vs) at (b.added (seen_with ws seen) (a.flags seen f))));
       flags = λ seen f. rw (seen_then seen ws vs) (b.flags (seen_with ws seen) (a.flags seen f));
     }
@@ -157,13 +158,13 @@ pub flags_none : (h : List ℕ) → Flags h (replicate 33 0) []
 unfolding wanted
 flags_none h = record { long = length-replicate {A = ℕ} 33 0; tells = λ k s t p. flag-none k (hop_few p) }
 
-module _ (h g done : List ℕ) (r b t : ℕ) where
+module _ (h : List ℕ) (g : Lent) (done : List ℕ) (r b t : ℕ) where
   pub want_leave : t ≡ 65535 → (calls : List ℕ) → EdgesWanted h g done (way_to r b t calls ∷ []) g done
   unfolding route_edges edge_to seen_with end_in
   want_leave e calls =
       rw e
       record {
-        runs = same_runs (held_in g).graph;
+        runs = same_runs (held_of g).graph;
         added = λ seen f. added_none g;
         flags = λ seen f.
             record {
@@ -204,15 +205,15 @@ module _ (h g done : List ℕ) (r b t : ℕ) where
       want_again was calls =
           rw (way_is calls)
           record {
-            runs = same_runs (held_in g).graph;
+            runs = same_runs (held_of g).graph;
             added = λ seen f. rw (sym (f.tells k b t here) ∙ was) (added_none g);
             flags = flags;
           }
 
-      pub want_new : member done k ≡ false → (g' : List ℕ) (e : Edge) → e ≡ route_edge (held_in g).graph r b t → Stored g g' (with_edge (held_in g) e) → (calls : List ℕ) → EdgesWanted h g done (way_to r b t calls ∷ []) g' done'
+      pub want_new : member done k ≡ false → (g' : Lent) (e : Edge) → e ≡ route_edge (held_of g).graph r b t → Stored g g' (with_edge (held_of g) e) → (calls : List ℕ) → EdgesWanted h g done (way_to r b t calls ∷ []) g' done'
       unfolding route_edges edge_to seen_with
       want_new was g' e is st calls =
-          let one : Added g g' (route_edge (held_in g).graph r b t ∷ []) [] [] = edge_added (route_edge (held_in g).graph r b t) (rw is at st) in
+          let one : Added g g' (route_edge (held_of g).graph r b t ∷ []) [] [] = edge_added (route_edge (held_of g).graph r b t) (rw is at st) in
           rw (way_is calls)
           record {
             runs = added_runs one;
@@ -221,7 +222,7 @@ module _ (h g done : List ℕ) (r b t : ℕ) where
           }
 
 -- one branch more
-pub want_next : {h g₀ g g' : List ℕ} {done₀ done done' : List ℕ} (m : RouteImage) (r b : ℕ) (e : ℕ → Branch) (n : ℕ → ℕ) (k t : ℕ) → t ≡ n k
+pub want_next : {h : List ℕ} {g₀ g g' : Lent} {done₀ done done' : List ℕ} (m : RouteImage) (r b : ℕ) (e : ℕ → Branch) (n : ℕ → ℕ) (k t : ℕ) → t ≡ n k
     → EdgesWanted h g₀ done₀ (map (way_of r) (table (λ j. exit_to m b (e j) (n j)) k)) g done → ((calls : List ℕ) → EdgesWanted h g done (way_to r b t calls ∷ []) g' done')
     → EdgesWanted h g₀ done₀ (map (way_of r) (table (λ j. exit_to m b (e j) (n j)) (k + 1))) g' done'
 unfolding table
@@ -326,24 +327,24 @@ module _ (m : RouteImage) (nodes edges ends heads landings : List ℕ) (r b : �
           stand_table m r b (λ j. branch_in ends (x.first_end + j)) (λ j. end_number b landings (x.first_end + j)) x.ends
           (stand_back (edge_ways x) (end_ways x) own)
 
-    pub record_wants : {g g₁ g₂ : List ℕ} {done done₁ done₂ : List ℕ} → EdgesWanted h g done (map (way_of r) (edge_exits m b edges heads x.first_edge x.edges)) g₁ done₁ → EdgesWanted h g₁ done₁ (map (way_of r) (end_exits m b ends landings x.first_end x.ends)) g₂ done₂ → EdgesWanted h g done (record_ways m nodes edges ends heads landings r b x') g₂ done₂
+    pub record_wants : {g g₁ g₂ : Lent} {done done₁ done₂ : List ℕ} → EdgesWanted h g done (map (way_of r) (edge_exits m b edges heads x.first_edge x.edges)) g₁ done₁ → EdgesWanted h g₁ done₁ (map (way_of r) (end_exits m b ends landings x.first_end x.ends)) g₂ done₂ → EdgesWanted h g done (record_ways m nodes edges ends heads landings r b x') g₂ done₂
     record_wants {g} {g₁} {g₂} {done} {done₁} {done₂} a c =
         subst (λ (z : NodeRecord). EdgesWanted h g done (record_ways m nodes edges ends heads landings r b z) g₂ done₂) is
         (rw (both_ways x) (wants_then a c))
 
 -- ---- the blocks of a set
 
-pub record SetWanting (h : List ℕ) (f : ℕ → List Way) (w g₀ : List ℕ) (done₀ : List ℕ) (left g : List ℕ) (done : List ℕ) : Type 0 where
+pub record SetWanting (h : List ℕ) (f : ℕ → List Way) (w : List ℕ) (g₀ : Lent) (done₀ left : List ℕ) (g : Lent) (done : List ℕ) : Type 0 where
   pub long : length left ≡ 16
   pub taken : List ℕ
   pub rest : taken ++ list_of left ≡ list_of w
   pub wants : EdgesWanted h g₀ done₀ (joined f taken) g done
 
-pub wanting_start : (h : List ℕ) (f : ℕ → List Way) (w g : List ℕ) (done : List ℕ) → length w ≡ 16 → SetWanting h f w g done w g done
+pub wanting_start : (h : List ℕ) (f : ℕ → List Way) (w : List ℕ) (g : Lent) (done : List ℕ) → length w ≡ 16 → SetWanting h f w g done w g done
 unfolding joined
 wanting_start h f w g done long = record { long = long; taken = []; rest = refl; wants = wants_none h g done }
 
-module _ {h : List ℕ} (f : ℕ → List Way) {w g₀ : List ℕ} {done₀ : List ℕ} {left g : List ℕ} {done : List ℕ} (p : SetWanting h f w g₀ done₀ left g done) where
+module _ {h : List ℕ} (f : ℕ → List Way) {w : List ℕ} {g₀ : Lent} {done₀ left : List ℕ} {g : Lent} {done : List ℕ} (p : SetWanting h f w g₀ done₀ left g done) where
   pub wanting_end : ((c : ℕ) → member left c ≡ false) → EdgesWanted h g₀ done₀ (joined f (list_of w)) g done
   wanting_end none = rw (sym p.rest ∙ ap (λ (k : List ℕ). p.taken ++ k) (list_none left none) ∙ append-nil p.taken) p.wants
 
@@ -357,7 +358,7 @@ module _ {h : List ℕ} (f : ℕ → List Way) {w g₀ : List ℕ} {done₀ : Li
         let there : o ∈ list_of w = rw p.rest at (Memᴰ.append_right p.taken here) in
         stand_part (joined f (list_of w)) (f o) (λ v k. mem_joined f there k) s
 
-    pub wanting_next : {g' : List ℕ} {done' : List ℕ} → EdgesWanted h g done (f o) g' done' → SetWanting h f w g₀ done₀ (excluding left o) g' done'
+    pub wanting_next : {g' : Lent} {done' : List ℕ} → EdgesWanted h g done (f o) g' done' → SetWanting h f w g₀ done₀ (excluding left o) g' done'
     unfolding joined
     wanting_next a =
         record {
@@ -385,17 +386,17 @@ module _ (m : RouteImage) (nodes edges ends heads landings : List ℕ) where
   unfolding return_ways set_ways place_of place_in
   return_set bases parts returns i r base part w p q s u = rw (p, q, s, u)
 
-module _ {h g₀ : List ℕ} {done₀ : List ℕ} (f : ℕ → List Way) where
+module _ {h : List ℕ} {g₀ : Lent} {done₀ : List ℕ} (f : ℕ → List Way) where
   pub flat_start : EdgesWanted h g₀ done₀ (flat f 0) g₀ done₀
   unfolding flat
   flat_start = wants_none h g₀ done₀
 
-  pub flat_next : {g g' : List ℕ} {done done' : List ℕ} (k : ℕ) → EdgesWanted h g₀ done₀ (flat f k) g done → EdgesWanted h g done (f k) g' done' → EdgesWanted h g₀ done₀ (flat f (k + 1)) g' done'
+  pub flat_next : {g g' : Lent} {done done' : List ℕ} (k : ℕ) → EdgesWanted h g₀ done₀ (flat f k) g done → EdgesWanted h g done (f k) g' done' → EdgesWanted h g₀ done₀ (flat f (k + 1)) g' done'
   flat_next k a b = rw (flat-more f k) (wants_then a b)
 
 -- ---- a node that is over
 
-module _ (h g done : List ℕ) where
+module _ (h : List ℕ) (g : Lent) (done : List ℕ) where
   none-joined : (f : ℕ → List Way) → ((o : ℕ) → EdgesWanted h g done (f o) g done) → (l : List ℕ) → EdgesWanted h g done (joined f l) g done
   unfolding joined
   none-joined f none [] = wants_none h g done

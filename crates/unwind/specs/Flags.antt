@@ -1,10 +1,11 @@
 -- Route edges as they are stored: each pair of a way is the leap of one hop, and a flag of that hop says whether the pair
 -- was wanted before.
+use Rattle.graph.specs.declared.store.Graph.{Graph as Lent}
 use Rattle.std.specs.Prelude.{◌≡◌, true, cond, List, [], ◌∷◌, ℕ, ◌+◌, ◌<◌, eqb, length, get_or}
 use Prim.Native.Nat.{Ordering}
 use Rattle.image.specs.Image.{RouteImage}
 use Rattle.graph.specs.Graph.{Graph, block as block_at}
-use Rattle.graph.specs.Words.{held_in}
+use Rattle.graph.specs.Lent.{held_of}
 use Rattle.graph.specs.Fold.{count}
 use Rattle.graph.specs.BlockSet.{member}
 use Rattle.graph.specs.Adding.{Added}
@@ -93,13 +94,13 @@ pub record SameRuns (g g' : Graph) : Type 0 where
   pub blocks : g'.blocks ≡ g.blocks
 
 -- The edges that ways ws want first are added and their flags set, over the hops in h, whichever leaps were seen before.
-pub record EdgesWanted (h g done : List ℕ) (ws : List Way) (g' done' : List ℕ) : Type 0 where
-  pub runs : SameRuns (held_in g).graph (held_in g').graph
-  pub added : (seen : List Leap) → Flags h done seen → Added g g' (route_edges (held_in g).graph seen ws) [] []
+pub record EdgesWanted (h : List ℕ) (g : Lent) (done : List ℕ) (ws : List Way) (g' : Lent) (done' : List ℕ) : Type 0 where
+  pub runs : SameRuns (held_of g).graph (held_of g').graph
+  pub added : (seen : List Leap) → Flags h done seen → Added g g' (route_edges (held_of g).graph seen ws) [] []
   pub flags : (seen : List Leap) → Flags h done seen → Flags h done' (seen_with ws seen)
 
 -- whichever calls they make
-abbrev pub AllWanted : List ℕ → List ℕ → List ℕ → (RouteImage → List ℕ → List Way) → List ℕ → List ℕ → Type 0
+abbrev pub AllWanted : List ℕ → Lent → List ℕ → (RouteImage → List ℕ → List Way) → Lent → List ℕ → Type 0
 AllWanted h g done f g' done' = (m : RouteImage) (ends : List ℕ) → EdgesWanted h g done (f m ends) g' done'
 
 -- ---- the blocks of a node

@@ -27,6 +27,10 @@ module _ (m : RouteImage) where
 
   -- ---- by the numbers that are lent: `heads` the entry of each node, `landings` where each end lands
 
+  -- of the n branches from a on, branch k to the end of number f k
+  abbrev pub branch_exits : ℕ → List ℕ → (ℕ → ℕ) → ℕ → ℕ → List Exit
+  branch_exits b l f a n = table (λ k. exit_to b (branch_in l (a + k)) (f k)) n
+
   unfoldable pub edge_exits : ℕ → List ℕ → List ℕ → ℕ → ℕ → List Exit
   edge_exits b edges heads a n = table (λ k. exit_to b (branch_in edges (a + k)) (get_or heads (branch_in edges (a + k)).what 0)) n
 
@@ -43,10 +47,6 @@ module _ (m : RouteImage) where
     pub most : r ≤ n + length xs
     pub ordered : Ordered m l' r
     pub is : exits_in m b l' r ≡ put_all compare_exits xs (exits_in m b l n)
-
-  -- those of edges, of whichever block
-  pub record GathersEdges (l : List ℕ) (n : ℕ) (edges heads : List ℕ) (a k : ℕ) (l' : List ℕ) (r : ℕ) : Type 0 where
-    pub gathers : (b : ℕ) → Gathers b l n (edge_exits b edges heads a k) l' r
 
 pub record EntryTo (e : Branch) (n : ℕ) (r : Branch) : Type 0 where
   pub small : BranchSmall r

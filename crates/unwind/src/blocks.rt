@@ -1,8 +1,8 @@
 // Look-up in a graph's own table and among its built blocks, which stand in the table's order.
-ghost use Rattle.std.specs.Prelude.{◌≡◌, true, false, ℕ, ◌&&◌, ◌+◌, ◌*◌, ◌≤◌, ◌<◌, eqb, ltb, length};
+ghost use Rattle.std.specs.Prelude.{◌≡◌, ◌&&◌, ◌+◌, ◌*◌, ◌≤◌, ◌<◌, eqb, ltb, length};
 ghost use Rattle.graph.specs.Graph.{block};
-ghost use Rattle.graph.specs.Words.{held_in};
-ghost use Rattle.graph.specs.Table.{below, entry_at, is_start};
+ghost use Rattle.graph.specs.Lent.{held_of};
+ghost use Rattle.graph.specs.Table.{below, is_start};
 ghost use Rattle.graph.specs.Lookup.{Finds};
 ghost use Rattle.graph.specs.WellFormed.{Built};
 ghost use Rattle.addition.specs.Blocks.{first_of, last_of, leading};
@@ -14,50 +14,22 @@ use crate::slots::{empty_set, put_block};
 use crate::tries::store::number_at;
 use graph::error::AddressBuildError;
 use graph::record::TableEntry;
-use graph::store::Words;
-use graph::store::blocks::block_in;
-use graph::store::table::{table_at, table_count, table_in};
-
-// How many of the n first places pass a test, by halving: those that pass stand before those that do not.
-fn passing<F: Fn(usize) -> bool>(n: usize, test: F) -> usize
-    requires callable { (k : ℕ) → k < n → F.pre test k }
-    requires before { (i j : ℕ) → i < j → j < n → F.post test j true → F.post test i true }
-    requires behind { (i j : ℕ) → i < j → j < n → F.post test i false → F.post test j false }
-    ensures most { result ≤ n }
-    ensures passes { (k : ℕ) → k < result → F.post test k true }
-    ensures fails { (k : ℕ) → result ≤ k → k < n → F.post test k false }
-{
-    let mut lo = 0;
-    let mut hi = n;
-    while lo < hi {
-        let mid = lo + (hi - lo) / 2;
-        if test(mid) {
-            lo = mid + 1;
-        } else {
-            hi = mid;
-        }
-    }
-    lo
-}
+use graph::store::Graph;
+use graph::store::blocks::{block_in, blocks};
+use graph::store::table::{entries, table_at, table_count, table_in};
 
 // How many instructions start below a.
-pub fn position(g: &Words, a: u64) -> usize
-    requires { Stands (held_in g.now).graph }
-    ensures { result ≡ below (held_in g.now).graph.table a }
+pub fn position(g: &Graph, a: u64) -> usize
+    requires { Stands (held_of g.now).graph }
+    ensures { result ≡ below (held_of g.now).graph.table a }
 {
-    passing(
-        table_count(g),
-        |p|
-            requires { p < length (held_in g.now).graph.table }
-            ensures { result ≡ ltb (entry_at (held_in g.entry.now).graph.table p).address a }
-        { table_in(g, p).address < a },
-    )
+    entries(g).partition_point(|e| e.address < a)
 }
 
 // The position of the instruction that starts at a.
-fn find_start(g: &Words, a: u64) -> Option<usize>
-    requires { Stands (held_in g.now).graph }
-    ensures { Finds (held_in g.now).graph.table a result }
+fn find_start(g: &Graph, a: u64) -> Option<usize>
+    requires { Stands (held_of g.now).graph }
+    ensures { Finds (held_of g.now).graph.table a result }
 {
     let p = position(g, a);
     if is_start(g, p, a) {
@@ -67,34 +39,28 @@ fn find_start(g: &Words, a: u64) -> Option<usize>
 }
 
 // Whether an instruction starts at a, whose position is p.
-pub fn is_start(g: &Words, p: usize, a: u64) -> bool
-    requires stands { Stands (held_in g.now).graph }
-    requires position { p ≡ below (held_in g.now).graph.table a }
-    ensures { result ≡ is_start (held_in g.now).graph.table a }
+pub fn is_start(g: &Graph, p: usize, a: u64) -> bool
+    requires stands { Stands (held_of g.now).graph }
+    requires position { p ≡ below (held_of g.now).graph.table a }
+    ensures { result ≡ is_start (held_of g.now).graph.table a }
 {
     p < table_count(g) && table_in(g, p).address == a
 }
 
 // How many of the built blocks begin before position p: the next one, if any, begins at p or behind it.
-pub fn block_from(g: &Words, built: usize, p: usize) -> usize
-    requires stands { Stands (held_in g.now).graph }
-    requires built { Built (held_in g.now).graph built }
-    ensures { Before (held_in g.now).graph built p result }
+pub fn block_from(g: &Graph, built: usize, p: usize) -> usize
+    requires stands { Stands (held_of g.now).graph }
+    requires built { Built (held_of g.now).graph built }
+    ensures { Before (held_of g.now).graph built p result }
 {
-    passing(
-        built,
-        |b|
-            requires { b < length (held_in g.now).graph.blocks }
-            ensures { result ≡ ltb (block (held_in g.entry.now).graph b).first p }
-        { block_in(g, b).first < p as u64 },
-    )
+    blocks(g)[..built].partition_point(|r| r.first < p as u64)
 }
 
 // The hints of the built blocks: where the block that an address starts is likely to stand. Whatever the hints are, an
 // answer is the same: each is tried before it is believed.
-pub fn hint_blocks(g: &Words, built: usize, hints: &mut [u16])
-    requires stands { Stands (held_in g.now).graph }
-    requires built { Built (held_in g.now).graph built }
+pub fn hint_blocks(g: &Graph, built: usize, hints: &mut [u16])
+    requires stands { Stands (held_of g.now).graph }
+    requires built { Built (held_of g.now).graph built }
 {
     // The block of an empty table has no first instruction.
     if table_count(g) == 0 {
@@ -117,14 +83,14 @@ fn hint_slot(n: usize, a: u64) -> usize {
 
 // The built block that a starts, or 14 or 17: by its hint, or else by halving.
 pub fn leading_block(
-    g: &Words,
+    g: &Graph,
     built: usize,
     hints: &[u16],
     a: u64,
 ) -> Result<usize, AddressBuildError>
-    requires stands { Stands (held_in g.now).graph }
-    requires built { Built (held_in g.now).graph built }
-    ensures { result ≡ led a (leading (held_in g.now).graph a) }
+    requires stands { Stands (held_of g.now).graph }
+    requires built { Built (held_of g.now).graph built }
+    ensures { result ≡ led a (leading (held_of g.now).graph a) }
 {
     let b = number_at(hints, hint_slot(hints.len(), a));
     if starts_at(g, built, b, a) {
@@ -135,9 +101,9 @@ pub fn leading_block(
 
 // Whether b is a built block whose first instruction starts at a.
 #[tactic(auto, unfolding(addition::specs::Blocks::first_of))]
-fn starts_at(g: &Words, built: usize, b: usize, a: u64) -> bool
-    requires { built ≤ length (held_in g.now).graph.blocks }
-    ensures { result ≡ (ltb b built && ltb (block (held_in g.now).graph b).first (length (held_in g.now).graph.table) && eqb (first_of (held_in g.now).graph b).address a) }
+fn starts_at(g: &Graph, built: usize, b: usize, a: u64) -> bool
+    requires { built ≤ length (held_of g.now).graph.blocks }
+    ensures { result ≡ (ltb b built && ltb (block (held_of g.now).graph b).first (length (held_of g.now).graph.table) && eqb (first_of (held_of g.now).graph b).address a) }
 {
     if built <= b {
         return false;
@@ -147,10 +113,10 @@ fn starts_at(g: &Words, built: usize, b: usize, a: u64) -> bool
 }
 
 // By halving.
-fn search(g: &Words, built: usize, a: u64) -> Result<usize, AddressBuildError>
-    requires stands { Stands (held_in g.now).graph }
-    requires built { Built (held_in g.now).graph built }
-    ensures { result ≡ led a (leading (held_in g.now).graph a) }
+fn search(g: &Graph, built: usize, a: u64) -> Result<usize, AddressBuildError>
+    requires stands { Stands (held_of g.now).graph }
+    requires built { Built (held_of g.now).graph built }
+    ensures { result ≡ led a (leading (held_of g.now).graph a) }
 {
     let Some(p) = find_start(g, a) else {
         return Err(AddressBuildError::MissingRouteEntry { address: a });
@@ -163,11 +129,11 @@ fn search(g: &Words, built: usize, a: u64) -> Result<usize, AddressBuildError>
 }
 
 // Into set r the built blocks that a route from `start` to `end` covers and that keep their exception edge.
-pub fn guard_blocks(g: &Words, built: usize, start: u64, end: u64, guards: &mut [u64], r: usize)
-    requires stands { Stands (held_in g.now).graph }
-    requires built { Built (held_in g.now).graph built }
+pub fn guard_blocks(g: &Graph, built: usize, start: u64, end: u64, guards: &mut [u64], r: usize)
+    requires stands { Stands (held_of g.now).graph }
+    requires built { Built (held_of g.now).graph built }
     requires guards_fit { 16 * r + 16 ≤ length guards.old }
-    ensures guards { Guards (held_in g.now).graph start end (set_at guards.new r) }
+    ensures guards { Guards (held_of g.now).graph start end (set_at guards.new r) }
     ensures others { SetChanged guards.old r guards.new }
 {
     empty_set(guards, r);
@@ -189,18 +155,18 @@ pub fn guard_blocks(g: &Words, built: usize, start: u64, end: u64, guards: &mut 
 
 // The first instruction of block b, which stands in the table.
 #[tactic(auto, unfolding(addition::specs::Blocks::first_of))]
-pub fn first_of(g: &Words, b: usize) -> TableEntry
-    requires { (b < length (held_in g.now).graph.blocks) × ((block (held_in g.now).graph b).first < length (held_in g.now).graph.table) }
-    ensures { result ≡ first_of (held_in g.now).graph b }
+pub fn first_of(g: &Graph, b: usize) -> TableEntry
+    requires { (b < length (held_of g.now).graph.blocks) × ((block (held_of g.now).graph b).first < length (held_of g.now).graph.table) }
+    ensures { result ≡ first_of (held_of g.now).graph b }
 {
     table_in(g, block_in(g, b).first as usize)
 }
 
 // The last instruction of block b.
 #[tactic(auto, unfolding(addition::specs::Blocks::last_of))]
-pub fn last_of(g: &Words, b: usize) -> TableEntry
-    requires { RunsFit (held_in g.now).graph × (b < length (held_in g.now).graph.blocks) }
-    ensures { result ≡ last_of (held_in g.now).graph b }
+pub fn last_of(g: &Graph, b: usize) -> TableEntry
+    requires { RunsFit (held_of g.now).graph × (b < length (held_of g.now).graph.blocks) }
+    ensures { result ≡ last_of (held_of g.now).graph b }
 {
     let run = block_in(g, b);
     let end = run.first + run.count;

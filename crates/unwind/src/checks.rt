@@ -5,7 +5,7 @@ ghost use Rattle.image.specs.Deal.{UnwindPath, routes_of};
 ghost use Rattle.image.specs.Accepted.{AcceptedRoutes};
 ghost use Rattle.image.specs.There.{RoutesThere};
 ghost use Rattle.graph.specs.Graph.{block};
-ghost use Rattle.graph.specs.Words.{held_in};
+ghost use Rattle.graph.specs.Lent.{held_of};
 ghost use Rattle.graph.specs.Error.{check_of};
 ghost use Rattle.graph.specs.Fold.{checks};
 ghost use Rattle.graph.specs.Table.{below, code_end_of, range_check};
@@ -17,25 +17,25 @@ ghost use Rattle.addition.specs.Add.{range_leads, route_check};
 use crate::blocks::{block_from, is_start, position};
 use graph::error::AddressBuildError;
 use graph::resume::resumes_late;
-use graph::store::Words;
+use graph::store::Graph;
 use graph::store::blocks::block_in;
-use graph::store::table::{table_count, table_in};
+use graph::store::table::{entries, table_in};
 use image::access::{path_in, route_in};
 use image::section::RouteLayout;
 
 // The first refusal among those of the routes. The scan carries along where a route's paths and their steps start.
 #[tactic(auto, using(crate::proofs::RouteChecks::children))]
 pub fn check_routes(
-    g: &Words,
+    g: &Graph,
     built: usize,
     s: &[u8],
     y: RouteLayout,
 ) -> Result<(), AddressBuildError>
-    requires stands { Stands (held_in g.now).graph }
-    requires built { Built (held_in g.now).graph built }
+    requires stands { Stands (held_of g.now).graph }
+    requires built { Built (held_of g.now).graph built }
     requires accepted { AcceptedRoutes (routes_in s.now y) }
     requires there { RoutesThere s.now y }
-    ensures { check_of result ≡ checks (route_check (held_in g.now).graph (routes_of (routes_in s.now y))) (length (routes_of (routes_in s.now y))) }
+    ensures { check_of result ≡ checks (route_check (held_of g.now).graph (routes_of (routes_in s.now y))) (length (routes_of (routes_in s.now y))) }
 {
     let end = code_end(g);
     let all = y.routes;
@@ -54,7 +54,7 @@ pub fn check_routes(
 // Route r, whose paths start at `path` and their steps at `step`.
 #[tactic(auto, using(crate::proofs::RouteChecks::counted))]
 fn check_route(
-    g: &Words,
+    g: &Graph,
     built: usize,
     code_end: u64,
     s: &[u8],
@@ -63,12 +63,12 @@ fn check_route(
     path: usize,
     step: usize,
 ) -> Result<(), AddressBuildError>
-    requires stands { Stands (held_in g.now).graph }
-    requires built { Built (held_in g.now).graph built }
-    requires end_is { code_end ≡ code_end_of (held_in g.now).graph.table }
+    requires stands { Stands (held_of g.now).graph }
+    requires built { Built (held_of g.now).graph built }
+    requires end_is { code_end ≡ code_end_of (held_of g.now).graph.table }
     requires placed { Placed (routes_in s.now y) r path step }
     requires there { RoutesThere s.now y }
-    ensures { check_of result ≡ route_check (held_in g.now).graph (routes_of (routes_in s.now y)) r }
+    ensures { check_of result ≡ route_check (held_of g.now).graph (routes_of (routes_in s.now y)) r }
 {
     let route = route_in(s, y.routes, r);
     let start = route.start;
@@ -100,32 +100,27 @@ fn steps_behind(s: &[u8], y: RouteLayout, path: usize, n: usize, step: usize) ->
 
 // The greatest end of all: a range may end there, where no instruction starts.
 #[tactic(auto, unfolding(graph::specs::Table::code_end_of))]
-fn code_end(g: &Words) -> u64
-    ensures { result ≡ code_end_of (held_in g.now).graph.table }
+fn code_end(g: &Graph) -> u64
+    ensures { result ≡ code_end_of (held_of g.now).graph.table }
 {
-    let n = table_count(g);
-    let mut greatest: u64 = 0;
-    for i in 0..n {
-        greatest = greatest.max(table_in(g, i).end);
-    }
-    greatest
+    entries(g).iter().fold(0, |greatest, e| e.end.max(greatest))
 }
 
 // 10 to 12 of a range, whose ends have the positions `first` and `past`.
 #[tactic(auto, unfolding(graph::specs::Table::range_check))]
 fn check_range(
-    g: &Words,
+    g: &Graph,
     code_end: u64,
     start: u64,
     end: u64,
     first: usize,
     past: usize,
 ) -> Result<(), AddressBuildError>
-    requires stands { Stands (held_in g.now).graph }
-    requires end_is { code_end ≡ code_end_of (held_in g.now).graph.table }
-    requires first_is { first ≡ below (held_in g.now).graph.table start }
-    requires past_is { past ≡ below (held_in g.now).graph.table end }
-    ensures { check_of result ≡ range_check (held_in g.now).graph.table start end }
+    requires stands { Stands (held_of g.now).graph }
+    requires end_is { code_end ≡ code_end_of (held_of g.now).graph.table }
+    requires first_is { first ≡ below (held_of g.now).graph.table start }
+    requires past_is { past ≡ below (held_of g.now).graph.table end }
+    ensures { check_of result ≡ range_check (held_of g.now).graph.table start end }
 {
     if end <= start {
         return Err(AddressBuildError::EmptyProtectedRange { start, end });
@@ -141,11 +136,11 @@ fn check_range(
 
 // 17 of a range whose ends have the positions `first` and `past`: the built blocks that its instructions lead stand one
 // behind the other.
-fn check_leads(g: &Words, built: usize, first: usize, past: usize) -> Result<(), AddressBuildError>
-    requires stands { Stands (held_in g.now).graph }
-    requires built { Built (held_in g.now).graph built }
-    requires past_within { past ≤ length (held_in g.now).graph.table }
-    ensures { (start end : ℕ) → first ≡ below (held_in g.now).graph.table start → past ≡ below (held_in g.now).graph.table end → (ps : List UnwindPath) → check_of result ≡ checks (range_leads (held_in g.now).graph (route_of start end ps)) (length (held_in g.now).graph.table) }
+fn check_leads(g: &Graph, built: usize, first: usize, past: usize) -> Result<(), AddressBuildError>
+    requires stands { Stands (held_of g.now).graph }
+    requires built { Built (held_of g.now).graph built }
+    requires past_within { past ≤ length (held_of g.now).graph.table }
+    ensures { (start end : ℕ) → first ≡ below (held_of g.now).graph.table start → past ≡ below (held_of g.now).graph.table end → (ps : List UnwindPath) → check_of result ≡ checks (range_leads (held_of g.now).graph (route_of start end ps)) (length (held_of g.now).graph.table) }
 {
     let mut b = block_from(g, built, first);
     for p in first..past {
@@ -159,9 +154,9 @@ fn check_leads(g: &Words, built: usize, first: usize, past: usize) -> Result<(),
 }
 
 // Whether b is a built block that begins at position p.
-fn begins_at(g: &Words, built: usize, b: usize, p: usize) -> bool
-    requires { built ≤ length (held_in g.now).graph.blocks }
-    ensures { result ≡ (ltb b built && eqb (block (held_in g.now).graph b).first p) }
+fn begins_at(g: &Graph, built: usize, b: usize, p: usize) -> bool
+    requires { built ≤ length (held_of g.now).graph.blocks }
+    ensures { result ≡ (ltb b built && eqb (block (held_of g.now).graph b).first p) }
 {
     b < built && block_in(g, b).first == p as u64
 }

@@ -2,7 +2,7 @@
 // `bases` and sixteen in `parts`.
 ghost use Rattle.std.specs.Prelude.{◌≡◌, true, [], map, ℕ, ◌≤◌, ◌<◌, length};
 ghost use Rattle.graph.specs.Graph.{block};
-ghost use Rattle.graph.specs.Words.{held_in};
+ghost use Rattle.graph.specs.Lent.{held_of};
 ghost use Rattle.graph.specs.BlockSet.{member};
 ghost use Rattle.graph.specs.Stored.{Stored};
 ghost use Rattle.graph.specs.Adding.{with_blocks, Added};
@@ -15,26 +15,26 @@ use crate::slots::set_at;
 use crate::tries::store::number_in;
 use graph::blockset::{has_in, next_in, rank_in};
 use graph::record::Edge;
-use graph::store::Words;
+use graph::store::Graph;
 use graph::store::blocks::{add_block, block_count, block_in};
 use graph::store::edges::{add_edge, edge_count, edge_in};
 
 // How many edges the copies of n nodes add.
 pub fn clone_edge_count(
-    g: &Words,
+    g: &Graph,
     head: &[u16],
     next: &[u16],
     bases: &[u16],
     parts: &[u64],
     n: usize,
 ) -> usize
-    requires ends { Ends (held_in g.now).graph }
-    requires roomy { Roomy (held_in g.now).graph head.now next.now }
-    requires linked { Linked (held_in g.now).graph head.now next.now 0 }
+    requires ends { Ends (held_of g.now).graph }
+    requires roomy { Roomy (held_of g.now).graph head.now next.now }
+    requires linked { Linked (held_of g.now).graph head.now next.now 0 }
     requires few { n ≤ 1024 }
-    requires sets_in { SetsIn (held_in g.now).graph parts.now n }
+    requires sets_in { SetsIn (held_of g.now).graph parts.now n }
     requires bases_fit { n ≤ length bases.now }
-    ensures { result ≡ length (edge_copies (held_in g.now).graph bases.now parts.now n) }
+    ensures { result ≡ length (edge_copies (held_of g.now).graph bases.now parts.now n) }
 {
     let mut count = 0;
     for i in 0..n {
@@ -47,12 +47,12 @@ pub fn clone_edge_count(
 }
 
 // How many edges go out of the blocks of a set.
-fn edges_out(g: &Words, head: &[u16], next: &[u16], set: &[u64; 16]) -> usize
-    requires ends { Ends (held_in g.now).graph }
-    requires roomy { Roomy (held_in g.now).graph head.now next.now }
-    requires linked { Linked (held_in g.now).graph head.now next.now 0 }
-    requires blocks { (b : ℕ) → member set.now b ≡ true → b < length (held_in g.now).graph.blocks }
-    ensures counts { result ≡ length (joined (outgoing (held_in g.now).graph) (list_of set.now)) }
+fn edges_out(g: &Graph, head: &[u16], next: &[u16], set: &[u64; 16]) -> usize
+    requires ends { Ends (held_of g.now).graph }
+    requires roomy { Roomy (held_of g.now).graph head.now next.now }
+    requires linked { Linked (held_of g.now).graph head.now next.now 0 }
+    requires blocks { (b : ℕ) → member set.now b ≡ true → b < length (held_of g.now).graph.blocks }
+    ensures counts { result ≡ length (joined (outgoing (held_of g.now).graph) (list_of set.now)) }
     ensures small { result ≤ 4194304 }
 {
     let blocks = block_count(g);
@@ -66,12 +66,12 @@ fn edges_out(g: &Words, head: &[u16], next: &[u16], set: &[u64; 16]) -> usize
 }
 
 // How many edges go out of block b.
-fn out_degree(g: &Words, head: &[u16], next: &[u16], b: usize) -> usize
-    requires ends { Ends (held_in g.now).graph }
-    requires roomy { Roomy (held_in g.now).graph head.now next.now }
-    requires linked { Linked (held_in g.now).graph head.now next.now 0 }
+fn out_degree(g: &Graph, head: &[u16], next: &[u16], b: usize) -> usize
+    requires ends { Ends (held_of g.now).graph }
+    requires roomy { Roomy (held_of g.now).graph head.now next.now }
+    requires linked { Linked (held_of g.now).graph head.now next.now 0 }
     requires block { b < length head.now }
-    ensures counts { result ≡ length (outgoing (held_in g.now).graph b) }
+    ensures counts { result ≡ length (outgoing (held_of g.now).graph b) }
     ensures small { result ≤ 4096 }
 {
     // There is no slice to go over: each link says where the next one stands.
@@ -86,19 +86,19 @@ fn out_degree(g: &Words, head: &[u16], next: &[u16], b: usize) -> usize
 
 // Adds the copies of the edges of n nodes, before those of the blocks.
 pub fn add_clone_edges(
-    g: &mut Words,
+    g: &mut Graph,
     head: &[u16],
     next: &[u16],
     bases: &[u16],
     parts: &[u64],
     n: usize,
 )
-    requires ends { Ends (held_in g.old).graph }
-    requires roomy { Roomy (held_in g.old).graph head.now next.now }
-    requires linked { Linked (held_in g.old).graph head.now next.now 0 }
-    requires sets_in { SetsIn (held_in g.old).graph parts.now n }
+    requires ends { Ends (held_of g.old).graph }
+    requires roomy { Roomy (held_of g.old).graph head.now next.now }
+    requires linked { Linked (held_of g.old).graph head.now next.now 0 }
+    requires sets_in { SetsIn (held_of g.old).graph parts.now n }
     requires bases_fit { n ≤ length bases.now }
-    ensures { Added g.old g.new (edge_copies (held_in g.old).graph bases.now parts.now n) [] [] }
+    ensures { Added g.old g.new (edge_copies (held_of g.old).graph bases.now parts.now n) [] [] }
 {
     let m = edge_count(g);
     for i in 0..n {
@@ -111,11 +111,11 @@ pub fn add_clone_edges(
 }
 
 // Adds those of the edges out of the blocks of a set, of which the first is copied as block `base`. The first m edges are linked.
-fn copy_edges(g: &mut Words, m: usize, head: &[u16], next: &[u16], base: usize, set: &[u64; 16])
-    requires linked { LinkedTo (held_in g.old).graph m head.now next.now }
+fn copy_edges(g: &mut Graph, m: usize, head: &[u16], next: &[u16], base: usize, set: &[u64; 16])
+    requires linked { LinkedTo (held_of g.old).graph m head.now next.now }
     requires base_small { base < 65536 }
-    requires blocks { (b : ℕ) → member set.now b ≡ true → b < length (held_in g.old).graph.blocks }
-    ensures { Added g.old g.new (joined (λ b. map (copy_of base set.now) (outgoing (first_edges (held_in g.old).graph m) b)) (list_of set.now)) [] [] }
+    requires blocks { (b : ℕ) → member set.now b ≡ true → b < length (held_of g.old).graph.blocks }
+    ensures { Added g.old g.new (joined (λ b. map (copy_of base set.now) (outgoing (first_edges (held_of g.old).graph m) b)) (list_of set.now)) [] [] }
 {
     let blocks = block_count(g);
     let mut from = 0;
@@ -127,7 +127,7 @@ fn copy_edges(g: &mut Words, m: usize, head: &[u16], next: &[u16], base: usize, 
 
 // Adds those of the edges out of block b.
 fn copy_from(
-    g: &mut Words,
+    g: &mut Graph,
     m: usize,
     head: &[u16],
     next: &[u16],
@@ -135,10 +135,10 @@ fn copy_from(
     set: &[u64; 16],
     b: usize,
 )
-    requires linked { LinkedTo (held_in g.old).graph m head.now next.now }
+    requires linked { LinkedTo (held_of g.old).graph m head.now next.now }
     requires base_small { base < 65536 }
     requires block { b < length head.now }
-    ensures { Added g.old g.new (map (copy_of base set.now) (outgoing (first_edges (held_in g.old).graph m) b)) [] [] }
+    ensures { Added g.old g.new (map (copy_of base set.now) (outgoing (first_edges (held_of g.old).graph m) b)) [] [] }
 {
     // There is no slice to go over: each link says where the next one stands.
     let mut at = number_in(head, b);
@@ -174,10 +174,10 @@ fn copy_of(base: usize, set: &[u64; 16], e: Edge) -> Edge
 }
 
 // Adds the copies of the blocks of n nodes.
-pub fn add_clone_blocks(g: &mut Words, bases: &[u16], parts: &[u64], n: usize)
-    requires sets_in { SetsIn (held_in g.old).graph parts.now n }
+pub fn add_clone_blocks(g: &mut Graph, bases: &[u16], parts: &[u64], n: usize)
+    requires sets_in { SetsIn (held_of g.old).graph parts.now n }
     requires bases_fit { n ≤ length bases.now }
-    ensures { Stored g.old g.new (with_blocks (held_in g.old) (block_copies (held_in g.old).graph bases.now parts.now n)) }
+    ensures { Stored g.old g.new (with_blocks (held_of g.old) (block_copies (held_of g.old).graph bases.now parts.now n)) }
 {
     for i in 0..n {
         if number_in(bases, i) != 0 {
@@ -188,9 +188,9 @@ pub fn add_clone_blocks(g: &mut Words, bases: &[u16], parts: &[u64], n: usize)
 }
 
 // Adds those of the blocks of a set.
-fn copy_blocks(g: &mut Words, set: &[u64; 16])
-    requires { (b : ℕ) → member set.now b ≡ true → b < length (held_in g.old).graph.blocks }
-    ensures { Stored g.old g.new (with_blocks (held_in g.old) (map (block (held_in g.old).graph) (list_of set.now))) }
+fn copy_blocks(g: &mut Graph, set: &[u64; 16])
+    requires { (b : ℕ) → member set.now b ≡ true → b < length (held_of g.old).graph.blocks }
+    ensures { Stored g.old g.new (with_blocks (held_of g.old) (map (block (held_of g.old).graph) (list_of set.now))) }
 {
     let blocks = block_count(g);
     let mut from = 0;

@@ -5,7 +5,7 @@ ghost use Rattle.image.specs.Image.{routes_in};
 ghost use Rattle.image.specs.Deal.{routes_of};
 ghost use Rattle.graph.specs.BlockSet.{none};
 ghost use Rattle.graph.specs.Graph.{edge};
-ghost use Rattle.graph.specs.Words.{held_in};
+ghost use Rattle.graph.specs.Lent.{held_of};
 ghost use Rattle.graph.specs.Search.{Ends, Linked, Roomy, Follows};
 ghost use Rattle.graph.specs.WellFormed.{is_built};
 ghost use Rattle.addition.specs.Lists.{keep, is_empty};
@@ -20,7 +20,7 @@ use crate::slots::{in_set, put_block};
 use crate::tries::store::{node_in, number_in};
 use graph::blockset::{has_in, lowest_below, put_in, take_from};
 use graph::record::Edge;
-use graph::store::Words;
+use graph::store::Graph;
 use graph::store::blocks::block_count;
 use graph::store::edges::edge_in;
 use image::section::RouteLayout;
@@ -44,7 +44,7 @@ fn is_ordinary(kind: u64) -> bool
 // The built blocks that start a funclet of the routes, put into an empty set: the entries of the n nodes but the roots.
 // Of the graph and the routes nothing is read; the contract speaks of them.
 pub fn funclet_entries(
-    g: &Words,
+    g: &Graph,
     s: &[u8],
     y: RouteLayout,
     nodes: &[u16],
@@ -52,14 +52,14 @@ pub fn funclet_entries(
     heads: &[u16],
     set: &mut [u64; 16],
 )
-    requires stands { Stands (held_in g.now).graph }
+    requires stands { Stands (held_of g.now).graph }
     requires named { Named (routes_in s.now y) nodes.now n }
-    requires leads { (i : ℕ) → i < n → funclet_check (held_in g.now).graph (funclet_at (routes_in s.now y) nodes.now i) ≡ clear }
-    requires entered { Entered (held_in g.now).graph (routes_in s.now y) nodes.now heads.now n }
+    requires leads { (i : ℕ) → i < n → funclet_check (held_of g.now).graph (funclet_at (routes_in s.now y) nodes.now i) ≡ clear }
+    requires entered { Entered (held_of g.now).graph (routes_in s.now y) nodes.now heads.now n }
     requires nodes_fit { 6 * n ≤ length nodes.now }
     requires heads_fit { n ≤ length heads.now }
     requires empty { set.old ≡ none }
-    ensures { Barriers (held_in g.now).graph (routes_of (routes_in s.now y)) set.new }
+    ensures { Barriers (held_of g.now).graph (routes_of (routes_in s.now y)) set.new }
 {
     // A node is a number: it has six numbers in one slice, and one in the other.
     for i in 0..n {
@@ -70,12 +70,12 @@ pub fn funclet_entries(
 }
 
 // Whether an ordinary edge goes out of block b, along edges that are linked by their source.
-fn leads_on(g: &Words, head: &[u16], next: &[u16], b: usize) -> bool
-    requires stands { Stands (held_in g.now).graph }
-    requires roomy { Roomy (held_in g.now).graph head.now next.now }
-    requires linked { Linked (held_in g.now).graph head.now next.now 0 }
-    requires block { b < length (held_in g.now).graph.blocks }
-    ensures { result ≡ not (is_empty (keep ordinary (outgoing (held_in g.now).graph b))) }
+fn leads_on(g: &Graph, head: &[u16], next: &[u16], b: usize) -> bool
+    requires stands { Stands (held_of g.now).graph }
+    requires roomy { Roomy (held_of g.now).graph head.now next.now }
+    requires linked { Linked (held_of g.now).graph head.now next.now 0 }
+    requires block { b < length (held_of g.now).graph.blocks }
+    ensures { result ≡ not (is_empty (keep ordinary (outgoing (held_of g.now).graph b))) }
 {
     // There is no slice to go over: each link says where the next one stands.
     let mut at = number_in(head, b);
@@ -91,24 +91,24 @@ fn leads_on(g: &Words, head: &[u16], next: &[u16], b: usize) -> bool
 
 // Whether block b returns. Its edges are looked at only if it ends in a jump.
 #[tactic(auto, unfolding(addition::specs::Part::returning))]
-fn returning(g: &Words, head: &[u16], next: &[u16], b: usize) -> bool
-    requires stands { Stands (held_in g.now).graph }
-    requires roomy { Roomy (held_in g.now).graph head.now next.now }
-    requires linked { Linked (held_in g.now).graph head.now next.now 0 }
-    requires block { b < length (held_in g.now).graph.blocks }
-    ensures { result ≡ is_returning (held_in g.now).graph b }
+fn returning(g: &Graph, head: &[u16], next: &[u16], b: usize) -> bool
+    requires stands { Stands (held_of g.now).graph }
+    requires roomy { Roomy (held_of g.now).graph head.now next.now }
+    requires linked { Linked (held_of g.now).graph head.now next.now 0 }
+    requires block { b < length (held_of g.now).graph.blocks }
+    ensures { result ≡ is_returning (held_of g.now).graph b }
 {
     let flow = last_of(g, b).flow;
     flow == RETURN || flow == JUMP && !leads_on(g, head, next, b)
 }
 
 // The blocks that return, put into an empty set.
-pub fn returning_blocks(g: &Words, head: &[u16], next: &[u16], set: &mut [u64; 16])
-    requires stands { Stands (held_in g.now).graph }
+pub fn returning_blocks(g: &Graph, head: &[u16], next: &[u16], set: &mut [u64; 16])
+    requires stands { Stands (held_of g.now).graph }
     requires empty { set.old ≡ none }
-    requires roomy { Roomy (held_in g.now).graph head.now next.now }
-    requires linked { Linked (held_in g.now).graph head.now next.now 0 }
-    ensures { Returners (held_in g.now).graph set.new }
+    requires roomy { Roomy (held_of g.now).graph head.now next.now }
+    requires linked { Linked (held_of g.now).graph head.now next.now 0 }
+    ensures { Returners (held_of g.now).graph set.new }
 {
     let n = block_count(g);
     for b in 0..n {
@@ -121,7 +121,7 @@ pub fn returning_blocks(g: &Words, head: &[u16], next: &[u16], set: &mut [u64; 1
 // Puts into set i of `parts`, which is empty, the part of the funclet whose entry is block `start`, along edges that are linked by
 // their source.
 pub fn part_of(
-    g: &Words,
+    g: &Graph,
     head: &[u16],
     next: &[u16],
     barriers: &[u64; 16],
@@ -129,14 +129,14 @@ pub fn part_of(
     parts: &mut [u64],
     i: usize,
 )
-    requires stands { Stands (held_in g.now).graph }
-    requires roomy { Roomy (held_in g.now).graph head.now next.now }
-    requires linked { Linked (held_in g.now).graph head.now next.now 0 }
-    requires start_in { start < length (held_in g.now).graph.blocks }
-    requires start_built { is_built (held_in g.now).graph start ≡ true }
+    requires stands { Stands (held_of g.now).graph }
+    requires roomy { Roomy (held_of g.now).graph head.now next.now }
+    requires linked { Linked (held_of g.now).graph head.now next.now 0 }
+    requires start_in { start < length (held_of g.now).graph.blocks }
+    requires start_built { is_built (held_of g.now).graph start ≡ true }
     requires parts_fit { 16 * i + 16 ≤ length parts.old }
     requires empty { set_at parts.old i ≡ none }
-    ensures part { PartFrom (held_in g.now).graph barriers.now start (set_at parts.new i) }
+    ensures part { PartFrom (held_of g.now).graph barriers.now start (set_at parts.new i) }
     ensures others { SetChanged parts.old i parts.new }
 {
     let blocks = block_count(g);
@@ -151,7 +151,7 @@ pub fn part_of(
 
 // Follows the edges from b; what is seen is set i.
 fn follow(
-    g: &Words,
+    g: &Graph,
     head: &[u16],
     next: &[u16],
     barriers: &[u64; 16],
@@ -160,12 +160,12 @@ fn follow(
     i: usize,
     pending: &mut [u64; 16],
 )
-    requires stands { Stands (held_in g.now).graph }
-    requires roomy { Roomy (held_in g.now).graph head.now next.now }
-    requires linked { Linked (held_in g.now).graph head.now next.now 0 }
-    requires block { b < length (held_in g.now).graph.blocks }
+    requires stands { Stands (held_of g.now).graph }
+    requires roomy { Roomy (held_of g.now).graph head.now next.now }
+    requires linked { Linked (held_of g.now).graph head.now next.now 0 }
+    requires block { b < length (held_of g.now).graph.blocks }
     requires parts_fit { 16 * i + 16 ≤ length parts.old }
-    ensures follows { (e : ℕ) → Follows (bounded (held_in g.now).graph barriers.now e) b (length (held_in g.now).graph.edges) (set_at parts.old i) pending.old (set_at parts.new i) pending.new }
+    ensures follows { (e : ℕ) → Follows (bounded (held_of g.now).graph barriers.now e) b (length (held_of g.now).graph.edges) (set_at parts.old i) pending.old (set_at parts.new i) pending.new }
     ensures others { SetChanged parts.old i parts.new }
 {
     // There is no slice to go over: each link says where the next one stands.
@@ -179,17 +179,17 @@ fn follow(
 
 // Edge k: where it is followed, its target is seen, and is pending unless it was seen before.
 fn take_edge(
-    g: &Words,
+    g: &Graph,
     k: usize,
     barriers: &[u64; 16],
     parts: &mut [u64],
     i: usize,
     pending: &mut [u64; 16],
 )
-    requires edge { k < length (held_in g.now).graph.edges }
-    requires ends { Ends (held_in g.now).graph }
+    requires edge { k < length (held_of g.now).graph.edges }
+    requires ends { Ends (held_of g.now).graph }
     requires parts_fit { 16 * i + 16 ≤ length parts.old }
-    ensures takes { Takes barriers.now (edge (held_in g.now).graph k) (set_at parts.old i) pending.old (set_at parts.new i) pending.new }
+    ensures takes { Takes barriers.now (edge (held_of g.now).graph k) (set_at parts.old i) pending.old (set_at parts.new i) pending.new }
     ensures others { SetChanged parts.old i parts.new }
 {
     let e = edge_in(g, k);

@@ -3,7 +3,7 @@
 ghost use Rattle.std.specs.Prelude.{◌≡◌, true, ℕ, ◌+◌, ◌*◌, ◌≤◌, ◌<◌, length, get_or};
 ghost use Rattle.image.specs.Refusal.{clear};
 ghost use Rattle.image.specs.Image.{routes_in};
-ghost use Rattle.graph.specs.Words.{held_in};
+ghost use Rattle.graph.specs.Lent.{held_of};
 ghost use Rattle.graph.specs.Error.{check_of};
 ghost use Rattle.graph.specs.Fold.{count};
 ghost use Rattle.graph.specs.BlockSet.{member, none, size_of};
@@ -21,7 +21,7 @@ use crate::slots::{empty_set, members_of, put_set, set_at};
 use crate::tries::store::{node_in, number_in};
 use graph::blockset::rank_in;
 use graph::error::AddressBuildError;
-use graph::store::Words;
+use graph::store::Graph;
 use graph::store::blocks::block_count;
 use image::section::RouteLayout;
 
@@ -31,7 +31,7 @@ const MOST: usize = 1024;
 // The instances of the n nodes, told the entries of their funclets, by the first node of each; 18 where with their copies there
 // are too many blocks. Of the routes nothing is read; the contract speaks of them.
 pub fn place_nodes(
-    g: &Words,
+    g: &Graph,
     s: &[u8],
     y: RouteLayout,
     nodes: &[u16],
@@ -44,14 +44,14 @@ pub fn place_nodes(
     parts: &mut [u64],
     firsts: &mut [u16],
 ) -> Result<(), AddressBuildError>
-    requires ready { Ready (held_in g.now).graph (routes_in s.now y) head.now next.now barriers.now }
-    requires leads { (i : ℕ) → i < n → funclet_check (held_in g.now).graph (funclet_at (routes_in s.now y) nodes.now i) ≡ clear }
+    requires ready { Ready (held_of g.now).graph (routes_in s.now y) head.now next.now barriers.now }
+    requires leads { (i : ℕ) → i < n → funclet_check (held_of g.now).graph (funclet_at (routes_in s.now y) nodes.now i) ≡ clear }
     requires slots { Slots n bases.old entries.old parts.old }
-    requires firsts { Firsts (held_in g.now).graph (routes_in s.now y) nodes.now firsts.old 0 }
+    requires firsts { Firsts (held_of g.now).graph (routes_in s.now y) nodes.now firsts.old 0 }
     requires few { n ≤ 544 }
     requires nodes_fit { 6 * n ≤ length nodes.now }
-    requires entered { Entered (held_in g.now).graph (routes_in s.now y) nodes.now entries.old n }
-    ensures { PlacedAll (held_in g.now).graph (routes_in s.now y) nodes.now n bases.new entries.new parts.new (check_of result) }
+    requires entered { Entered (held_of g.now).graph (routes_in s.now y) nodes.now entries.old n }
+    ensures { PlacedAll (held_of g.now).graph (routes_in s.now y) nodes.now n bases.new entries.new parts.new (check_of result) }
 {
     let mut base = block_count(g);
     for i in 0..n {
@@ -67,7 +67,7 @@ pub fn place_nodes(
 
 // Node i: the first of its funclet has the original blocks, a later one copies, which begin with block `base`; how many.
 fn place_node(
-    g: &Words,
+    g: &Graph,
     s: &[u8],
     y: RouteLayout,
     nodes: &[u16],
@@ -81,16 +81,16 @@ fn place_node(
     parts: &mut [u64],
     firsts: &mut [u16],
 ) -> usize
-    requires ready { Ready (held_in g.now).graph (routes_in s.now y) head.now next.now barriers.now }
-    requires leads { (j : ℕ) → j ≤ i → funclet_check (held_in g.now).graph (funclet_at (routes_in s.now y) nodes.now j) ≡ clear }
+    requires ready { Ready (held_of g.now).graph (routes_in s.now y) head.now next.now barriers.now }
+    requires leads { (j : ℕ) → j ≤ i → funclet_check (held_of g.now).graph (funclet_at (routes_in s.now y) nodes.now j) ≡ clear }
     requires slots { Slots (i + 1) bases.old entries.old parts.old }
-    requires firsts { Firsts (held_in g.now).graph (routes_in s.now y) nodes.now firsts.old i }
+    requires firsts { Firsts (held_of g.now).graph (routes_in s.now y) nodes.now firsts.old i }
     requires few { i < 544 }
     requires base_most { base ≤ 1024 }
     requires nodes_fit { 6 * i + 6 ≤ length nodes.now }
-    requires entry_is { get_or entries.old i 0 ≡ entry_block (held_in g.now).graph (funclet_at (routes_in s.now y) nodes.now i) }
-    ensures placing { Placing (held_in g.now).graph (routes_in s.now y) nodes.now i base result bases.old entries.old parts.old bases.new entries.new parts.new }
-    ensures firsts { Firsts (held_in g.now).graph (routes_in s.now y) nodes.now firsts.new (i + 1) }
+    requires entry_is { get_or entries.old i 0 ≡ entry_block (held_of g.now).graph (funclet_at (routes_in s.now y) nodes.now i) }
+    ensures placing { Placing (held_of g.now).graph (routes_in s.now y) nodes.now i base result bases.old entries.old parts.old bases.new entries.new parts.new }
+    ensures firsts { Firsts (held_of g.now).graph (routes_in s.now y) nodes.now firsts.new (i + 1) }
 {
     let f = node_in(nodes, i).funclet;
     let entry = number_in(entries, i);
@@ -108,7 +108,7 @@ fn place_node(
 // Node i, the first of the funclet that step f - 1 names, whose entry is block `entry`: it has the original blocks, those of the
 // funclet's part; none at the root of a route.
 fn place_first(
-    g: &Words,
+    g: &Graph,
     head: &[u16],
     next: &[u16],
     barriers: &[u64; 16],
@@ -119,15 +119,15 @@ fn place_first(
     entries: &mut [u16],
     parts: &mut [u64],
 )
-    requires stands { Stands (held_in g.now).graph }
-    requires roomy { Roomy (held_in g.now).graph head.now next.now }
-    requires linked { Linked (held_in g.now).graph head.now next.now 0 }
-    requires leads { (f ≡ 0 → ⊥) → (entry < length (held_in g.now).graph.blocks) × (is_built (held_in g.now).graph entry ≡ true) }
+    requires stands { Stands (held_of g.now).graph }
+    requires roomy { Roomy (held_of g.now).graph head.now next.now }
+    requires linked { Linked (held_of g.now).graph head.now next.now 0 }
+    requires leads { (f ≡ 0 → ⊥) → (entry < length (held_of g.now).graph.blocks) × (is_built (held_of g.now).graph entry ≡ true) }
     requires slots { Slots (i + 1) bases.old entries.old parts.old }
     requires entry_most { entry ≤ 1024 }
     ensures placed { NodePlaced i 0 entry (set_at parts.new i) bases.old entries.old parts.old bases.new entries.new parts.new }
     ensures root { f ≡ 0 → set_at parts.new i ≡ none }
-    ensures part { (f ≡ 0 → ⊥) → PartFrom (held_in g.now).graph barriers.now entry (set_at parts.new i) }
+    ensures part { (f ≡ 0 → ⊥) → PartFrom (held_of g.now).graph barriers.now entry (set_at parts.new i) }
 {
     bases[i] = 0;
     entries[i] = entry as u16;

@@ -3,7 +3,7 @@ ghost use Rattle.std.specs.Prelude.{◌≡◌, ◌*◌, ◌≤◌, ◌<◌, leng
 ghost use Rattle.image.specs.Image.{routes_in};
 ghost use Rattle.image.specs.Deal.{end_of};
 ghost use Rattle.image.specs.There.{RoutesThere};
-ghost use Rattle.graph.specs.Words.{held_in};
+ghost use Rattle.graph.specs.Lent.{held_of};
 ghost use Rattle.graph.specs.WellFormed.{Built};
 ghost use Rattle.unwind.specs.Stands.{Stands};
 ghost use Rattle.unwind.specs.Nodes.{path_record};
@@ -14,7 +14,7 @@ use crate::emit::entries::LEAVE;
 use crate::routes::path_of;
 use crate::tries::store::branch_in;
 use graph::resume::HANDLER;
-use graph::store::Words;
+use graph::store::Graph;
 use image::access::route_in;
 use image::section::RouteLayout;
 
@@ -25,12 +25,12 @@ const PROPAGATE: u64 = 1;
 
 // The blocks that each route guards, a set for each.
 #[tactic(auto, using(crate::proofs::RouteChecks::counted))]
-pub fn guard_routes(g: &Words, built: usize, s: &[u8], y: RouteLayout, guards: &mut [u64])
-    requires stands { Stands (held_in g.now).graph }
-    requires built { Built (held_in g.now).graph built }
+pub fn guard_routes(g: &Graph, built: usize, s: &[u8], y: RouteLayout, guards: &mut [u64])
+    requires stands { Stands (held_of g.now).graph }
+    requires built { Built (held_of g.now).graph built }
     requires guards_fit { 16 * length (routes_in s.now y).routes ≤ length guards.old }
     requires there { RoutesThere s.now y }
-    ensures { GuardsIn (held_in g.now).graph (routes_in s.now y) guards.new (length (routes_in s.now y).routes) }
+    ensures { GuardsIn (held_of g.now).graph (routes_in s.now y) guards.new (length (routes_in s.now y).routes) }
 {
     let n = y.routes.count as usize;
     for r in 0..n {
@@ -41,7 +41,7 @@ pub fn guard_routes(g: &Words, built: usize, s: &[u8], y: RouteLayout, guards: &
 
 // Where the first n ends land.
 pub fn land_ends(
-    g: &Words,
+    g: &Graph,
     built: usize,
     hints: &[u16],
     s: &[u8],
@@ -50,12 +50,12 @@ pub fn land_ends(
     n: usize,
     landings: &mut [u16],
 )
-    requires stands { Stands (held_in g.now).graph }
-    requires built { Built (held_in g.now).graph built }
+    requires stands { Stands (held_of g.now).graph }
+    requires built { Built (held_of g.now).graph built }
     requires landings_fit { n ≤ length landings.old }
     requires there { RoutesThere s.now y }
     requires ends_fit { 3 * n ≤ length ends.now }
-    ensures { Lands (held_in g.now).graph (routes_in s.now y) ends.now landings.new n }
+    ensures { Lands (held_of g.now).graph (routes_in s.now y) ends.now landings.new n }
 {
     // An end is a number: it has three numbers in one slice, and one in the other.
     for k in 0..n {
@@ -65,11 +65,11 @@ pub fn land_ends(
 }
 
 // Where the end of path p lands: at the block of its handler, or LEAVE where it propagates, or STAY where it resumes.
-fn land(g: &Words, built: usize, hints: &[u16], s: &[u8], y: RouteLayout, p: usize) -> usize
-    requires stands { Stands (held_in g.now).graph }
-    requires built { Built (held_in g.now).graph built }
+fn land(g: &Graph, built: usize, hints: &[u16], s: &[u8], y: RouteLayout, p: usize) -> usize
+    requires stands { Stands (held_of g.now).graph }
+    requires built { Built (held_of g.now).graph built }
     requires there { RoutesThere s.now y }
-    ensures lands { result ≡ landing (held_in g.now).graph (end_of (path_record (routes_in s.now y) p)) }
+    ensures lands { result ≡ landing (held_of g.now).graph (end_of (path_record (routes_in s.now y) p)) }
     ensures small { result < 65536 }
 {
     let path = path_of(s, y, p);

@@ -7,7 +7,7 @@ mod wanter;
 ghost use Rattle.std.specs.Prelude.{◌≡◌, true, List, [], ◌∷◌, map, ℕ, ◌+◌, ◌-◌, ◌*◌, ◌≤◌, ◌<◌, length, get_or};
 ghost use Rattle.image.specs.Image.{RouteImage, routes_in};
 ghost use Rattle.graph.specs.Graph.{block};
-ghost use Rattle.graph.specs.Words.{held_in};
+ghost use Rattle.graph.specs.Lent.{held_of};
 ghost use Rattle.graph.specs.BlockSet.{member};
 ghost use Rattle.graph.specs.Adding.{Added};
 ghost use Rattle.unwind.specs.Nodes.{branch_in, record_in};
@@ -33,7 +33,7 @@ use crate::wants::flags::{Flags, likely_hop, mark_wanted};
 use crate::wants::wanter::{Wanter, is_idle, next_block, wanter_of};
 use graph::blockset::rank_in;
 use graph::record::Edge;
-use graph::store::Words;
+use graph::store::Graph;
 use graph::store::edges::add_edge;
 use image::section::RouteLayout;
 
@@ -41,7 +41,7 @@ const ROUTE: u64 = 10;
 
 // Adds the route edges to the graph that has the copies, told the hops of the same ways. Before, there were `blocks` blocks.
 pub fn add_route_edges(
-    g: &mut Words,
+    g: &mut Graph,
     h: &Hops,
     s: &[u8],
     y: RouteLayout,
@@ -58,8 +58,8 @@ pub fn add_route_edges(
     stored: Counts,
     blocks: usize,
 )
-    requires { HopsJoin h.now (held_in g.old).graph × (16 * stored.nodes ≤ length parts.now) × ((i : ℕ) → i < stored.nodes → get_or bases.now i 0 ≤ 1024) × (hops_in (routes_in s.now y) h.now ≡ hops_of (lent_ways (routes_in s.now y) nodes.now edges.now ends.now heads.now landings.now roots.now guards.now bases.now parts.now (returns_in parts.now returners.now) (length (routes_in s.now y).routes) stored.nodes)) × TriesIn (routes_in s.now y) nodes.now edges.now ends.now roots.now stored × (stored.nodes ≤ length heads.now) × (stored.ends ≤ length landings.now) × (stored.nodes ≤ length bases.now) × BlockSets guards.now (returns_in parts.now returners.now) blocks (length (routes_in s.now y).routes) stored.nodes × (blocks ≤ 1024) }
-    ensures { Added g.old g.new (route_edges (held_in g.old).graph [] (lent_ways (routes_in s.now y) nodes.now edges.now ends.now heads.now landings.now roots.now guards.now bases.now parts.now (returns_in parts.now returners.now) (length (routes_in s.now y).routes) stored.nodes)) [] [] }
+    requires { HopsJoin h.now (held_of g.old).graph × (16 * stored.nodes ≤ length parts.now) × ((i : ℕ) → i < stored.nodes → get_or bases.now i 0 ≤ 1024) × (hops_in (routes_in s.now y) h.now ≡ hops_of (lent_ways (routes_in s.now y) nodes.now edges.now ends.now heads.now landings.now roots.now guards.now bases.now parts.now (returns_in parts.now returners.now) (length (routes_in s.now y).routes) stored.nodes)) × TriesIn (routes_in s.now y) nodes.now edges.now ends.now roots.now stored × (stored.nodes ≤ length heads.now) × (stored.ends ≤ length landings.now) × (stored.nodes ≤ length bases.now) × BlockSets guards.now (returns_in parts.now returners.now) blocks (length (routes_in s.now y).routes) stored.nodes × (blocks ≤ 1024) }
+    ensures { Added g.old g.new (route_edges (held_of g.old).graph [] (lent_ways (routes_in s.now y) nodes.now edges.now ends.now heads.now landings.now roots.now guards.now bases.now parts.now (returns_in parts.now returners.now) (length (routes_in s.now y).routes) stored.nodes)) [] [] }
 {
     let mut done = [0u64; 33];
     let routes = y.routes.count as usize;
@@ -74,7 +74,7 @@ pub fn add_route_edges(
 
 // What wanter k wants.
 fn want_by(
-    g: &mut Words,
+    g: &mut Graph,
     h: &Hops,
     nodes: &[u16],
     edges: &[u16],
@@ -90,7 +90,7 @@ fn want_by(
     blocks: usize,
     done: &mut Flags,
 )
-    requires { SomeStand h.now (λ m ends. wanter_ways m nodes.now edges.now ends heads.now landings.now roots.now guards.now bases.now parts.now (returns_in parts.now returners.now) routes k) × HopsJoin h.now (held_in g.old).graph × WanterThere nodes.now edges.now heads.now landings.now roots.now guards.now bases.now parts.now (returns_in parts.now returners.now) routes blocks k × (blocks ≤ 1024) }
+    requires { SomeStand h.now (λ m ends. wanter_ways m nodes.now edges.now ends heads.now landings.now roots.now guards.now bases.now parts.now (returns_in parts.now returners.now) routes k) × HopsJoin h.now (held_of g.old).graph × WanterThere nodes.now edges.now heads.now landings.now roots.now guards.now bases.now parts.now (returns_in parts.now returners.now) routes blocks k × (blocks ≤ 1024) }
     ensures { AllWanted h.now g.old done.old (λ m ends. wanter_ways m nodes.now edges.now ends heads.now landings.now roots.now guards.now bases.now parts.now (returns_in parts.now returners.now) routes k) g.new done.new }
 {
     if is_idle(nodes, landings, routes, k) {
@@ -104,7 +104,7 @@ fn want_by(
 
 // What wanter k, which is x, wants out of its blocks.
 fn want_set(
-    g: &mut Words,
+    g: &mut Graph,
     h: &Hops,
     nodes: &[u16],
     edges: &[u16],
@@ -119,7 +119,7 @@ fn want_set(
     blocks: usize,
     done: &mut Flags,
 )
-    requires { SomeStand h.now (λ m ends. set_ways m nodes.now edges.now ends heads.now landings.now x.node x.route x.base (set_at parts.now x.node) (wanter_set guards.now (returns_in parts.now returners.now) routes k)) × HopsJoin h.now (held_in g.old).graph × (x.base ≤ 1024) × NodeThere nodes.now edges.now heads.now landings.now x.node × ((b : ℕ) → member (wanter_set guards.now (returns_in parts.now returners.now) routes k) b ≡ true → b < blocks) × (blocks ≤ 1024) × (16 * routes ≤ length guards.now) × (16 * (k - routes) + 16 ≤ length parts.now) × (16 * x.node + 16 ≤ length parts.now) }
+    requires { SomeStand h.now (λ m ends. set_ways m nodes.now edges.now ends heads.now landings.now x.node x.route x.base (set_at parts.now x.node) (wanter_set guards.now (returns_in parts.now returners.now) routes k)) × HopsJoin h.now (held_of g.old).graph × (x.base ≤ 1024) × NodeThere nodes.now edges.now heads.now landings.now x.node × ((b : ℕ) → member (wanter_set guards.now (returns_in parts.now returners.now) routes k) b ≡ true → b < blocks) × (blocks ≤ 1024) × (16 * routes ≤ length guards.now) × (16 * (k - routes) + 16 ≤ length parts.now) × (16 * x.node + 16 ≤ length parts.now) }
     ensures { AllWanted h.now g.old done.old (λ m ends. set_ways m nodes.now edges.now ends heads.now landings.now x.node x.route x.base (set_at parts.now x.node) (wanter_set guards.now (returns_in parts.now returners.now) routes k)) g.new done.new }
 {
     let mut from = 0;
@@ -146,7 +146,7 @@ fn place_of(x: Wanter, parts: &[u64], o: usize) -> usize
 
 // What node i wants for route r out of block b.
 fn want_from(
-    g: &mut Words,
+    g: &mut Graph,
     h: &Hops,
     nodes: &[u16],
     edges: &[u16],
@@ -157,7 +157,7 @@ fn want_from(
     b: usize,
     done: &mut Flags,
 )
-    requires { SomeStand h.now (λ m ends. record_ways m nodes.now edges.now ends heads.now landings.now r b (record_in nodes.now i)) × HopsJoin h.now (held_in g.old).graph × (b < 65536) × NodeThere nodes.now edges.now heads.now landings.now i }
+    requires { SomeStand h.now (λ m ends. record_ways m nodes.now edges.now ends heads.now landings.now r b (record_in nodes.now i)) × HopsJoin h.now (held_of g.old).graph × (b < 65536) × NodeThere nodes.now edges.now heads.now landings.now i }
     ensures { AllWanted h.now g.old done.old (λ m ends. record_ways m nodes.now edges.now ends heads.now landings.now r b (record_in nodes.now i)) g.new done.new }
 {
     let node = node_in(nodes, i);
@@ -167,7 +167,7 @@ fn want_from(
 
 // By its `count` edges from `first` on.
 fn want_edges(
-    g: &mut Words,
+    g: &mut Graph,
     h: &Hops,
     edges: &[u16],
     heads: &[u16],
@@ -177,7 +177,7 @@ fn want_edges(
     b: usize,
     done: &mut Flags,
 )
-    requires { HopsRise h.now × ((j : ℕ) → j < count → HopStands h.now (leap_to b (get_or heads.now (branch_in edges.now (first + j)).what 0))) × HopsJoin h.now (held_in g.old).graph × (3 * (first + count) ≤ length edges.now) × ((k : ℕ) → k < count → (branch_in edges.now (first + k)).what < length heads.now) }
+    requires { HopsRise h.now × ((j : ℕ) → j < count → HopStands h.now (leap_to b (get_or heads.now (branch_in edges.now (first + j)).what 0))) × HopsJoin h.now (held_of g.old).graph × (3 * (first + count) ≤ length edges.now) × ((k : ℕ) → k < count → (branch_in edges.now (first + k)).what < length heads.now) }
     ensures { (m : RouteImage) → EdgesWanted h.now g.old done.old (map (way_of r) (edge_exits m b edges.now heads.now first count)) g.new done.new }
 {
     for k in 0..count {
@@ -189,7 +189,7 @@ fn want_edges(
 
 // By its `count` ends from `first` on.
 fn want_ends(
-    g: &mut Words,
+    g: &mut Graph,
     h: &Hops,
     landings: &[u16],
     first: usize,
@@ -198,7 +198,7 @@ fn want_ends(
     b: usize,
     done: &mut Flags,
 )
-    requires { HopsRise h.now × ((j : ℕ) → j < count → HopStands h.now (leap_to b (end_number b landings.now (first + j)))) × HopsJoin h.now (held_in g.old).graph × (b < 65536) × (first + count ≤ length landings.now) }
+    requires { HopsRise h.now × ((j : ℕ) → j < count → HopStands h.now (leap_to b (end_number b landings.now (first + j)))) × HopsJoin h.now (held_of g.old).graph × (b < 65536) × (first + count ≤ length landings.now) }
     ensures { AllWanted h.now g.old done.old (λ m ends. map (way_of r) (end_exits m b ends landings.now first count)) g.new done.new }
 {
     for k in 0..count {
@@ -208,8 +208,8 @@ fn want_ends(
 }
 
 // Route r wants an edge from block b to the end of number t: it is added unless it was wanted before, and none leaves.
-fn want(g: &mut Words, h: &Hops, r: usize, b: usize, t: usize, done: &mut Flags)
-    requires { HopsRise h.now × HopStands h.now (leap_to b t) × HopsJoin h.now (held_in g.old).graph }
+fn want(g: &mut Graph, h: &Hops, r: usize, b: usize, t: usize, done: &mut Flags)
+    requires { HopsRise h.now × HopStands h.now (leap_to b t) × HopsJoin h.now (held_of g.old).graph }
     ensures { (calls : List ℕ) → EdgesWanted h.now g.old done.old (way_to r b t calls ∷ []) g.new done.new }
 {
     if t == LEAVE {
@@ -225,9 +225,9 @@ fn want(g: &mut Words, h: &Hops, r: usize, b: usize, t: usize, done: &mut Flags)
 }
 
 // The edge from block b to block t, for route r.
-fn route_edge(g: &Words, r: usize, b: usize, t: usize) -> Edge
-    requires { RunsFit (held_in g.now).graph × (b < length (held_in g.now).graph.blocks) × (t < length (held_in g.now).graph.blocks) × ((block (held_in g.now).graph t).first < length (held_in g.now).graph.table) }
-    ensures { result ≡ route_edge (held_in g.now).graph r b t }
+fn route_edge(g: &Graph, r: usize, b: usize, t: usize) -> Edge
+    requires { RunsFit (held_of g.now).graph × (b < length (held_of g.now).graph.blocks) × (t < length (held_of g.now).graph.blocks) × ((block (held_of g.now).graph t).first < length (held_of g.now).graph.table) }
+    ensures { result ≡ route_edge (held_of g.now).graph r b t }
 {
     Edge {
         source: b as u64,

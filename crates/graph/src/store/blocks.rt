@@ -1,61 +1,50 @@
 // Blocks.
-ghost use Rattle.std.specs.Prelude.{◌≡◌, ◌≤◌, ◌<◌, length};
+ghost use Rattle.std.specs.Prelude.{◌≡◌, ◌<◌, length};
 ghost use Rattle.graph.specs.Graph.{block};
-ghost use Rattle.graph.specs.Words.{block_of, held_in};
+ghost use Rattle.graph.specs.Lent.{held_of};
 ghost use Rattle.graph.specs.Stored.{with_block, Stored};
 
 use crate::record::Block;
-use crate::store::{Words, put_row, row, rows_in};
+use crate::store::{Graph, rows};
 
-const COUNT: usize = 1;
+pub const MOST_BLOCKS: usize = 1024;
 
-const BASE: usize = 2592;
-
-const MOST: usize = 1024;
+#[tactic(auto, unfolding(crate::specs::Lent::held_of))]
+pub fn blocks(g: &Graph) -> &[Block]
+    ensures { result.now ≡ (held_of g.now).graph.blocks }
+{
+    &g.blocks[..rows(g.counts.blocks, MOST_BLOCKS)]
+}
 
 // How many blocks there are.
-pub fn block_count(g: &Words) -> usize
-    ensures { result ≡ length (held_in g.now).graph.blocks }
+pub fn block_count(g: &Graph) -> usize
+    ensures { result ≡ length (held_of g.now).graph.blocks }
 {
-    rows_in(g, COUNT, MOST)
+    blocks(g).len()
 }
 
 // Number i of them, and zeros past the last.
-pub fn block_at(g: &Words, i: usize) -> Block
-    ensures { result ≡ block (held_in g.now).graph i }
+pub fn block_at(g: &Graph, i: usize) -> Block
+    ensures { result ≡ block (held_of g.now).graph i }
 {
-    if i < rows_in(g, COUNT, MOST) {
-        return block_in(g, i);
-    }
-    Block { first: 0, count: 0 }
+    blocks(g).get(i).copied().unwrap_or_default()
 }
 
 // Number i, one of those that there are. Nothing is tested.
-pub fn block_in(g: &Words, i: usize) -> Block
-    requires { i < length (held_in g.now).graph.blocks }
-    ensures { result ≡ block (held_in g.now).graph i }
+pub fn block_in(g: &Graph, i: usize) -> Block
+    requires { i < length (held_of g.now).graph.blocks }
+    ensures { result ≡ block (held_of g.now).graph i }
 {
-    read(row(g, BASE + 2 * i, 2))
+    blocks(g)[i]
 }
 
 // One more, behind the others; where there is no room, nothing changes.
-pub fn add_block(g: &mut Words, r: Block)
-    ensures { Stored g.old g.new (with_block (held_in g.old) r) }
+pub fn add_block(g: &mut Graph, r: Block)
+    ensures { Stored g.old g.new (with_block (held_of g.old) r) }
 {
-    let n = rows_in(g, COUNT, MOST);
-    if n < MOST {
-        let row = [r.first, r.count];
-        put_row(g, BASE + 2 * n, &row);
-        g[COUNT] = (n + 1) as u64;
-    }
-}
-
-fn read(w: &[u64]) -> Block
-    requires { 2 ≤ length w.now }
-    ensures { result ≡ block_of w.now }
-{
-    Block {
-        first: w[0],
-        count: w[1],
+    let n = g.counts.blocks as usize;
+    if n < MOST_BLOCKS {
+        g.counts.blocks += 1;
+        g.blocks[n] = r;
     }
 }

@@ -2,27 +2,27 @@
 ghost use Rattle.std.specs.Prelude.{◌≡◌, true, ◌≤◌};
 ghost use Rattle.image.specs.Image.{routes_in};
 ghost use Rattle.image.specs.There.{RoutesThere};
-ghost use Rattle.graph.specs.Words.{held_in};
+ghost use Rattle.graph.specs.Lent.{held_of};
 ghost use Rattle.unwind.specs.Answers.{Adds, RoutesChecked};
 ghost use Rattle.unwind.specs.Frames.{Few, Sizes, Small};
 
 use crate::add::run::add_framed;
 use crate::hops::Hops;
 use graph::error::AddressBuildError;
-use graph::store::Words;
+use graph::store::Graph;
 use graph::store::blocks::block_count;
 use graph::store::edges::edge_count;
 use image::section::RouteLayout;
 
 // Routes whose own checks are clear, in the smallest frame that has room for them.
 pub fn add_checked(
-    g: &mut Words,
+    g: &mut Graph,
     built: usize,
     s: &[u8],
     y: RouteLayout,
     h: &mut Hops,
 ) -> Result<(), AddressBuildError>
-    requires checked { RoutesChecked (held_in g.old) built (routes_in s.now y) }
+    requires checked { RoutesChecked (held_of g.old) built (routes_in s.now y) }
     requires there { RoutesThere s.now y }
     ensures { Adds (routes_in s.now y) g.old g.new h.old h.new result }
 {
@@ -49,8 +49,8 @@ pub fn add_checked(
 }
 
 // Whether a graph has no more than so many blocks and edges.
-fn is_small(g: &Words, blocks: usize, edges: usize) -> bool
-    ensures { result ≡ true → Small (held_in g.now).graph blocks edges }
+fn is_small(g: &Graph, blocks: usize, edges: usize) -> bool
+    ensures { result ≡ true → Small (held_of g.now).graph blocks edges }
 {
     block_count(g) <= blocks && edge_count(g) <= edges
 }
@@ -80,7 +80,7 @@ fn add_in<
     const GUARDS: usize,
     const EXITS: usize,
 >(
-    g: &mut Words,
+    g: &mut Graph,
     built: usize,
     s: &[u8],
     y: RouteLayout,
@@ -89,8 +89,8 @@ fn add_in<
     requires sizes { Sizes STEPS PATHS ROUTES BLOCKS STARTS NODES EDGES ENDS SLOTS PARTS GUARDS EXITS }
     requires links_most { LINKS ≤ 4096 }
     requires few { Few y STEPS PATHS ROUTES }
-    requires small { Small (held_in g.old).graph BLOCKS LINKS }
-    requires checked { RoutesChecked (held_in g.old) built (routes_in s.now y) }
+    requires small { Small (held_of g.old).graph BLOCKS LINKS }
+    requires checked { RoutesChecked (held_of g.old) built (routes_in s.now y) }
     requires there { RoutesThere s.now y }
     ensures { Adds (routes_in s.now y) g.old g.new h.old h.new result }
 {

@@ -3,7 +3,7 @@ ghost use Rattle.std.specs.Prelude.{◌≡◌, ℕ, ◌*◌, ◌≤◌, ◌<◌,
 ghost use Rattle.image.specs.Refusal.{clear};
 ghost use Rattle.image.specs.Image.{routes_in};
 ghost use Rattle.image.specs.There.{RoutesThere};
-ghost use Rattle.graph.specs.Words.{held_in};
+ghost use Rattle.graph.specs.Lent.{held_of};
 ghost use Rattle.graph.specs.Error.{check_of};
 ghost use Rattle.graph.specs.Search.{Linked, Roomy};
 ghost use Rattle.unwind.specs.Stands.{Stands};
@@ -24,12 +24,12 @@ use crate::tries::intern_routes;
 use crate::tries::store::Counts;
 use graph::error::AddressBuildError;
 use graph::reach::link;
-use graph::store::Words;
+use graph::store::Graph;
 use image::section::RouteLayout;
 
 // In a frame that has room: the tries, and all that is made of them.
 pub fn add_framed(
-    g: &mut Words,
+    g: &mut Graph,
     built: usize,
     s: &[u8],
     y: RouteLayout,
@@ -49,9 +49,9 @@ pub fn add_framed(
     landings: &mut [u16],
     exits: &mut [u16],
 ) -> Result<(), AddressBuildError>
-    requires checked { RoutesChecked (held_in g.old) built (routes_in s.now y) }
+    requires checked { RoutesChecked (held_of g.old) built (routes_in s.now y) }
     requires there { RoutesThere s.now y }
-    requires frame { Frame y (held_in g.old).graph starts.old nodes.old edges.old ends.old stack.old roots.old head.old next.old bases.old heads.old parts.old guards.old landings.old exits.old }
+    requires frame { Frame y (held_of g.old).graph starts.old nodes.old edges.old ends.old stack.old roots.old head.old next.old bases.old heads.old parts.old guards.old landings.old exits.old }
     ensures { Adds (routes_in s.now y) g.old g.new h.old h.new result }
 {
     let stored = intern_routes(s, y, starts, nodes, edges, ends, stack, roots);
@@ -63,7 +63,7 @@ pub fn add_framed(
 
 // Tries that stand: the checks of their nodes, and then the instances.
 fn add_tries(
-    g: &mut Words,
+    g: &mut Graph,
     built: usize,
     hints: &mut [u16],
     s: &[u8],
@@ -83,9 +83,9 @@ fn add_tries(
     landings: &mut [u16],
     exits: &mut [u16],
 ) -> Result<(), AddressBuildError>
-    requires checked { RoutesChecked (held_in g.old) built (routes_in s.now y) }
+    requires checked { RoutesChecked (held_of g.old) built (routes_in s.now y) }
     requires tries { TriesIn (routes_in s.now y) nodes.now edges.now ends.now roots.now stored }
-    requires room { Room (held_in g.old).graph (routes_in s.now y) edges.now ends.now head.old next.old bases.old heads.old parts.old guards.old landings.old exits.old stored }
+    requires room { Room (held_of g.old).graph (routes_in s.now y) edges.now ends.now head.old next.old bases.old heads.old parts.old guards.old landings.old exits.old stored }
     requires there { RoutesThere s.now y }
     requires hints_fit { stored.nodes ≤ length hints.old }
     ensures { Adds (routes_in s.now y) g.old g.new h.old h.new result }
@@ -103,7 +103,7 @@ fn add_tries(
 
 // The instances of the n nodes; 18 where with their copies there are too many blocks.
 fn place(
-    g: &Words,
+    g: &Graph,
     s: &[u8],
     y: RouteLayout,
     nodes: &[u16],
@@ -115,17 +115,17 @@ fn place(
     parts: &mut [u64],
     firsts: &mut [u16],
 ) -> Result<(), AddressBuildError>
-    requires stands { Stands (held_in g.now).graph }
-    requires roomy { Roomy (held_in g.now).graph head.now next.now }
-    requires linked { Linked (held_in g.now).graph head.now next.now 0 }
-    requires leads { (i : ℕ) → i < n → funclet_check (held_in g.now).graph (funclet_at (routes_in s.now y) nodes.now i) ≡ clear }
+    requires stands { Stands (held_of g.now).graph }
+    requires roomy { Roomy (held_of g.now).graph head.now next.now }
+    requires linked { Linked (held_of g.now).graph head.now next.now 0 }
+    requires leads { (i : ℕ) → i < n → funclet_check (held_of g.now).graph (funclet_at (routes_in s.now y) nodes.now i) ≡ clear }
     requires slots { Slots n bases.old heads.old parts.old }
-    requires firsts { Firsts (held_in g.now).graph (routes_in s.now y) nodes.now firsts.old 0 }
+    requires firsts { Firsts (held_of g.now).graph (routes_in s.now y) nodes.now firsts.old 0 }
     requires few { n ≤ 544 }
     requires nodes_fit { 6 * n ≤ length nodes.now }
     requires named { Named (routes_in s.now y) nodes.now n }
-    requires entered { Entered (held_in g.now).graph (routes_in s.now y) nodes.now heads.old n }
-    ensures { PlacedAll (held_in g.now).graph (routes_in s.now y) nodes.now n bases.new heads.new parts.new (check_of result) }
+    requires entered { Entered (held_of g.now).graph (routes_in s.now y) nodes.now heads.old n }
+    ensures { PlacedAll (held_of g.now).graph (routes_in s.now y) nodes.now n bases.new heads.new parts.new (check_of result) }
 {
     let mut barriers = [0u64; 16];
     funclet_entries(g, s, y, nodes, n, heads, &mut barriers);
@@ -137,7 +137,7 @@ fn place(
 // Instances that are placed: the blocks that return, those that routes guard, and those of handlers. Then no hint is
 // asked for, and `hints` is room for a list of nodes.
 fn add_instances(
-    g: &mut Words,
+    g: &mut Graph,
     built: usize,
     hints: &mut [u16],
     s: &[u8],
@@ -157,8 +157,8 @@ fn add_instances(
     landings: &mut [u16],
     exits: &mut [u16],
 ) -> Result<(), AddressBuildError>
-    requires checked { RoutesChecked (held_in g.old) built (routes_in s.now y) }
-    requires placements { Placements (held_in g.old).graph (routes_in s.now y) nodes.now edges.now ends.now roots.now head.now next.now bases.now heads.now parts.now guards.old landings.old exits.old stored }
+    requires checked { RoutesChecked (held_of g.old) built (routes_in s.now y) }
+    requires placements { Placements (held_of g.old).graph (routes_in s.now y) nodes.now edges.now ends.now roots.now head.now next.now bases.now heads.now parts.now guards.old landings.old exits.old stored }
     requires there { RoutesThere s.now y }
     requires hints_fit { stored.nodes ≤ length hints.old }
     ensures { Sized (routes_in s.now y) g.old g.new h.old h.new result }

@@ -4,7 +4,7 @@ ghost use Rattle.image.specs.Refusal.{refusal, clear, ◌then◌, unless};
 ghost use Rattle.image.specs.Image.{routes_in};
 ghost use Rattle.image.specs.Deal.{routes_of};
 ghost use Rattle.image.specs.There.{RoutesThere};
-ghost use Rattle.graph.specs.Words.{held_in};
+ghost use Rattle.graph.specs.Lent.{held_of};
 ghost use Rattle.graph.specs.Error.{check_of};
 ghost use Rattle.graph.specs.Answers.{Laid};
 ghost use Rattle.unwind.specs.Placed.{returns_in};
@@ -21,14 +21,14 @@ use crate::hops::{HOP_MOST, Hops, LIST_MOST};
 use crate::tries::store::Counts;
 use crate::wants::add_route_edges;
 use graph::error::AddressBuildError;
-use graph::store::Words;
 use graph::store::blocks::block_count;
-use graph::store::edges::{EDGE_MOST, edge_count};
+use graph::store::edges::{MOST_EDGES, edge_count};
+use graph::store::{Graph, sized};
 use image::section::RouteLayout;
 
 // All is decided before the first store.
 pub fn add_placed(
-    g: &mut Words,
+    g: &mut Graph,
     s: &[u8],
     y: RouteLayout,
     h: &mut Hops,
@@ -48,7 +48,7 @@ pub fn add_placed(
     originals: &mut [u16],
     exits: &mut [u16],
 ) -> Result<(), AddressBuildError>
-    requires at_hand { AtHand (held_in g.old) (routes_in s.now y) nodes.now edges.now ends.now roots.now head.now next.now bases.now heads.now parts.now (returns_in parts.now returners.now) guards.now landings.now exits.old stored }
+    requires at_hand { AtHand (held_of g.old) (routes_in s.now y) nodes.now edges.now ends.now roots.now head.now next.now bases.now heads.now parts.now (returns_in parts.now returners.now) guards.now landings.now exits.old stored }
     requires there { RoutesThere s.now y }
     requires originals_fit { stored.nodes ≤ length originals.old }
     ensures { Sized (routes_in s.now y) g.old g.new h.old h.new result }
@@ -67,7 +67,7 @@ pub fn add_placed(
 // 19 and 20 of what is to be stored; 18 let it pass. Hops are counted where the most that there can be would be too many.
 #[tactic(auto, using(crate::proofs::RouteChecks::counted))]
 fn check_sizes(
-    g: &Words,
+    g: &Graph,
     s: &[u8],
     y: RouteLayout,
     nodes: &[u16],
@@ -86,10 +86,10 @@ fn check_sizes(
     originals: &mut [u16],
     exits: &mut [u16],
 ) -> Result<(), AddressBuildError>
-    requires at_hand { AtHand (held_in g.now) (routes_in s.now y) nodes.now edges.now ends.now roots.now head.now next.now bases.now heads.now parts.now (returns_in parts.now returners.now) guards.now landings.now exits.old stored }
+    requires at_hand { AtHand (held_of g.now) (routes_in s.now y) nodes.now edges.now ends.now roots.now head.now next.now bases.now heads.now parts.now (returns_in parts.now returners.now) guards.now landings.now exits.old stored }
     requires there { RoutesThere s.now y }
     requires originals_fit { stored.nodes ≤ length originals.old }
-    ensures { check_of result ≡ size_check (addition (held_in g.now).graph (routes_of (routes_in s.now y))) }
+    ensures { check_of result ≡ size_check (addition (held_of g.now).graph (routes_of (routes_in s.now y))) }
 {
     let copies = clone_edge_count(g, head, next, bases, parts, stored.nodes);
     let most = most_ways(
@@ -119,10 +119,10 @@ fn check_sizes(
 
 // So many copies of edges, and hops of these sizes, beside the edges that there are.
 #[tactic(auto, using(crate::proofs::StoreLaws::hops_over, crate::proofs::StoreLaws::edges_held))]
-fn check_counts(g: &Words, copies: usize, sizes: Sizes) -> Result<(), AddressBuildError>
-    ensures { check_of result ≡ (unless (leb (length (held_in g.now).graph.edges + copies + sizes.blocks) 4096) (refusal 19 0 0) then unless (leb sizes.hops 2048 && leb sizes.lists 4096) (refusal 20 0 0)) }
+fn check_counts(g: &Graph, copies: usize, sizes: Sizes) -> Result<(), AddressBuildError>
+    ensures { check_of result ≡ (unless (leb (length (held_of g.now).graph.edges + copies + sizes.blocks) 4096) (refusal 19 0 0) then unless (leb sizes.hops 2048 && leb sizes.lists 4096) (refusal 20 0 0)) }
 {
-    let left = EDGE_MOST - edge_count(g);
+    let left = MOST_EDGES - edge_count(g);
     if left < copies || left - copies < sizes.blocks {
         return Err(AddressBuildError::TooManyEdges);
     }
@@ -134,7 +134,7 @@ fn check_counts(g: &Words, copies: usize, sizes: Sizes) -> Result<(), AddressBui
 
 // An addition that has room: the hops, the copies of edges before those of blocks, and the route edges.
 fn store_addition(
-    g: &mut Words,
+    g: &mut Graph,
     s: &[u8],
     y: RouteLayout,
     h: &mut Hops,
@@ -154,13 +154,14 @@ fn store_addition(
     originals: &mut [u16],
     exits: &mut [u16],
 )
-    requires at_hand { AtHand (held_in g.old) (routes_in s.now y) nodes.now edges.now ends.now roots.now head.now next.now bases.now heads.now parts.now (returns_in parts.now returners.now) guards.now landings.now exits.old stored }
-    requires sizes { size_check (addition (held_in g.old).graph (routes_of (routes_in s.now y))) ≡ clear }
+    requires at_hand { AtHand (held_of g.old) (routes_in s.now y) nodes.now edges.now ends.now roots.now head.now next.now bases.now heads.now parts.now (returns_in parts.now returners.now) guards.now landings.now exits.old stored }
+    requires sizes { size_check (addition (held_of g.old).graph (routes_of (routes_in s.now y))) ≡ clear }
     requires there { RoutesThere s.now y }
     requires originals_fit { stored.nodes ≤ length originals.old }
-    ensures graph { Laid g.old g.new (addition (held_in g.old).graph (routes_of (routes_in s.now y))).graph }
-    ensures hops { HopsLaid (routes_in s.now y) h.old h.new (addition (held_in g.old).graph (routes_of (routes_in s.now y))).hops }
+    ensures graph { Laid g.old g.new (addition (held_of g.old).graph (routes_of (routes_in s.now y))).graph }
+    ensures hops { HopsLaid (routes_in s.now y) h.old h.new (addition (held_of g.old).graph (routes_of (routes_in s.now y))).hops }
 {
+    sized(g);
     let blocks = block_count(g);
     add_hops(
         g, h, s, y, nodes, edges, ends, heads, landings, roots, guards, bases, parts, returners,

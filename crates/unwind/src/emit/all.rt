@@ -3,7 +3,7 @@ ghost use Rattle.std.specs.Prelude.{[], ◌≡◌, ℕ, ◌*◌, ◌≤◌, leng
 ghost use Rattle.image.specs.Image.{routes_in};
 ghost use Rattle.image.specs.Deal.{routes_of};
 ghost use Rattle.image.specs.There.{RoutesThere};
-ghost use Rattle.graph.specs.Words.{held_in};
+ghost use Rattle.graph.specs.Lent.{held_of};
 ghost use Rattle.addition.specs.Ways.{ways, hops_of};
 ghost use Rattle.unwind.specs.Routed.{TriesIn};
 ghost use Rattle.unwind.specs.Placed.{returns_in};
@@ -18,13 +18,13 @@ use crate::emit::sink::Sink;
 use crate::emit::standing::emit_blocks;
 use crate::hops::{Hops, empty_hops};
 use crate::tries::store::Counts;
-use graph::store::Words;
+use graph::store::Graph;
 use graph::store::blocks::block_count;
 use image::section::RouteLayout;
 
 // Of the graph before, and routes whose nodes are placed. What the words held is gone.
 pub fn add_hops(
-    g: &Words,
+    g: &Graph,
     h: &mut Hops,
     s: &[u8],
     y: RouteLayout,
@@ -42,8 +42,8 @@ pub fn add_hops(
     originals: &mut [u16],
     exits: &mut [u16],
 )
-    requires { TriesIn (routes_in s.now y) nodes.now edges.now ends.now roots.now stored × Leads (held_in g.now).graph (routes_in s.now y) ends.now heads.now landings.now stored × Sides (held_in g.now).graph (routes_in s.now y) guards.now bases.now (returns_in parts.now returners.now) stored × PartsIn (held_in g.now).graph (routes_in s.now y) parts.now stored × Bounded (held_in g.now).graph (routes_of (routes_in s.now y)) × Roomy edges.now ends.now exits.old × HopsFit (hops_of (ways (held_in g.now).graph (routes_of (routes_in s.now y)))) × (16 * stored.nodes ≤ length parts.now) × (16 * length (routes_in s.now y).routes ≤ length guards.now) × RoutesThere s.now y × (stored.nodes ≤ length heads.now) × (stored.ends ≤ length landings.now) × (stored.nodes ≤ length bases.now) × (stored.nodes ≤ length originals.old) }
-    ensures { HopsLaid (routes_in s.now y) h.old h.new (hops_of (ways (held_in g.now).graph (routes_of (routes_in s.now y)))) }
+    requires { TriesIn (routes_in s.now y) nodes.now edges.now ends.now roots.now stored × Leads (held_of g.now).graph (routes_in s.now y) ends.now heads.now landings.now stored × Sides (held_of g.now).graph (routes_in s.now y) guards.now bases.now (returns_in parts.now returners.now) stored × PartsIn (held_of g.now).graph (routes_in s.now y) parts.now stored × Bounded (held_of g.now).graph (routes_of (routes_in s.now y)) × Roomy edges.now ends.now exits.old × HopsFit (hops_of (ways (held_of g.now).graph (routes_of (routes_in s.now y)))) × (16 * stored.nodes ≤ length parts.now) × (16 * length (routes_in s.now y).routes ≤ length guards.now) × RoutesThere s.now y × (stored.nodes ≤ length heads.now) × (stored.ends ≤ length landings.now) × (stored.nodes ≤ length bases.now) × (stored.nodes ≤ length originals.old) }
+    ensures { HopsLaid (routes_in s.now y) h.old h.new (hops_of (ways (held_of g.now).graph (routes_of (routes_in s.now y)))) }
 {
     empty_hops(h);
     emit_hops(
@@ -54,7 +54,7 @@ pub fn add_hops(
 
 // The sizes of the same, before any of it is stored.
 pub fn count_hops(
-    g: &Words,
+    g: &Graph,
     s: &[u8],
     y: RouteLayout,
     nodes: &[u16],
@@ -71,8 +71,8 @@ pub fn count_hops(
     originals: &mut [u16],
     exits: &mut [u16],
 ) -> Sizes
-    requires { TriesIn (routes_in s.now y) nodes.now edges.now ends.now roots.now stored × Leads (held_in g.now).graph (routes_in s.now y) ends.now heads.now landings.now stored × Sides (held_in g.now).graph (routes_in s.now y) guards.now bases.now (returns_in parts.now returners.now) stored × PartsIn (held_in g.now).graph (routes_in s.now y) parts.now stored × BasesFew bases.now stored.nodes × Bounded (held_in g.now).graph (routes_of (routes_in s.now y)) × Roomy edges.now ends.now exits.old × (16 * stored.nodes ≤ length parts.now) × (16 * length (routes_in s.now y).routes ≤ length guards.now) × RoutesThere s.now y × (stored.nodes ≤ length heads.now) × (stored.ends ≤ length landings.now) × (stored.nodes ≤ length bases.now) × (stored.nodes ≤ length originals.old) }
-    ensures { HopsSize (hops_of (ways (held_in g.now).graph (routes_of (routes_in s.now y)))) result }
+    requires { TriesIn (routes_in s.now y) nodes.now edges.now ends.now roots.now stored × Leads (held_of g.now).graph (routes_in s.now y) ends.now heads.now landings.now stored × Sides (held_of g.now).graph (routes_in s.now y) guards.now bases.now (returns_in parts.now returners.now) stored × PartsIn (held_of g.now).graph (routes_in s.now y) parts.now stored × BasesFew bases.now stored.nodes × Bounded (held_of g.now).graph (routes_of (routes_in s.now y)) × Roomy edges.now ends.now exits.old × (16 * stored.nodes ≤ length parts.now) × (16 * length (routes_in s.now y).routes ≤ length guards.now) × RoutesThere s.now y × (stored.nodes ≤ length heads.now) × (stored.ends ≤ length landings.now) × (stored.nodes ≤ length bases.now) × (stored.nodes ≤ length originals.old) }
+    ensures { HopsSize (hops_of (ways (held_of g.now).graph (routes_of (routes_in s.now y)))) result }
 {
     let mut sizes = Sizes {
         hops: 0,
@@ -89,7 +89,7 @@ pub fn count_hops(
 // Into a sink that has none: those out of the blocks that stood, and those out of the copies.
 fn emit_hops<V: Sink>(
     sink: &mut V,
-    g: &Words,
+    g: &Graph,
     s: &[u8],
     y: RouteLayout,
     nodes: &[u16],
@@ -107,10 +107,10 @@ fn emit_hops<V: Sink>(
     exits: &mut [u16],
 )
     requires tries { TriesIn (routes_in s.now y) nodes.now edges.now ends.now roots.now stored }
-    requires leads { Leads (held_in g.now).graph (routes_in s.now y) ends.now heads.now landings.now stored }
-    requires sides { Sides (held_in g.now).graph (routes_in s.now y) guards.now bases.now (returns_in parts.now returners.now) stored }
-    requires parts { PartsIn (held_in g.now).graph (routes_in s.now y) parts.now stored }
-    requires bounded { Bounded (held_in g.now).graph (routes_of (routes_in s.now y)) }
+    requires leads { Leads (held_of g.now).graph (routes_in s.now y) ends.now heads.now landings.now stored }
+    requires sides { Sides (held_of g.now).graph (routes_in s.now y) guards.now bases.now (returns_in parts.now returners.now) stored }
+    requires parts { PartsIn (held_of g.now).graph (routes_in s.now y) parts.now stored }
+    requires bounded { Bounded (held_of g.now).graph (routes_of (routes_in s.now y)) }
     requires roomy { Roomy edges.now ends.now exits.old }
     requires parts_fit { 16 * stored.nodes ≤ length parts.now }
     requires guards_fit { 16 * length (routes_in s.now y).routes ≤ length guards.now }
@@ -120,8 +120,8 @@ fn emit_hops<V: Sink>(
     requires bases_fit { stored.nodes ≤ length bases.now }
     requires originals_fit { stored.nodes ≤ length originals.old }
     requires start { V.holds (routes_in s.now y) 0 [] sink.old sink.old }
-    requires room { V.fits (hops_of (ways (held_in g.now).graph (routes_of (routes_in s.now y)))) }
-    ensures { (d : ℕ) × V.holds (routes_in s.now y) d (hops_of (ways (held_in g.now).graph (routes_of (routes_in s.now y)))) sink.old sink.new }
+    requires room { V.fits (hops_of (ways (held_of g.now).graph (routes_of (routes_in s.now y)))) }
+    ensures { (d : ℕ) × V.holds (routes_in s.now y) d (hops_of (ways (held_of g.now).graph (routes_of (routes_in s.now y)))) sink.old sink.new }
 {
     let blocks = block_count(g);
     emit_blocks(

@@ -13,7 +13,7 @@ pub struct Sizes {
     pub blocks: usize,
 }
 
-// No end: what stands before the first entry.
+// No end: what stands before the first entry. A number, as ends are, so that one comparison tells.
 const NOWHERE: usize = 65536;
 
 pub fn sizes_both(p: Sizes, q: Sizes) -> Sizes

@@ -38,7 +38,8 @@ pub fn put_entry(s: &[u8], y: RouteLayout, entries: &mut [u16], n: usize, x: Bra
     }
 }
 
-// Where an entry stands, or the place before which it belongs, as a binary search of a slice answers it.
+// Where an entry stands, or the place before which it belongs, as `binary_search_by` answers it: an entry is three numbers
+// of the slice, which that does not search.
 fn entry_place(
     s: &[u8],
     y: RouteLayout,

@@ -4,7 +4,7 @@ ghost use Rattle.image.specs.Image.{routes_in};
 ghost use Rattle.image.specs.There.{RoutesThere};
 ghost use Rattle.unwind.specs.Nodes.{record_in, branch_in, BranchSmall, NodeFits};
 ghost use Rattle.unwind.specs.Entries.{Ordered};
-ghost use Rattle.unwind.specs.Gather.{EntryTo, end_number, end_exits, record_exits, Gathers, GathersEdges, NodeThere};
+ghost use Rattle.unwind.specs.Gather.{EntryTo, end_number, end_exits, record_exits, Gathers, branch_exits, NodeThere};
 
 use crate::emit::entries::put_entry;
 use crate::sides::STAY;
@@ -34,61 +34,46 @@ pub fn gather_node(
     ensures { Gathers (routes_in s.now y) b exits.old held (record_exits (routes_in s.now y) b edges.now ends.now heads.now landings.now (record_in nodes.now i)) exits.new result }
 {
     let node = node_in(nodes, i);
-    let n = gather_edges(s, y, edges, heads, node.first_edge, node.edges, exits, held);
-    gather_ends(s, y, ends, landings, node.first_end, node.ends, b, exits, n)
+    let to_node = |_: usize, e: Branch| number_in(heads, e.what);
+    let n = gather_branches(
+        s,
+        y,
+        edges,
+        node.first_edge,
+        node.edges,
+        exits,
+        held,
+        to_node,
+    );
+    let to_end = |k: usize, _: Branch| end_number(landings, k, b);
+    gather_branches(s, y, ends, node.first_end, node.ends, exits, n, to_end)
 }
 
-// Those of the `count` edges from `first` on.
-fn gather_edges(
+// Those of the `count` branches from `first` on, each to the end that `end_of` gives it.
+fn gather_branches<F: Fn(usize, Branch) -> usize>(
     s: &[u8],
     y: RouteLayout,
-    edges: &[u16],
-    heads: &[u16],
+    list: &[u16],
     first: usize,
     count: usize,
     exits: &mut [u16],
     held: usize,
+    end_of: F,
 ) -> usize
     requires ordered { Ordered (routes_in s.now y) exits.old held }
     requires room { 3 * (held + count) ≤ length exits.old }
     requires there { RoutesThere s.now y }
-    requires edges { 3 * (first + count) ≤ length edges.now }
-    requires heads { (k : ℕ) → k < count → (branch_in edges.now (first + k)).what < length heads.now }
-    ensures { GathersEdges (routes_in s.now y) exits.old held edges.now heads.now first count exits.new result }
+    requires list { 3 * (first + count) ≤ length list.now }
+    requires known { (k : ℕ) → k < count → F.pre end_of (first + k) (branch_in list.now (first + k)) }
+    requires small { (k r : ℕ) → k < count → F.post end_of (first + k) (branch_in list.now (first + k)) r → r < 65536 }
+    ensures ordered { Ordered (routes_in s.now y) exits.new result }
+    ensures most { result ≤ held + count }
+    ensures gathers { (f : ℕ → ℕ) → ((k r : ℕ) → k < count → F.post end_of (first + k) (branch_in list.now (first + k)) r → r ≡ f k) → (b : ℕ) → Gathers (routes_in s.now y) b exits.old held (branch_exits (routes_in s.now y) b list.now f first count) exits.new result }
 {
     let mut n = held;
     for k in 0..count {
-        let e = branch_in(edges, first + k);
-        let end = number_in(heads, e.what);
-        n = put_entry(s, y, exits, n, entry_to(e, end));
-    }
-    n
-}
-
-// Those of the `count` ends from `first` on, out of block b.
-fn gather_ends(
-    s: &[u8],
-    y: RouteLayout,
-    ends: &[u16],
-    landings: &[u16],
-    first: usize,
-    count: usize,
-    b: usize,
-    exits: &mut [u16],
-    held: usize,
-) -> usize
-    requires ordered { Ordered (routes_in s.now y) exits.old held }
-    requires block { b < 65536 }
-    requires room { 3 * (held + count) ≤ length exits.old }
-    requires there { RoutesThere s.now y }
-    requires ends { 3 * (first + count) ≤ length ends.now }
-    requires landings { first + count ≤ length landings.now }
-    ensures { Gathers (routes_in s.now y) b exits.old held (end_exits (routes_in s.now y) b ends.now landings.now first count) exits.new result }
-{
-    let mut n = held;
-    for k in 0..count {
-        let e = branch_in(ends, first + k);
-        let end = end_number(landings, first + k, b);
+        let e = branch_in(list, first + k);
+        let end = end_of(first + k, e);
         n = put_entry(s, y, exits, n, entry_to(e, end));
     }
     n

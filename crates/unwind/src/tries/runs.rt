@@ -61,7 +61,7 @@ fn spot_of(
     Some(n)
 }
 
-// Puts b in place p of n branches: those from there on move up by one.
+// Puts b in place p of n branches: those from there on move up by one. Few do: `copy_within` is slower for so few.
 pub fn insert(list: &mut [u16], p: usize, n: usize, b: Branch)
     requires small { BranchSmall b }
     requires within { p ≤ n }

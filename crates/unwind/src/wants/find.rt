@@ -26,7 +26,7 @@ fn is_hop(x: HopRow, b: u64, t: u64) -> bool
     (x.source == b) & (x.has_end != 0) & (x.end == t)
 }
 
-// By halving.
+// By halving: the rows are words, and no slice that a method searches.
 fn search(h: &Hops, b: usize, t: usize) -> usize
     requires { HopsRise h.now × HopStands h.now (pair b t) }
     ensures { HopIs h.now (pair b t) result × (result < 2048) }

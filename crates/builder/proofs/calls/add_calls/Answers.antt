@@ -1,7 +1,5 @@
 use mathlib.Core.Path.{◌≡◌}
-use Rattle.image.specs.Image.{image_in}
-use Rattle.image.specs.Record.{instruction_from}
-use Rattle.image.proofs.Tables.{length-records}
+use Rattle.builder.specs.Code.{image_of}
 use Rattle.graph.specs.Fold.{flat}
 use Rattle.graph.specs.Transfer.{size}
 use Rattle.graph.specs.Edges.{calls_of}
@@ -11,9 +9,9 @@ use borrow.Author.Tests.{eq-eqb, ne_eqb}
 use borrow.Author.Rules.{rules}
 use Rattle.builder.proofs.calls.add_calls.Goals as goal
 
-pub returns-then-y-ne-FLATTEN : goal.returns-then-y-ne-FLATTEN
+pub returns-then-code-ne-FLATTEN : goal.returns-then-code-ne-FLATTEN
 unfolding calls_of
-returns-then-y-ne-FLATTEN c = rw (ne_eqb _ _ c.if-y-ne-FLATTEN.true) (added_none _)
+returns-then-code-ne-FLATTEN c = rw (ne_eqb _ _ c.if-code-ne-FLATTEN.true) (added_none _)
 
 pub loop-p-init : goal.loop-p-init
 unfolding flat
@@ -24,5 +22,5 @@ loop-p-preserved c = (search rules, calls_more _ c.loop-p.p c.loop-p.invariant.1
 
 pub returns : goal.returns
 unfolding calls_of
-returns c = let all : c.loop-p.p ≡ size (image_in c.args.s.now c.args.y) = omega (arith, length-records instruction_from c.args.s.now c.args.y.code.instructions) in
-    rw (eq-eqb _ _ c.if-y-ne-FLATTEN.false, ← all) c.loop-p.invariant.1
+returns c = let all : c.loop-p.p ≡ size (image_of c.args.code.now) = omega (arith, c.size-n.ensures) in
+    rw (eq-eqb _ _ c.if-code-ne-FLATTEN.false, ← all) c.loop-p.invariant.1

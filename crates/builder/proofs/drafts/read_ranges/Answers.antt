@@ -1,16 +1,14 @@
 use mathlib.Core.Path.{◌≡◌, ap}
 use lib.ListN.{length}
-use Rattle.image.specs.Record.{handler_from}
-use Rattle.image.specs.Image.{image_in}
+use Rattle.builder.specs.Code.{image_of}
 use Rattle.image.specs.declared.record.Handler.{Handler}
-use Rattle.image.proofs.Tables.{length-records}
 use Rattle.builder.proofs.DraftLaws.{filled_none, filled_more, extents_read}
 use native.Mathlib.Omega.{arith}
 use borrow.Author.Rules.{rules}
 use Rattle.builder.proofs.drafts.read_ranges.Goals as goal
 
 pub loop-h-init : goal.loop-h-init
-loop-h-init c = let size = length-records handler_from c.args.s.now c.args.y.code.handlers in
+loop-h-init c = let size = c.handler_count-n.ensures in
     (search rules, omega arith, rw c.requires.no_starts (filled_none _), rw c.requires.no_ends (filled_none _))
 
 pub loop-h-preserved : goal.loop-h-preserved
@@ -22,6 +20,6 @@ loop-h-preserved c = let own = c.handler-own.ensures in (
 )
 
 pub returns : goal.returns
-returns c = let m = image_in c.args.s.now c.args.y in
-    let all : c.loop-h.h ≡ length m.handlers = omega (arith, length-records handler_from c.args.s.now c.args.y.code.handlers) in
+returns c = let m = image_of c.args.code.now in
+    let all : c.loop-h.h ≡ length m.handlers = omega (arith, c.handler_count-n.ensures) in
     extents_read m _ _ c.loop-h.h all c.loop-h.invariant.2 c.loop-h.invariant.3

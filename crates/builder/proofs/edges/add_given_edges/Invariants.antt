@@ -1,7 +1,7 @@
 -- The invariant: the first k given edges are added. Assumes nothing.
 use mathlib.Core.List.{[], ◌∷◌}
 use Prim.Native.Nat.{◌-◌, ◌≤◌}
-use Rattle.image.specs.Image.{image_in}
+use Rattle.builder.specs.Code.{image_of}
 use Rattle.graph.specs.Fold.{flat}
 use Rattle.graph.specs.Transfer.{given}
 use Rattle.graph.specs.Edges.{given_edge}
@@ -9,7 +9,7 @@ use Rattle.graph.specs.Adding.{Added}
 use Rattle.builder.proofs.edges.add_given_edges.Given as goal
 
 abbrev pub invariant-loop-k : goal.invariant-loop-k
-invariant-loop-k l = (l.k ≤ l.n) × Added l.initial.g l.g (flat (λ i. given_edge (image_in l.s l.y) l.p (given (image_in l.s l.y) l.p i) ∷ []) l.k) [] []
+invariant-loop-k l = (l.k ≤ l.n) × Added l.initial.g l.g (flat (λ i. given_edge (image_of l.numbered.code) l.p (given (image_of l.numbered.code) l.p i) ∷ []) l.k) [] []
 
 abbrev pub decreases-loop-k : goal.decreases-loop-k
 decreases-loop-k l = l.n - l.k

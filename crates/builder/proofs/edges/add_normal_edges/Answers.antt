@@ -1,12 +1,10 @@
-use mathlib.Core.Path.{◌≡◌, sym, ap, ◌∙◌}
+use mathlib.Core.Path.{◌≡◌, ap, ◌∙◌}
 use mathlib.Core.Bool.{false, cond, ◌||◌}
 use mathlib.Core.List.{[]}
 use Prim.Native.Nat.{ℕ, ◌+◌}
 use lib.Dec.{eqb}
 use lib.ListN.{get_or}
-use Rattle.image.specs.Image.{image_in}
-use Rattle.image.specs.Record.{instruction_from}
-use Rattle.image.proofs.Tables.{length-records}
+use Rattle.builder.specs.Code.{image_of}
 use Rattle.graph.specs.Fold.{flat}
 use Rattle.graph.specs.Transfer.{size}
 use Rattle.graph.specs.Blocks.{is_terminator}
@@ -23,35 +21,37 @@ unfolding flat
 loop-p-init c = (search rules, c.cursor_start-c.ensures _, added_none _)
 
 pub cursor_after-next-requires : goal.cursor_after-next-requires
-cursor_after-next-requires c = scan_fits c.args.s.now c.args.y c.requires.emitting.sourced c.loop-p.p c.loop-p.c c.loop-p.invariant.1 c.loop-p-test.true _ c.instruction_in-i.ensures _ c.given_at-given.ensures
+cursor_after-next-requires c = scan_fits (image_of c.args.numbered.now.code) c.args.numbered.now.emitting.sourced c.loop-p.p c.loop-p.c c.loop-p.invariant.1 (rw c.size-n.ensures at c.loop-p-test.true) _ c.instruction-i.ensures _ c.given_at-given.ensures
 
 pub is_terminator-requires-clause-n_most : goal.is_terminator-requires-clause-n_most
-is_terminator-requires-clause-n_most c = omega (arith, length-records instruction_from c.args.s.now c.args.y.code.instructions, c.requires.emitting.sourced.accepted.instructions_most)
+is_terminator-requires-clause-n_most c = omega (arith, c.size-n.ensures, c.args.numbered.now.emitting.sourced.accepted.instructions_most)
 
-pub emit_if-requires-clause-visiting : goal.emit_if-requires-clause-visiting
-emit_if-requires-clause-visiting c = let m = image_in c.args.s.now c.args.y in
-    let size_is = length-records instruction_from c.args.s.now c.args.y.code.instructions in
+pub emit_if-requires : goal.emit_if-requires
+emit_if-requires c = let m = image_of c.args.numbered.now.code in
+    let size_is = c.size-n.ensures in
     let at = scan_at m c.loop-p.p c.loop-p.c c.loop-p.invariant.1 in
     record {
-      here = scan_stands m c.loop-p.p c.loop-p.c c.loop-p.invariant.1;
-      within = omega (arith, at, c.loop-p-test.true);
-      is = rw at (scan_visit c.args.s.now c.args.y c.requires.emitting.sourced c.loop-p.p c.loop-p.c c.loop-p.invariant.1 c.loop-p-test.true _ c.instruction_in-i.ensures _ c.given_at-given.ensures _ c.cursor_after-next.ensures);
+      visiting = record {
+        here = scan_stands m c.loop-p.p c.loop-p.c c.loop-p.invariant.1;
+        within = omega (arith, at, c.loop-p-test.true);
+        is = rw at (scan_visit (image_of c.args.numbered.now.code) c.args.numbered.now.emitting.sourced c.loop-p.p c.loop-p.c c.loop-p.invariant.1 (rw c.size-n.ensures at c.loop-p-test.true) _ c.instruction-i.ensures _ c.given_at-given.ensures _ c.cursor_after-next.ensures);
+      };
     }
 
 pub loop-p-preserved : goal.loop-p-preserved
-loop-p-preserved c = let m = image_in c.args.s.now c.args.y in
-    let size_is = length-records instruction_from c.args.s.now c.args.y.code.instructions in
+loop-p-preserved c = let m = image_of c.args.numbered.now.code in
+    let size_is = c.size-n.ensures in
     let ends =
     c.is_terminator.ensures
-    ∙ ap (λ (n : ℕ). eqb (c.loop-p.p + 1) n || get_or c.args.marks.now (c.loop-p.p + 1) false) (sym size_is)
+    ∙ ap (λ (n : ℕ). eqb (c.loop-p.p + 1) n || get_or c.args.marks.now (c.loop-p.p + 1) false) size_is
     ∙ terminator_is m c.loop-p.p c.args.marks.now c.requires.leading (omega arith) in (
       search rules,
-      scan_next c.args.s.now c.args.y c.requires.emitting.sourced c.loop-p.p c.loop-p.c c.loop-p.invariant.1 c.loop-p-test.true _ c.instruction_in-i.ensures _ c.given_at-given.ensures _ c.cursor_after-next.ensures,
+      scan_next (image_of c.args.numbered.now.code) c.args.numbered.now.emitting.sourced c.loop-p.p c.loop-p.c c.loop-p.invariant.1 (rw c.size-n.ensures at c.loop-p-test.true) _ c.instruction-i.ensures _ c.given_at-given.ensures _ c.cursor_after-next.ensures,
       flow_more (λ q. cond (is_terminator m q) (edges_at m q) []) (λ q. cond (is_terminator m q) (unresolved_at m q) []) c.loop-p.p c.loop-p.invariant.2
           (rw (ends, scan_at m c.loop-p.p c.loop-p.c c.loop-p.invariant.1) at c.emit_if.ensures),
     )
 
 pub returns : goal.returns
 unfolding normal_edges unresolved_of
-returns c = let all : c.loop-p.p ≡ size (image_in c.args.s.now c.args.y) = omega (arith, length-records instruction_from c.args.s.now c.args.y.code.instructions) in
+returns c = let all : c.loop-p.p ≡ size (image_of c.args.numbered.now.code) = omega (arith, c.size-n.ensures) in
     rw (← all) c.loop-p.invariant.2

@@ -3,17 +3,14 @@ use mathlib.Core.Bool.{◌&&◌, ◌||◌}
 use mathlib.Core.Path.{ap}
 use Prim.Native.Nat.{ℕ}
 use lib.Dec.{eqb}
-use Rattle.image.specs.Image.{image_in}
+use Rattle.builder.specs.Code.{image_of}
 use Rattle.graph.specs.Leaders.{entry_mark}
 use Rattle.graph.proofs.TableLaws.{entry_address}
 use Rattle.builder.proofs.MarkLaws.{few, mark_then, mark_as, mark_within}
 use Rattle.builder.proofs.leaders.mark_entry.Goals as goal
 
-pub mark_target_if-requires-clause-count_most : goal.mark_target_if-requires-clause-count_most
-mark_target_if-requires-clause-count_most c = few _ _ c.requires.passed
-
 pub returns : goal.returns
 unfolding entry_mark
-returns c = let m = image_in c.args.s.now c.args.y in
+returns c = let m = image_of c.args.checked.now.code in
     mark_as (entry_mark m) (λ p h. ap (λ (b : ℕ). eqb p 0 || (m.header.has_entry && eqb b m.header.entry)) (entry_address m p))
-    (mark_then (mark_within _ (few _ _ c.requires.passed) c.mark_at.ensures) c.mark_target_if.ensures)
+    (mark_then (mark_within _ (few _ c.args.checked.now.passed) c.mark_at.ensures) c.mark_target_if.ensures)

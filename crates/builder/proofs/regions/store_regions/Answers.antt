@@ -1,7 +1,8 @@
 use mathlib.Core.Path.{◌≡◌}
 use lib.ListN.{length}
-use Rattle.image.specs.Image.{table, image_in}
-use Rattle.graph.specs.Words.{held_in}
+use Rattle.builder.specs.Code.{image_of}
+use Rattle.image.specs.Image.{table}
+use Rattle.graph.specs.Lent.{held_of}
 use Rattle.graph.specs.Stored.{with_region}
 use Rattle.graph.specs.Regions.{drafts, region_at, regions_of}
 use Rattle.graph.proofs.StoredLaws.{stored_onto}
@@ -19,10 +20,10 @@ pub loop-r-preserved : goal.loop-r-preserved
 loop-r-preserved c = (
   search rules,
   stored_onto (λ h. with_region h c.region_of.result) c.loop-r.invariant.1 c.add_region.ensures
-      (regions_more (held_in c.args.g.now).graph (region_at (image_in c.args.s.now c.args.y)) c.loop-r.r _ (omega (arith, c.requires.drafted.counted.within)) c.region_of.ensures),
+      (regions_more (held_of c.args.g.now).graph (region_at (image_of c.args.numbered.now.code)) c.loop-r.r _ (omega (arith, c.requires.drafted.counted.within)) c.region_of.ensures),
 )
 
 pub returns : goal.returns
 unfolding regions_of
-returns c = let all : c.loop-r.r ≡ length (drafts (image_in c.args.s.now c.args.y)) = omega (arith, drafted_size c.requires.drafted) in
+returns c = let all : c.loop-r.r ≡ length (drafts (image_of c.args.numbered.now.code)) = omega (arith, drafted_size c.requires.drafted) in
     rw all at c.loop-r.invariant.1

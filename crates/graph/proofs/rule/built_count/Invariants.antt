@@ -2,14 +2,15 @@
 -- Assumes nothing.
 use mathlib.Core.Path.{◌≡◌}
 use mathlib.Core.Logic.{◌⊎◌}
-use Prim.Native.Nat.{◌+◌, ◌-◌, ◌≤◌, ◌<◌}
+use Prim.Native.Nat.{◌+◌, ◌<◌}
 use lib.ListN.{length}
-use Rattle.graph.specs.Words.{held_in}
+use Rattle.graph.specs.Lent.{held_of}
 use Rattle.graph.specs.WellFormed.{filled}
 use Rattle.graph.proofs.rule.built_count.Given as goal
 
 abbrev pub invariant-loop-i : goal.invariant-loop-i
-invariant-loop-i l = (l.i ≤ length (held_in l.g).graph.blocks) × (filled (held_in l.g).graph l.i + l.left ≡ length (held_in l.g).graph.table) × ((l.i ≡ 0) ⊎ (filled (held_in l.g).graph l.i < length (held_in l.g).graph.table))
-
-abbrev pub decreases-loop-i : goal.decreases-loop-i
-decreases-loop-i l = l.n - l.i
+invariant-loop-i l =
+    record {
+      rest : filled (held_of l.g).graph l.i + l.left ≡ length (held_of l.g).graph.table;
+      unfilled : (l.i ≡ 0) ⊎ (filled (held_of l.g).graph l.i < length (held_of l.g).graph.table);
+    }

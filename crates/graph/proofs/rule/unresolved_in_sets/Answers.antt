@@ -1,8 +1,11 @@
 -- `unresolved_in_sets` meets its contract. Assumes nothing.
 use borrow.Author.Rules.{rules}
 use borrow.Author.Tests.{tests}
-use Rattle.graph.proofs.FoldLaws.{all_below}
+use lib.Dec.{leb}
+use Rattle.graph.specs.Graph.{no_unresolved}
+use Rattle.graph.specs.declared.record.UnresolvedTransfer.{UnresolvedTransfer}
+use Rattle.graph.proofs.FoldLaws.{all_each}
 use Rattle.graph.proofs.rule.unresolved_in_sets.Goals as goal
 
 pub returns : goal.returns
-returns c = all_below _ _ _ _ _ c.all.ensures.ran (cc) (λ x b q k. search (rules, tests))
+returns c = all_each (λ (r : UnresolvedTransfer). leb r.role 9) _ no_unresolved _ _ _ c.all.ensures.ran (cc) (λ x b q k. search (rules, tests))

@@ -1,6 +1,8 @@
 -- `empty` meets its contract. Assumes nothing.
-use Rattle.graph.proofs.WordLaws.{emptied}
+use mathlib.Core.Path.{refl}
+use Rattle.graph.specs.Lent.{held_of}
 use Rattle.graph.proofs.store.empty.Goals as goal
 
 pub returns : goal.returns
-returns c = emptied c.args.g.now c.whole.ensures
+unfolding held_of
+returns c = record { holds = refl; kept = record { spare = refl; table = refl; blocks = refl; edges = refl; regions = refl; handlers = refl; unresolved = refl; calls = refl } }

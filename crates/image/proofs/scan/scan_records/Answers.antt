@@ -22,6 +22,7 @@ loop-i-init g c =
       forms = refl;
       sum = refl;
       few = search rules;
+      there = search rules;
     }
 
 pub returns-in_err-check-clause-check : goal.returns-in_err-check-clause-check
@@ -41,4 +42,5 @@ loop-i-preserved g c =
       forms = checks-more (record_form g.R.Record.kind c.args.s.now c.args.base) c.loop-i.i c.loop-i.invariant.forms ∙ sym (rw c.loop-i.invariant.place at c.in_ok-check.ensures.check);
       sum = rw (add-one c.loop-i.i) (ap₂ ◌+◌ c.loop-i.invariant.sum (c.children-children.ensures.is ∙ ap (children_at g.R.Record.kind c.args.s.now) c.loop-i.invariant.place));
       few = search rules;
+      there = search rules;
     }

@@ -4,7 +4,7 @@ use Prim.Native.Nat.{◌<◌}
 use native.Mathlib.Omega.{arith}
 use lib.ListN.{length}
 use Rattle.graph.specs.declared.record.TableEntry.{TableEntry}
-use Rattle.graph.specs.Words.{held_in}
+use Rattle.graph.specs.Lent.{held_of}
 use Rattle.graph.proofs.RecordLaws.{block_most}
 use Rattle.addition.specs.Blocks.{first_of}
 use Rattle.unwind.specs.Placed.{set_at, SetChanged}
@@ -14,7 +14,7 @@ use Rattle.unwind.proofs.SlotLaws.{put_same, put_again}
 use Rattle.unwind.proofs.blocks.guard_blocks.Goals as goal
 
 pub returns-then-table_count-eq0-clause-guards : goal.returns-then-table_count-eq0-clause-guards
-returns-then-table_count-eq0-clause-guards c = let g = (held_in c.args.g.now).graph in
+returns-then-table_count-eq0-clause-guards c = let g = (held_of c.args.g.now).graph in
     let emptied = c.empty_set.ensures in
     rw emptied.here (guards_empty g c.args.start c.args.end (sym c.table_count.ensures ∙ c.if-table_count-eq0.true))
 
@@ -24,10 +24,10 @@ returns-then-table_count-eq0-clause-others c = let emptied = c.empty_set.ensures
 
 pub loop-b-init : goal.loop-b-init
 loop-b-init c = let emptied = c.empty_set.ensures in
-    (rw emptied.here (guarding_none (held_in c.args.g.now).graph c.args.end c.block_from-first.result), put_same _ _)
+    (rw emptied.here (guarding_none (held_of c.args.g.now).graph c.args.end c.block_from-first.result), put_same _ _)
 
 pub first_of-entry-requires : goal.first_of-entry-requires
-first_of-entry-requires c = let g = (held_in c.args.g.now).graph in
+first_of-entry-requires c = let g = (held_of c.args.g.now).graph in
     let some_there : 0 < length g.table = omega (arith, c.if-table_count-eq0.false, c.table_count.ensures) in
     (omega (arith, c.requires.built.0, c.loop-b-test.true), first_lt g c.requires.stands c.args.built c.requires.built c.loop-b.b some_there c.loop-b-test.true)
 
@@ -35,7 +35,7 @@ pub shape_of-guards-then-end-entry : goal.shape_of-guards-then-end-entry
 shape_of-guards-then-end-entry c = (put_again c.empty_set.ensures c.loop-b.invariant.1).long
 
 pub returns-then-end-entry-clause-guards : goal.returns-then-end-entry-clause-guards
-returns-then-end-entry-clause-guards c = let g = (held_in c.args.g.now).graph in
+returns-then-end-entry-clause-guards c = let g = (held_of c.args.g.now).graph in
     guards_are g c.requires.stands c.args.built c.requires.built c.args.start c.args.end c.block_from-first.result c.loop-b.b
     (rw c.position.ensures at c.block_from-first.ensures)
     (omega arith) (λ h. omega (arith, ap (λ (x : TableEntry). x.address) c.first_of-entry.ensures, c.if-end-entry.true)) (set_at c.loop-b.guards c.args.r) c.loop-b.invariant.0
@@ -51,7 +51,7 @@ put_block-requires c =
 
 pub loop-b-preserved : goal.loop-b-preserved
 loop-b-preserved c = let few : c.loop-b.b < c.args.built → c.loop-b.b < 1024 = λ h. omega (arith, c.requires.built.0, block_most c.args.g.now) in
-    let g = (held_in c.args.g.now).graph in
+    let g = (held_of c.args.g.now).graph in
     let set = set_at c.loop-b.guards c.args.r in
     let first = c.block_from-first.result in
     let read = c.first_of-entry.ensures in
@@ -63,7 +63,7 @@ pub shape_of-guards : goal.shape_of-guards
 shape_of-guards c = (put_again c.empty_set.ensures c.loop-b.invariant.1).long
 
 pub returns-clause-guards : goal.returns-clause-guards
-returns-clause-guards c = let g = (held_in c.args.g.now).graph in
+returns-clause-guards c = let g = (held_of c.args.g.now).graph in
     guards_are g c.requires.stands c.args.built c.requires.built c.args.start c.args.end c.block_from-first.result c.loop-b.b
     (rw c.position.ensures at c.block_from-first.ensures)
     (omega arith) (λ h. absurd (omega arith)) (set_at c.loop-b.guards c.args.r) c.loop-b.invariant.0

@@ -5,14 +5,14 @@ use native.Mathlib.Decide.{ℕ_discrete}
 use native.Mathlib.Omega.{arith}
 use borrow.Author.Tests.{eq-eqb, ne_eqb, le-ltb}
 use lib.ListN.{length}
-use Rattle.graph.specs.Words.{held_in}
+use Rattle.graph.specs.Lent.{held_of}
 use Rattle.graph.specs.Table.{entry_at}
 use Rattle.graph.proofs.TableLaws.{start_at}
 use Rattle.unwind.proofs.Standing.{start_nowhere}
 use Rattle.unwind.proofs.blocks.is_start.Goals as goal
 
 pub returns-then-p-table_count : goal.returns-then-p-table_count
-returns-then-p-table_count c = let g = (held_in c.args.g.now).graph in
+returns-then-p-table_count c = let g = (held_of c.args.g.now).graph in
     let inside : c.args.p < length g.table = omega arith in
     rw c.table_in.ensures
     (elim (ℕ_discrete (entry_at g.table c.args.p).address c.args.a) [
@@ -22,4 +22,4 @@ returns-then-p-table_count c = let g = (held_in c.args.g.now).graph in
 
 pub returns-else-p-table_count : goal.returns-else-p-table_count
 returns-else-p-table_count c =
-    le-ltb c.args.p _ (omega arith) ∙ sym (start_nowhere (held_in c.args.g.now).graph c.requires.stands c.args.a (λ h e. omega (arith, c.requires.position)))
+    le-ltb c.args.p _ (omega arith) ∙ sym (start_nowhere (held_of c.args.g.now).graph c.requires.stands c.args.a (λ h e. omega (arith, c.requires.position)))

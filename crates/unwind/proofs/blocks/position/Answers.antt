@@ -1,25 +1,18 @@
 -- `position` meets its contract: the addresses of the table rise. Assumes nothing.
 use mathlib.Core.Path.{sym}
-use Prim.Native.Nat.{ℕ}
-use native.Mathlib.Omega.{arith}
-use borrow.Author.Tests.{ltb-true}
-use lib.ListN.{length}
-use Rattle.std.proofs.lemmas.Bool.{ltb-false}
-use Rattle.graph.specs.Words.{held_in}
-use Rattle.graph.specs.Table.{entry_at}
-use Rattle.unwind.proofs.Standing.{less_before, less_behind, table_rises, below-cut}
+use lib.Dec.{ltb}
+use Rattle.std.proofs.Common.{rules, of_calls}
+use Rattle.std.proofs.lemmas.Fn.{always_returns_same}
+use Rattle.graph.specs.declared.record.TableEntry.{TableEntry}
+use Rattle.graph.specs.Table.{entry_at, no_entry}
+use Rattle.graph.specs.Lent.{held_of}
+use Rattle.unwind.proofs.Standing.{less_point, table_rises, below-cut}
 use Rattle.unwind.proofs.blocks.position.Goals as goal
 
-pub passing-requires-clause-before : goal.passing-requires-clause-before
-passing-requires-clause-before c = λ i j lt h. let g = (held_in c.args.g.now).graph in
-    less_before (λ (k : ℕ). (entry_at g.table k).address) (length g.table) c.args.a (table_rises g c.requires) i j lt (omega (arith, h, c.table_count.ensures))
-
-pub passing-requires-clause-behind : goal.passing-requires-clause-behind
-passing-requires-clause-behind c = λ i j lt h. let g = (held_in c.args.g.now).graph in
-    less_behind (λ (k : ℕ). (entry_at g.table k).address) (length g.table) c.args.a (table_rises g c.requires) i j lt (omega (arith, h, c.table_count.ensures))
-
 pub returns : goal.returns
+unfolding entry_at
 returns c =
-    sym (below-cut (held_in c.args.g.now).graph.table c.args.a c.passing.result (omega (arith, c.passing.ensures.most, c.table_count.ensures))
-    (λ k h. ltb-true _ _ (sym (c.passing.ensures.passes k h)))
-    (λ k le h. ltb-false _ _ (sym (c.passing.ensures.fails k le (omega (arith, h, c.table_count.ensures))))))
+    let t = (held_of c.args.g.now).graph.table in
+    let point = rw c.entries.ensures at (c.partition_point.ensures.partitioned (λ e. ltb e.address c.args.a) (always_returns_same _ _ _ (λ a r f k. search (rules, of_calls)))) in
+    let cut = less_point (λ (e : TableEntry). e.address) t no_entry c.args.a c.partition_point.result (table_rises (held_of c.args.g.now).graph c.requires) point in
+    sym (below-cut t c.args.a c.partition_point.result (rw c.entries.ensures at c.partition_point.ensures.bound) cut.0 cut.1)

@@ -10,7 +10,7 @@ use Rattle.image.specs.Deal.{total, routes_of}
 use Rattle.image.specs.declared.record.Route.{Route}
 use Rattle.image.proofs.Checks.{checks-more, checks_stop}
 use Rattle.image.proofs.Tables.{length-records}
-use Rattle.graph.specs.Words.{held_in}
+use Rattle.graph.specs.Lent.{held_of}
 use Rattle.graph.specs.Route.{paths_before, steps_before}
 use Rattle.graph.proofs.RouteLaws.{length-routes, paths_next}
 use Rattle.addition.specs.Add.{route_check}
@@ -33,4 +33,4 @@ loop-r-init c = (refl, refl, refl)
 pub returns-in_err-check_route : goal.returns-in_err-check_route
 returns-in_err-check_route c = let m = routes_in c.args.s.now c.args.y in
     let within : c.loop-r.r < length (routes_of m) = rw (length-routes m, length-records route_from c.args.s.now c.args.y.routes) (omega arith) in
-    rw (checks_stop (route_check (held_in c.args.g.now).graph (routes_of m)) c.loop-r.r _ _ within c.loop-r.invariant.2 (sym c.in_err-check_route.ensures)) (search rules)
+    rw (checks_stop (route_check (held_of c.args.g.now).graph (routes_of m)) c.loop-r.r _ _ within c.loop-r.invariant.2 (sym c.in_err-check_route.ensures)) (search rules)

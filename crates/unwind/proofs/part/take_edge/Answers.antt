@@ -4,7 +4,7 @@ use Prim.Native.Nat.{◌<◌}
 use native.Mathlib.Omega.{arith}
 use borrow.Author.Tests.{not-true, not-false}
 use Rattle.graph.specs.declared.record.Edge.{Edge}
-use Rattle.graph.specs.Words.{held_in}
+use Rattle.graph.specs.Lent.{held_of}
 use Rattle.graph.proofs.RecordLaws.{block_most}
 use Rattle.graph.proofs.SearchLaws.{target_lt}
 use Rattle.unwind.specs.Placed.{set_at}
@@ -15,12 +15,12 @@ use Rattle.unwind.proofs.part.take_edge.Goals.{else-is_followed-via-then-is_foll
 
 pub in_set-requires : goal.in_set-requires
 in_set-requires c =
-    let small : c.edge_in-e.result.target < 1024 = omega (arith, ap (λ (x : Edge). x.target) c.edge_in-e.ensures, target_lt (held_in c.args.g.now).graph c.requires.ends c.args.k c.requires.edge, block_most c.args.g.now) in
+    let small : c.edge_in-e.result.target < 1024 = omega (arith, ap (λ (x : Edge). x.target) c.edge_in-e.ensures, target_lt (held_of c.args.g.now).graph c.requires.ends c.args.k c.requires.edge, block_most c.args.g.now) in
     (c.requires.parts_fit, small)
 
 pub put_block-requires : goal.put_block-requires
 put_block-requires c =
-    let small : c.edge_in-e.result.target < 1024 = omega (arith, ap (λ (x : Edge). x.target) c.edge_in-e.ensures, target_lt (held_in c.args.g.now).graph c.requires.ends c.args.k c.requires.edge, block_most c.args.g.now) in
+    let small : c.edge_in-e.result.target < 1024 = omega (arith, ap (λ (x : Edge). x.target) c.edge_in-e.ensures, target_lt (held_of c.args.g.now).graph c.requires.ends c.args.k c.requires.edge, block_most c.args.g.now) in
     (c.requires.parts_fit, small)
 
 pub returns-then-not-in_set-clause-takes : goal.returns-then-not-in_set-clause-takes

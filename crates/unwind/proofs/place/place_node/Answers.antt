@@ -4,7 +4,7 @@ use Prim.Native.Nat.{ℕ, ◌≤◌}
 use native.Mathlib.Omega.{arith}
 use lib.ListN.{length}
 use Rattle.image.specs.Image.{routes_in}
-use Rattle.graph.specs.Words.{held_in}
+use Rattle.graph.specs.Lent.{held_of}
 use Rattle.graph.proofs.RecordLaws.{block_most}
 use Rattle.unwind.specs.declared.tries.store.NodeRecord.{NodeRecord}
 use Rattle.unwind.specs.Nodes.{funclet_in}
@@ -15,13 +15,13 @@ use Rattle.unwind.proofs.place.place_node.Goals as goal
 
 pub slot_of-slot-requires : goal.slot_of-slot-requires
 slot_of-slot-requires c =
-    let g = (held_in c.args.g.now).graph in
+    let g = (held_of c.args.g.now).graph in
     let m = routes_in c.args.s.now c.args.y in
     omega (arith, c.number_in-entry.ensures.0 ∙ c.requires.entry_is, entry_most g m _ (block_most c.args.g.now) (c.requires.leads c.args.i (omega arith)))
 
 pub place_clone-requires-clause-earlier : goal.place_clone-requires-clause-earlier
 place_clone-requires-clause-earlier c =
-    let g = (held_in c.args.g.now).graph in
+    let g = (held_of c.args.g.now).graph in
     let m = routes_in c.args.s.now c.args.y in
     let at = slot_here g m c.args.nodes.now c.args.i (ap (λ (x : NodeRecord). x.funclet) c.node_in-f.ensures.is) (c.number_in-entry.ensures.0 ∙ c.requires.entry_is) c.slot_of-slot.ensures.root c.slot_of-slot.ensures.funclet in
     late_lt g m c.args.nodes.now c.args.firsts.now c.args.i _ _ at c.number_in-first.ensures.0 c.requires.leads c.requires.firsts c.if-first-ne0.true
@@ -37,7 +37,7 @@ shape_of-parts-then-first-ne0 c = (sizes_kept c.place_clone.ensures.placed).part
 
 pub returns-then-first-ne0-clause-placing : goal.returns-then-first-ne0-clause-placing
 returns-then-first-ne0-clause-placing c =
-    let g = (held_in c.args.g.now).graph in
+    let g = (held_of c.args.g.now).graph in
     let m = routes_in c.args.s.now c.args.y in
     let at = slot_here g m c.args.nodes.now c.args.i (ap (λ (x : NodeRecord). x.funclet) c.node_in-f.ensures.is) (c.number_in-entry.ensures.0 ∙ c.requires.entry_is) c.slot_of-slot.ensures.root c.slot_of-slot.ensures.funclet in
     let stored = c.place_clone.ensures in
@@ -49,14 +49,14 @@ returns-then-first-ne0-clause-placing c =
 
 pub returns-then-first-ne0-clause-firsts : goal.returns-then-first-ne0-clause-firsts
 returns-then-first-ne0-clause-firsts c =
-    let g = (held_in c.args.g.now).graph in
+    let g = (held_of c.args.g.now).graph in
     let m = routes_in c.args.s.now c.args.y in
     let at = slot_here g m c.args.nodes.now c.args.i (ap (λ (x : NodeRecord). x.funclet) c.node_in-f.ensures.is) (c.number_in-entry.ensures.0 ∙ c.requires.entry_is) c.slot_of-slot.ensures.root c.slot_of-slot.ensures.funclet in
     firsts_late g m c.args.nodes.now c.args.firsts.now c.args.i _ _ at c.number_in-first.ensures.0 c.requires.leads c.requires.firsts c.if-first-ne0.true
 
 pub number_in-first-requires : goal.number_in-first-requires
 number_in-first-requires c =
-    let g = (held_in c.args.g.now).graph in
+    let g = (held_of c.args.g.now).graph in
     let m = routes_in c.args.s.now c.args.y in
     let at = slot_here g m c.args.nodes.now c.args.i (ap (λ (x : NodeRecord). x.funclet) c.node_in-f.ensures.is) (c.number_in-entry.ensures.0 ∙ c.requires.entry_is) c.slot_of-slot.ensures.root c.slot_of-slot.ensures.funclet in
     let within : c.slot_of-slot.result ≤ length g.blocks = rw at (slot_in_law g _ (c.requires.leads c.args.i (omega arith))) in
@@ -64,7 +64,7 @@ number_in-first-requires c =
 
 pub offset_bounds-firsts-slot : goal.offset_bounds-firsts-slot
 offset_bounds-firsts-slot c =
-    let g = (held_in c.args.g.now).graph in
+    let g = (held_of c.args.g.now).graph in
     let m = routes_in c.args.s.now c.args.y in
     let at = slot_here g m c.args.nodes.now c.args.i (ap (λ (x : NodeRecord). x.funclet) c.node_in-f.ensures.is) (c.number_in-entry.ensures.0 ∙ c.requires.entry_is) c.slot_of-slot.ensures.root c.slot_of-slot.ensures.funclet in
     let within : c.slot_of-slot.result ≤ length g.blocks = rw at (slot_in_law g _ (c.requires.leads c.args.i (omega arith))) in
@@ -72,7 +72,7 @@ offset_bounds-firsts-slot c =
 
 pub bounds-firsts-slot : goal.bounds-firsts-slot
 bounds-firsts-slot c =
-    let g = (held_in c.args.g.now).graph in
+    let g = (held_of c.args.g.now).graph in
     let m = routes_in c.args.s.now c.args.y in
     let at = slot_here g m c.args.nodes.now c.args.i (ap (λ (x : NodeRecord). x.funclet) c.node_in-f.ensures.is) (c.number_in-entry.ensures.0 ∙ c.requires.entry_is) c.slot_of-slot.ensures.root c.slot_of-slot.ensures.funclet in
     let within : c.slot_of-slot.result ≤ length g.blocks = rw at (slot_in_law g _ (c.requires.leads c.args.i (omega arith))) in
@@ -80,7 +80,7 @@ bounds-firsts-slot c =
 
 pub place_first-requires-clause-leads : goal.place_first-requires-clause-leads
 place_first-requires-clause-leads c =
-    let g = (held_in c.args.g.now).graph in
+    let g = (held_of c.args.g.now).graph in
     let m = routes_in c.args.s.now c.args.y in
     let funclet = ap (λ (x : NodeRecord). x.funclet) c.node_in-f.ensures.is in
     let by-step = c.number_in-entry.ensures.0 ∙ c.requires.entry_is ∙ ap (λ (f : ℕ). entry_block g (funclet_in m f)) (sym funclet) in
@@ -89,7 +89,7 @@ place_first-requires-clause-leads c =
 
 pub place_first-requires-clause-entry_most : goal.place_first-requires-clause-entry_most
 place_first-requires-clause-entry_most c =
-    let g = (held_in c.args.g.now).graph in
+    let g = (held_of c.args.g.now).graph in
     let m = routes_in c.args.s.now c.args.y in
     omega (arith, c.number_in-entry.ensures.0 ∙ c.requires.entry_is, entry_most g m _ (block_most c.args.g.now) (c.requires.leads c.args.i (omega arith)))
 
@@ -104,7 +104,7 @@ shape_of-parts c = (sizes_kept c.place_first.ensures.placed).parts_long
 
 pub returns-clause-placing : goal.returns-clause-placing
 returns-clause-placing c =
-    let g = (held_in c.args.g.now).graph in
+    let g = (held_of c.args.g.now).graph in
     let m = routes_in c.args.s.now c.args.y in
     let at = slot_here g m c.args.nodes.now c.args.i (ap (λ (x : NodeRecord). x.funclet) c.node_in-f.ensures.is) (c.number_in-entry.ensures.0 ∙ c.requires.entry_is) c.slot_of-slot.ensures.root c.slot_of-slot.ensures.funclet in
     let funclet = ap (λ (x : NodeRecord). x.funclet) c.node_in-f.ensures.is in
@@ -118,7 +118,7 @@ returns-clause-placing c =
 
 pub returns-clause-firsts : goal.returns-clause-firsts
 returns-clause-firsts c =
-    let g = (held_in c.args.g.now).graph in
+    let g = (held_of c.args.g.now).graph in
     let m = routes_in c.args.s.now c.args.y in
     let at = slot_here g m c.args.nodes.now c.args.i (ap (λ (x : NodeRecord). x.funclet) c.node_in-f.ensures.is) (c.number_in-entry.ensures.0 ∙ c.requires.entry_is) c.slot_of-slot.ensures.root c.slot_of-slot.ensures.funclet in
     firsts_more g m c.args.nodes.now c.args.firsts.now c.args.i _ _ at c.number_in-first.ensures.0 c.requires.leads c.requires.firsts c.if-first-ne0.false

@@ -2,9 +2,9 @@
 use mathlib.Core.Path.{◌≡◌}
 use lib.ListN.{length}
 use Rattle.image.specs.Image.{routes_in}
-use Rattle.graph.specs.Words.{held_in}
+use Rattle.graph.specs.Lent.{held_of}
 use Rattle.unwind.specs.Sides.{GuardsIn}
 use Rattle.unwind.proofs.sides.guard_routes.Given as goal
 
 abbrev pub invariant-loop-r : goal.invariant-loop-r
-invariant-loop-r l = (length l.guards ≡ length l.initial.guards) × GuardsIn (held_in l.g).graph (routes_in l.s l.y) l.guards l.r
+invariant-loop-r l = (length l.guards ≡ length l.initial.guards) × GuardsIn (held_of l.g).graph (routes_in l.s l.y) l.guards l.r

@@ -1,6 +1,6 @@
 use mathlib.Core.Path.{◌≡◌}
 use Prim.Native.Nat.{◌+◌}
-use Rattle.image.specs.Image.{image_in}
+use Rattle.builder.specs.Code.{image_of}
 use Rattle.builder.specs.Marks.{edge_target, edge_mark}
 use Rattle.builder.proofs.MarkLaws.{marks_none, marks_more}
 use native.Mathlib.Omega.{arith}
@@ -8,10 +8,10 @@ use borrow.Author.Rules.{rules}
 use Rattle.builder.proofs.leaders.flows.mark_edges.Goals as goal
 
 pub loop-k-init : goal.loop-k-init
-loop-k-init c = (search rules, marks_none (λ j p. edge_target (image_in _ _) (_ + j) p))
+loop-k-init c = (search rules, marks_none (λ j p. edge_target _ (_ + j) p))
 
 pub loop-k-preserved : goal.loop-k-preserved
-loop-k-preserved c = (search rules, marks_more (λ j p. edge_target (image_in c.args.s.now c.args.y) (c.args.first + j) p) c.loop-k.k c.loop-k.invariant.1 c.mark_edge.ensures)
+loop-k-preserved c = (search rules, marks_more (λ j p. edge_target (image_of c.args.checked.now.code) (c.args.first + j) p) c.loop-k.k c.loop-k.invariant.1 c.mark_edge.ensures)
 
 pub returns : goal.returns
 unfolding edge_mark

@@ -1,12 +1,13 @@
 -- The invariant: the marks of those before k. Assumes nothing.
 use Prim.Native.Nat.{◌+◌, ◌-◌, ◌≤◌}
-use Rattle.image.specs.Image.{image_in}
+use Rattle.builder.specs.Code.{image_of}
 use Rattle.graph.specs.Fold.{some}
+use Rattle.graph.specs.Transfer.{size}
 use Rattle.builder.specs.Marks.{Marked, edge_target}
 use Rattle.builder.proofs.leaders.flows.mark_edges.Given as goal
 
 abbrev pub invariant-loop-k : goal.invariant-loop-k
-invariant-loop-k l = (l.k ≤ l.n) × Marked l.y.code.instructions.count (λ p. some (λ j. edge_target (image_in l.s l.y) (l.first + j) p) l.k) l.initial.marks l.marks
+invariant-loop-k l = (l.k ≤ l.n) × Marked (size (image_of l.checked.code)) (λ p. some (λ j. edge_target (image_of l.checked.code) (l.first + j) p) l.k) l.initial.marks l.marks
 
 abbrev pub decreases-loop-k : goal.decreases-loop-k
 decreases-loop-k l = l.n - l.k

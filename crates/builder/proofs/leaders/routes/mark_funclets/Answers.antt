@@ -1,7 +1,6 @@
-use mathlib.Core.Path.{◌≡◌}
-use Rattle.image.specs.Image.{image_in}
-use Rattle.image.specs.Record.{step_from}
-use Rattle.image.proofs.Tables.{length-records}
+use mathlib.Core.Path.{◌≡◌, ap, ◌∙◌}
+use Rattle.image.specs.Image.{RouteImage}
+use Rattle.builder.specs.Code.{image_of}
 use Rattle.builder.proofs.MarkLaws.{marks_none, marks_more}
 use lib.ListN.{length}
 use Rattle.builder.specs.Marks.{step_mark, funclet_mark}
@@ -10,12 +9,12 @@ use borrow.Author.Rules.{rules}
 use Rattle.builder.proofs.leaders.routes.mark_funclets.Goals as goal
 
 pub loop-k-init : goal.loop-k-init
-loop-k-init c = (search rules, marks_none (λ i p. step_mark (image_in _ _) i p))
+loop-k-init c = (search rules, marks_none (λ i p. step_mark _ i p))
 
 pub loop-k-preserved : goal.loop-k-preserved
-loop-k-preserved c = (search rules, marks_more (λ i p. step_mark (image_in _ _) i p) c.loop-k.k c.loop-k.invariant.1 c.mark_funclet.ensures)
+loop-k-preserved c = (search rules, marks_more (λ i p. step_mark _ i p) c.loop-k.k c.loop-k.invariant.1 c.mark_funclet.ensures)
 
 pub returns : goal.returns
 unfolding funclet_mark
-returns c = let all : c.loop-k.k ≡ length (image_in c.args.s.now c.args.y).routes.steps = omega (arith, length-records step_from c.args.s.now c.args.y.routes.steps) in
+returns c = let all : c.loop-k.k ≡ length (image_of c.args.checked.now.code).routes.steps = omega (arith, c.len-n.ensures ∙ ap length (c.steps.ensures ∙ ap (λ (r : RouteImage). r.steps) c.routes.ensures)) in
     rw all at c.loop-k.invariant.1

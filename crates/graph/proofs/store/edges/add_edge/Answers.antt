@@ -1,16 +1,11 @@
--- `add_edge` meets its contract: the row behind the last is written, then counted; or there is no room. Assumes nothing.
-use mathlib.Core.Path.{refl}
+-- `add_edge` meets its contract. Assumes nothing.
 use native.Mathlib.Omega.{arith}
-use lib.Dec.{lit<}
-use Rattle.graph.specs.Section.{size}
-use Rattle.graph.proofs.WordLaws.{adds_row, adds_none}
-use Rattle.graph.proofs.RecordLaws.{edge_words, edge_added}
+use borrow.Author.Rules.{rules}
+use Rattle.graph.proofs.RecordLaws.{edge_added, step_more, step_full}
 use Rattle.graph.proofs.store.edges.add_edge.Goals as goal
 
-pub returns-then-n-lt-EDGE_MOST : goal.returns-then-n-lt-EDGE_MOST
-unfolding size
-returns-then-n-lt-EDGE_MOST c = edge_added (adds_row c.args.g.now c.put_row.ensures.0 2 (lit< tt) (edge_words c.args.r) refl c.rows_in-n.result c.rows_in-n.ensures (omega arith) c.put_row.new.g c.put_row.ensures.1)
+pub returns-then-n-lt-MOST_EDGES : goal.returns-then-n-lt-MOST_EDGES
+returns-then-n-lt-MOST_EDGES c = edge_added (step_more (search rules) (omega arith))
 
-pub returns-else-n-lt-EDGE_MOST : goal.returns-else-n-lt-EDGE_MOST
-unfolding size
-returns-else-n-lt-EDGE_MOST c = edge_added (adds_none c.args.g.now (edge_words c.args.r) 2 (omega arith))
+pub returns-else-n-lt-MOST_EDGES : goal.returns-else-n-lt-MOST_EDGES
+returns-else-n-lt-MOST_EDGES c = edge_added (step_full (omega arith))

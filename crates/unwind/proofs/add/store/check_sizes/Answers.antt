@@ -6,7 +6,7 @@ use lib.ListN.{length}
 use Rattle.image.specs.Record.{route_from}
 use Rattle.image.specs.Image.{routes_in}
 use Rattle.image.proofs.Tables.{length-records}
-use Rattle.graph.specs.Words.{held_in}
+use Rattle.graph.specs.Lent.{held_of}
 use Rattle.unwind.specs.Placed.{returns_in}
 use Rattle.unwind.specs.Most.{guarded_ways, returned_ways}
 use Rattle.unwind.proofs.LentLaws.{roots_fit}
@@ -34,6 +34,6 @@ clone_edge_count-copies-requires c = let l = links_lent c.args.g.now (routes_in 
 
 pub returns-then-is_ok : goal.returns-then-is_ok
 returns-then-is_ok c = let routes : length (routes_in c.args.s.now c.args.y).routes ≡ c.args.y.routes.count = length-records route_from c.args.s.now c.args.y.routes in
-    let above : guarded_ways c.args.nodes.now c.args.roots.now c.args.guards.now (length (held_in c.args.g.now).graph.blocks) (length (routes_in c.args.s.now c.args.y).routes) + returned_ways c.args.nodes.now (returns_in c.args.parts.now c.args.returners.now) (length (held_in c.args.g.now).graph.blocks) c.args.stored.nodes ≤ c.most_ways-most.result = rw routes (rw c.block_count.ensures at c.most_ways-most.ensures) in
+    let above : guarded_ways c.args.nodes.now c.args.roots.now c.args.guards.now (length (held_of c.args.g.now).graph.blocks) (length (routes_in c.args.s.now c.args.y).routes) + returned_ways c.args.nodes.now (returns_in c.args.parts.now c.args.returners.now) (length (held_of c.args.g.now).graph.blocks) c.args.stored.nodes ≤ c.most_ways-most.result = rw routes (rw c.block_count.ensures at c.most_ways-most.ensures) in
     let clear = sym (ok_clear _ (sym c.is_ok.ensures.value ∙ c.if-is_ok.true)) ∙ c.check_counts.ensures in
     most_check c.args.g.now (routes_in c.args.s.now c.args.y) c.requires.at_hand c.clone_edge_count-copies.result c.most_ways-most.result c.clone_edge_count-copies.ensures above clear

@@ -1,9 +1,0 @@
--- `call_count` meets its contract. Assumes nothing.
-use mathlib.Core.Path.{sym, ◌∙◌}
-use Rattle.graph.specs.Section.{size}
-use Rattle.graph.proofs.RecordLaws.{call_count}
-use Rattle.graph.proofs.store.calls.call_count.Goals as goal
-
-pub returns : goal.returns
-unfolding size
-returns c = c.rows_in.ensures ∙ sym (call_count c.args.g.now)

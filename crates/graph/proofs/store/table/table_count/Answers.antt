@@ -1,9 +1,0 @@
--- `table_count` meets its contract. Assumes nothing.
-use mathlib.Core.Path.{sym, ◌∙◌}
-use Rattle.graph.specs.Section.{size}
-use Rattle.graph.proofs.RecordLaws.{entry_count}
-use Rattle.graph.proofs.store.table.table_count.Goals as goal
-
-pub returns : goal.returns
-unfolding size
-returns c = c.rows_in.ensures ∙ sym (entry_count c.args.g.now)
