@@ -25,7 +25,7 @@ use Rattle.graph.specs.declared.record.Edge.{Edge}
 use Rattle.graph.specs.Graph.{Graph, Held, held, block as block_at}
 use Rattle.graph.specs.Fold.{flat, checks}
 use Rattle.graph.specs.Table.{is_start}
-use Rattle.graph.specs.Lent.{held_of, Sized}
+use Rattle.graph.specs.Lent.{held_of}
 use Rattle.graph.specs.WellFormed.{within_limits, parents_exist, names_handler, same_reference, references_match, well_formed}
 use Rattle.graph.proofs.FoldLaws.{flat-none}
 use Rattle.graph.proofs.StoredLaws.{all_held}
@@ -158,5 +158,5 @@ passes_again h l a whole e =
     let x = passed h l a e in
     again h.graph (routes_of x.image) a (sym (ap well_formed whole) ∙ x.graph) x.adds
 
-pub words_again : (w : Lent) → Sized w → (l : List ℕ) (a : Addition) → add_routes (held_of w) l ≡ added a → well_formed (held a.graph) ≡ true
-words_again w sized l a e = passes_again (held_of w) l a (all_held w sized (stands (held_of w) (passed (held_of w) l a e).graph).limits) e
+pub words_again : (w : Lent) (l : List ℕ) (a : Addition) → add_routes (held_of w) l ≡ added a → well_formed (held a.graph) ≡ true
+words_again w l a e = passes_again (held_of w) l a (all_held w (stands (held_of w) (passed (held_of w) l a e).graph).limits) e

@@ -42,12 +42,13 @@ pub fn build(s: &[u8], g: &mut Graph) -> Result<(), AddressBuildError>
     build_read(&image, g)
 }
 
-// The same of an image that was read, in the smaller frame if there is surely room in it.
+// The same of an image that was read, in the smaller frame if there is surely room in it: an instruction takes 31 bytes. Fewer
+// hints do for few instructions, but not where many bytes name their addresses.
 pub fn build_read(image: &Image<'_>, g: &mut Graph) -> Result<(), AddressBuildError>
     ensures answer { build_answer g.new result ≡ build_of (contents image.now) }
     ensures leaves { BuildLeaves g.old g.new result }
 {
-    if image.instructions().len() <= 64 {
+    if image.bytes.len() < 65 * 31 {
         build_framed::<127, 64>(image, g)
     } else {
         build_framed::<1023, 512>(image, g)

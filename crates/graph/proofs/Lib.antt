@@ -25,3 +25,4 @@ pub mod BuiltRuns
 pub mod BuiltEdges
 pub mod BuiltSets
 pub mod Built
+pub mod WordLaws

@@ -217,7 +217,7 @@ module _ (g : Graph) where
     unfolding all
     runs_built = all_from is_run 0 n (omega arith) refl (λ b le h. rw (built.1 b (omega (arith, built.0)) ∙ lt-ltb b n h))
 
-    run_copy : (b : ℕ) → n ≤ b → b < length g.blocks → is_run b ≡ some (repeats g b) (length g.blocks)
+    pub run_copy : (b : ℕ) → n ≤ b → b < length g.blocks → is_run b ≡ some (repeats g b) (length g.blocks)
     run_copy b le h = rw (built.1 b h ∙ le-ltb b n le)
 
     -- the built ones need not be asked

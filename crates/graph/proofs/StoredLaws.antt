@@ -16,11 +16,13 @@ use Prim.Native.Nat.{ℕ, ◌+◌, ◌-◌, ◌<◌, ◌≤◌, min}
 use native.Mathlib.Omega.{arith}
 use borrow.Author.Tests.{lt-ltb}
 use lib.Dec.{T, leb, leb→le}
-use lib.ListN.{length, take, drop, length-append, length-take}
+use lib.ListN.{length, get_or, drop, length-append}
 use Rattle.std.proofs.lemmas.List.{drop-drop}
-use Rattle.graph.specs.Graph.{Graph, Held, held}
+use Rattle.image.proofs.Tables.{length-table}
+use Rattle.graph.specs.Graph.{Graph, Held, held, no_block, no_edge, no_region, no_handler, no_unresolved, no_call}
+use Rattle.graph.specs.Table.{no_entry}
 use Rattle.graph.specs.WellFormed.{within_limits}
-use Rattle.graph.specs.Lent.{Part, part, holding, held_of, Sized}
+use Rattle.graph.specs.Lent.{Part, part, holding, held_of}
 use Rattle.graph.specs.Stored.{more, nothing, with_region, with_handler, Grows, Untouched, Stored, Emptied}
 use Rattle.graph.specs.Graph.{Counts}
 use Rattle.graph.specs.declared.store.Graph.{Graph as Lent}
@@ -98,11 +100,11 @@ module _ (g : Graph) where
 
 -- ---- within the limits
 
-exact : {A : Type 0} (most n : ℕ) (rows : List A) → length rows ≡ most → n ≤ most → part most n rows ≡ whole (take (min n most) rows)
-exact most n rows sized h = λ t. record { count = is t; list = take (min n most) rows }
+exact : {A : Type 0} (none : A) (most n : ℕ) (rows : List A) → n ≤ most → part none most n rows ≡ whole (part none most n rows).list
+exact none most n rows h = λ t. record { count = is t; list = (part none most n rows).list }
   where
-    is : n ≡ length (take (min n most) rows)
-    is = simp length-take (omega arith)
+    is : n ≡ length (part none most n rows).list
+    is = omega (arith, length-table (λ i. get_or rows i none) none (min n most))
 
 each : (a b c d e f g h : Bool) → T (a && b && c && d && e && f && g && h) → T a × T c × T d × T e × T f × T g × T h
 each true true true true true true true true t = (tt, tt, tt, tt, tt, tt, tt)
@@ -115,19 +117,19 @@ each true true true true true false g h t = elim t [ ]
 each true true true true true true false h t = elim t [ ]
 each true true true true true true true false t = elim t [ ]
 
-pub all_held : (g : Lent) → Sized g → within_limits (held_of g).counts ≡ true → held_of g ≡ held (held_of g).graph
+pub all_held : (g : Lent) → within_limits (held_of g).counts ≡ true → held_of g ≡ held (held_of g).graph
 unfolding held_of held within_limits
-all_held g sized e =
+all_held g e =
     let n = g.counts in
     let within : T (within_limits (held_of g).counts) = rw e tt in
     let c = each (leb n.table 512) (leb 1 n.blocks) (leb n.blocks 1024) (leb n.edges 4096) (leb n.regions 32) (leb n.handlers 32) (leb n.unresolved 1024) (leb n.calls 512) within in
     λ t.
     holding
     g.entry
-    (exact 512 n.table g.table sized.table (leb→le _ _ c.0) t)
-    (exact 1024 n.blocks g.blocks sized.blocks (leb→le _ _ c.1) t)
-    (exact 4096 n.edges g.edges sized.edges (leb→le _ _ c.2) t)
-    (exact 32 n.regions g.regions sized.regions (leb→le _ _ c.3) t)
-    (exact 32 n.handlers g.handlers sized.handlers (leb→le _ _ c.4) t)
-    (exact 1024 n.unresolved g.unresolved sized.unresolved (leb→le _ _ c.5) t)
-    (exact 512 n.calls g.calls sized.calls (leb→le _ _ c.6) t)
+    (exact no_entry 512 n.table g.table (leb→le _ _ c.0) t)
+    (exact no_block 1024 n.blocks g.blocks (leb→le _ _ c.1) t)
+    (exact no_edge 4096 n.edges g.edges (leb→le _ _ c.2) t)
+    (exact no_region 32 n.regions g.regions (leb→le _ _ c.3) t)
+    (exact no_handler 32 n.handlers g.handlers (leb→le _ _ c.4) t)
+    (exact no_unresolved 1024 n.unresolved g.unresolved (leb→le _ _ c.5) t)
+    (exact no_call 512 n.calls g.calls (leb→le _ _ c.6) t)

@@ -2,7 +2,7 @@
 
 // One instruction of the table. A target and cases stay in the image.
 #[repr(C)]
-#[derive(Clone, Copy, Default)]
+#[derive(Clone, Copy, Default, PartialEq, Eq)]
 pub struct TableEntry {
     pub address: u64,
     pub end: u64,
@@ -13,7 +13,7 @@ pub struct TableEntry {
 
 // A run of the table: `count` instructions from position `first` on.
 #[repr(C)]
-#[derive(Clone, Copy, Default)]
+#[derive(Clone, Copy, Default, PartialEq, Eq)]
 pub struct Block {
     pub first: u64,
     pub count: u64,
@@ -21,7 +21,7 @@ pub struct Block {
 
 // An edge with its AddressEdgeInfo: `number` is what the role carries (or a given edge's payload), `key` a case's key.
 #[repr(C)]
-#[derive(Clone, Copy, Default)]
+#[derive(Clone, Copy, Default, PartialEq, Eq)]
 pub struct Edge {
     pub source: u64,
     pub target: u64,
@@ -35,7 +35,7 @@ pub struct Edge {
 
 // A protected range with its set of blocks and how many handlers it has.
 #[repr(C)]
-#[derive(Clone, Copy, Default)]
+#[derive(Clone, Copy, Default, PartialEq, Eq)]
 pub struct Region {
     pub has_parent: u64,
     pub parent: u64,
@@ -47,7 +47,7 @@ pub struct Region {
 
 // Handler `place` of `region`. Its input index is its place in the graph's list: the handler's reference.
 #[repr(C)]
-#[derive(Clone, Copy, Default)]
+#[derive(Clone, Copy, Default, PartialEq, Eq)]
 pub struct HandlerRecord {
     pub region: u64,
     pub place: u64,
@@ -58,7 +58,7 @@ pub struct HandlerRecord {
 
 // A transfer whose target starts no instruction. Its role tells whether it has a target and a case index.
 #[repr(C)]
-#[derive(Clone, Copy, Default)]
+#[derive(Clone, Copy, Default, PartialEq, Eq)]
 pub struct UnresolvedTransfer {
     pub source: u64,
     pub target: u64,
@@ -68,7 +68,7 @@ pub struct UnresolvedTransfer {
 
 // A flattened call.
 #[repr(C)]
-#[derive(Clone, Copy, Default)]
+#[derive(Clone, Copy, Default, PartialEq, Eq)]
 pub struct CallSite {
     pub source: u64,
     pub has_target: u64,
@@ -77,7 +77,7 @@ pub struct CallSite {
 
 // How many records of each kind there are.
 #[repr(C)]
-#[derive(Clone, Copy)]
+#[derive(Clone, Copy, PartialEq, Eq)]
 pub struct Counts {
     pub table: u64,
     pub blocks: u64,

@@ -8,7 +8,7 @@ pub mod table;
 pub mod unresolved;
 
 ghost use Rattle.std.specs.Prelude.{◌≡◌, min};
-ghost use Rattle.graph.specs.Lent.{Sized, held_of};
+ghost use Rattle.graph.specs.Lent.{Sized, held_of, zeros};
 ghost use Rattle.graph.specs.Stored.{entered, nothing, Stored, Emptied};
 ghost use Rattle.graph.specs.WellFormed.{within_limits};
 
@@ -36,7 +36,7 @@ const NO_RECORDS: Counts = Counts {
 // The rows past a count hold nothing, and a count past the end counts each row. `entry` is the block at which the sequence is
 // entered.
 #[repr(C)]
-#[derive(Drop)]
+#[derive(Clone, Copy, PartialEq, Eq)]
 pub struct Graph {
     pub counts: Counts,
     pub entry: u64,
@@ -54,9 +54,10 @@ pub struct Graph {
 const _: () = prove!(size_of::<Graph>() == 43872 * 8);
 
 // A graph of zeros.
-#[tactic(auto, unfolding(crate::specs::Lent::held_of))]
+#[tactic(auto, unfolding(crate::specs::Lent::held_of, image::specs::Image::table))]
 pub fn zeros() -> Graph
-    ensures { held_of result ≡ nothing }
+    ensures words { result ≡ zeros }
+    ensures holds { held_of result ≡ nothing }
 {
     Graph {
         counts: NO_RECORDS,

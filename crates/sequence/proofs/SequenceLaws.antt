@@ -32,7 +32,7 @@ use Rattle.image.specs.declared.form.ImageError.{ImageError}
 use Rattle.image.proofs.Accepted.{accepted_routes}
 use Rattle.graph.specs.Graph.{Graph, Held, held}
 use Rattle.graph.specs.declared.record.Counts.{Counts}
-use Rattle.graph.specs.Lent.{Sized, held_of}
+use Rattle.graph.specs.Lent.{held_of}
 use Rattle.graph.specs.Error.{refusal_of}
 use Rattle.graph.specs.Fold.{checks}
 use Rattle.graph.specs.Build.{Outcome as Building, built, refused as not_built, outcome, build_check, graph_from, build_of, build_read, build_from}
@@ -222,13 +222,13 @@ module _ (l : List ℕ) where
         unfolding with_routes sequence_from
         added_from o e = rw (← s.is, ne_eqb (le1 l 1) 0 mode) (ap (routed (held_of v).graph) (e ∙ ap (λ (x : Held). add_routes x (route_bytes l)) s.laid.holds))
 
-        pub routed_gives : (w : Lent) (h h' : List ℕ) (r : Result Unit AddressBuildError) → Sized v → Adds m v w h h' r → Gives l u w h h' (sequence_of r)
+        pub routed_gives : (w : Lent) (h h' : List ℕ) (r : Result Unit AddressBuildError) → Adds m v w h h' r → Gives l u w h h' (sequence_of r)
         unfolding addition
-        routed_gives w h h' (Ok _) rows adds =
+        routed_gives w h h' (Ok _) adds =
             let answer = read_answer (route_bytes l) v w h h' (Ok tt) s.graph m alone adds in
             let is-addition = (accepted (held_of v).graph (routes_of m) (addition_in m w h') (sym adds.answer)).is in
             gives l w h' (Ok tt) (added_from _ answer)
-            (laid_on (grown (held_of v).graph _ _ v w s.laid.holds (adds.leaves.0.holds ∙ ap held (sym (ap (λ (a : Addition). a.graph) is-addition)))) s.laid adds.leaves.0, added_graphed (route_bytes l) v w h h' (Ok tt) rows answer adds.leaves, adds.leaves.1)
-        routed_gives w h h' (Err e) rows adds =
+            (laid_on (grown (held_of v).graph _ _ v w s.laid.holds (adds.leaves.0.holds ∙ ap held (sym (ap (λ (a : Addition). a.graph) is-addition)))) s.laid adds.leaves.0, added_graphed (route_bytes l) v w h h' (Ok tt) answer adds.leaves, adds.leaves.1)
+        routed_gives w h h' (Err e) adds =
             subst (λ (x : Lent). Gives l u x h h' (Err (Unrouted e))) (sym adds.leaves.0)
             (gives l v h' (Err (Unrouted e)) (added_from _ (read_answer (route_bytes l) v w h h' (Err e) s.graph m alone adds)) (s.laid, s.graph, adds.leaves.1))

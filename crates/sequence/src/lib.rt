@@ -12,8 +12,8 @@ ghost use Rattle.sequence.specs.Sequences.{Gives};
 
 use builder::build::build_read;
 use graph::error::AddressBuildError;
+use graph::store::Graph;
 use graph::store::blocks::block_count;
-use graph::store::{Graph, sized};
 use image::form::ImageError;
 use image::little::byte_at;
 use image::read::read_image;
@@ -55,7 +55,6 @@ pub fn build_sequence(s: &[u8], g: &mut Graph, h: &mut Hops) -> Result<(), Seque
         empty_hops(h);
         return Ok(());
     }
-    sized(g);
     let built = block_count(g);
     add_checked(g, built, s, layout.routes, h).map_err(SequenceError::Unrouted)
 }

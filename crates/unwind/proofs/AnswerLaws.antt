@@ -17,7 +17,7 @@ use Rattle.image.specs.Image.{RouteImage}
 use Rattle.image.specs.Read.{Reading, read, refusing, read_routes}
 use Rattle.image.specs.Deal.{routes_of}
 use Rattle.graph.specs.Graph.{Held}
-use Rattle.graph.specs.Lent.{held_of, Sized as RowsSized}
+use Rattle.graph.specs.Lent.{held_of}
 use Rattle.graph.specs.Error.{refusal_of}
 use Rattle.graph.specs.WellFormed.{well_formed}
 use Rattle.graph.specs.declared.error.AddressBuildError.{AddressBuildError}
@@ -40,9 +40,9 @@ module _ (h : Held) (l : List ℕ) where
     unfolding add_routes add_read
     read_added m found = rw (graph, ← found)
 
-pub added_graphed : (l : List ℕ) (w w' : Lent) (h h' : List ℕ) (r : Result Unit AddressBuildError) → RowsSized w → add_answer l w' h' r ≡ add_routes (held_of w) l → AddLeaves w w' h h' r → Graphed w' r
-added_graphed l w w' h h' (Ok _) rows answer leaves = ap well_formed leaves.0.holds ∙ words_again w rows l (addition_in (image_of (read_routes l)) w' h') (sym answer)
-added_graphed l w w' h h' (Err e) rows answer leaves = tt
+pub added_graphed : (l : List ℕ) (w w' : Lent) (h h' : List ℕ) (r : Result Unit AddressBuildError) → add_answer l w' h' r ≡ add_routes (held_of w) l → AddLeaves w w' h h' r → Graphed w' r
+added_graphed l w w' h h' (Ok _) answer leaves = ap well_formed leaves.0.holds ∙ words_again w l (addition_in (image_of (read_routes l)) w' h') (sym answer)
+added_graphed l w w' h h' (Err e) answer leaves = tt
 
 module _ (l : List ℕ) (w w' : Lent) (h h' : List ℕ) (r : Result Unit AddressBuildError) where
   pub added_spells : add_answer l w' h' r ≡ add_routes (held_of w) l → Spells l w w' h' r

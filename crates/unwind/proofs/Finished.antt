@@ -12,7 +12,7 @@ use Rattle.graph.specs.declared.store.Graph.{Graph as Lent}
 use Rattle.graph.specs.declared.record.Block.{Block}
 use Rattle.graph.specs.declared.record.Edge.{Edge}
 use Rattle.graph.specs.Graph.{Graph, Held, held}
-use Rattle.graph.specs.Lent.{Sized, held_of}
+use Rattle.graph.specs.Lent.{held_of}
 use Rattle.graph.specs.Stored.{Stored}
 use Rattle.graph.specs.Adding.{Added, adding, with_blocks}
 use Rattle.graph.specs.Answers.{Laid}
@@ -33,7 +33,7 @@ edges_held g es fit unresolved_fit calls_fit =
     adding-held g es [] [] fit (omega arith) (omega arith)
     ∙ (λ t. held (record { entry = g.entry; table = g.table; blocks = g.blocks; edges = g.edges ++ es; regions = g.regions; handlers = g.handlers; unresolved = append-nil g.unresolved t; calls = append-nil g.calls t }))
 
-module _ {w w₁ w₂ : Lent} (sized : Sized w) (ok : well_formed (held_of w) ≡ true) (bs : List Block) (ce : List Edge) (cloned : Added w w₁ ce [] []) (copied : Stored w₁ w₂ (with_blocks (held_of w₁) bs)) (blocks_fit : length (held_of w).graph.blocks + length bs ≤ 1024) where
+module _ {w w₁ w₂ : Lent} (ok : well_formed (held_of w) ≡ true) (bs : List Block) (ce : List Edge) (cloned : Added w w₁ ce [] []) (copied : Stored w₁ w₂ (with_blocks (held_of w₁) bs)) (blocks_fit : length (held_of w).graph.blocks + length bs ≤ 1024) where
   abbrev before : Graph
   before = (held_of w).graph
 
@@ -48,7 +48,7 @@ module _ {w w₁ w₂ : Lent} (sized : Sized w) (ok : well_formed (held_of w) �
   copies_held fit =
       copied.holds
       ∙ ap (λ (h : Held). with_blocks h bs)
-      (cloned.stored.holds ∙ ap (λ (h : Held). adding h ce [] []) (all_held w sized (rule.stands (held_of w) ok).limits) ∙ edges_held before ce fit unresolved_fit calls_fit)
+      (cloned.stored.holds ∙ ap (λ (h : Held). adding h ce [] []) (all_held w (rule.stands (held_of w) ok).limits) ∙ edges_held before ce fit unresolved_fit calls_fit)
       ∙ blocks_held (with_edges before ce) bs blocks_fit
 
   pub copies_graph : length (held_of w).graph.edges + length ce ≤ 4096 → (held_of w₂).graph ≡ extended (held_of w).graph bs ce

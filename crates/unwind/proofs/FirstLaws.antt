@@ -32,7 +32,7 @@ use Rattle.unwind.proofs.PlaceLaws.{same_eq}
 
 -- ---- slots
 
-slot_is : (g : Graph) (m : RouteImage) (f e r : ℕ) → e ≡ entry_block g (funclet_in m f) → (f ≡ 0 → r ≡ 0) → ((f ≡ 0 → ⊥) → r ≡ e + 1) → r ≡ slot_of g (funclet_in m f)
+pub slot_is : (g : Graph) (m : RouteImage) (f e r : ℕ) → e ≡ entry_block g (funclet_in m f) → (f ≡ 0 → r ≡ 0) → ((f ≡ 0 → ⊥) → r ≡ e + 1) → r ≡ slot_of g (funclet_in m f)
 unfolding slot_of funclet_in entry_block
 slot_is g m zero e r is root named = root refl
 slot_is g m (suc f) e r is root named = named (λ z. absurd (let p : ◌≡◌ {A = ℕ} (suc f) 0 = z in omega arith)) ∙ ap (λ (k : ℕ). k + 1) is

@@ -31,7 +31,7 @@ use Rattle.graph.specs.declared.error.AddressBuildError.{AddressBuildError}
 use Rattle.graph.specs.declared.record.Block.{Block}
 use Rattle.graph.specs.declared.record.Edge.{Edge}
 use Rattle.graph.specs.Graph.{Graph, Held, held, block}
-use Rattle.graph.specs.Lent.{held_of, Sized as RowsSized}
+use Rattle.graph.specs.Lent.{held_of}
 use Rattle.graph.specs.Fold.{flat}
 use Rattle.graph.specs.Error.{refusal_of, check_of}
 use Rattle.graph.specs.Stored.{Stored}
@@ -240,7 +240,7 @@ module _ (w : Lent) (m : RouteImage) {nodes edges ends roots head next bases hea
 
     -- ---- behind the copies of blocks
 
-    module _ (rows : RowsSized w) (fits : size_check (addition g rs) ≡ clear) {w₂ : Lent} (copies : Stored w₁ w₂ (with_blocks (held_of w₁) (block_copies (held_of w₁).graph bases parts c.nodes))) where
+    module _ (fits : size_check (addition g rs) ≡ clear) {w₂ : Lent} (copies : Stored w₁ w₂ (with_blocks (held_of w₁) (block_copies (held_of w₁).graph bases parts c.nodes))) where
       edges_fit : length g.edges + length new_edges + length wanted ≤ 4096
       unfolding addition extended
       edges_fit = omega (arith, (passed (addition g rs) fits).0, length-append g.edges (new_edges ++ wanted), length-append new_edges wanted)
@@ -252,7 +252,7 @@ module _ (w : Lent) (m : RouteImage) {nodes edges ends roots head next bases hea
       blocks_stored = subst (λ (l : List Block). Stored w₁ w₂ (with_blocks (held_of w₁) l)) copies_same copies
 
       graph_is : (held_of w₂).graph ≡ extended g new_blocks new_edges
-      graph_is = copies_graph {w = w} {w₁ = w₁} {w₂ = w₂} rows x.graphed new_blocks new_edges edges_stored blocks_stored blocks_fit (omega (arith, edges_fit))
+      graph_is = copies_graph {w = w} {w₁ = w₁} {w₂ = w₂} x.graphed new_blocks new_edges edges_stored blocks_stored blocks_fit (omega (arith, edges_fit))
 
       pub joins_stood : {h h' : List ℕ} → HopsLaid m h h' (hops_of (ways g rs)) → HopsJoin h' (held_of w₂).graph
       unfolding extended
@@ -275,7 +275,7 @@ module _ (w : Lent) (m : RouteImage) {nodes edges ends roots head next bases hea
       pub addition_laid : {w₃ : Lent} → Added w₂ w₃ (route_edges (held_of w₂).graph [] (lent_ways m nodes edges ends heads landings roots guards bases parts returns (length m.routes) c.nodes)) [] [] → Laid w w₃ (addition g rs).graph
       unfolding addition
       addition_laid {w₃} routed =
-          finished {w = w} {w₁ = w₁} {w₂ = w₂} rows x.graphed new_blocks new_edges edges_stored blocks_stored blocks_fit {w₃ = w₃} wanted
+          finished {w = w} {w₁ = w₁} {w₂ = w₂} x.graphed new_blocks new_edges edges_stored blocks_stored blocks_fit {w₃ = w₃} wanted
           (subst (λ (l : List Edge). Added w₂ w₃ l [] []) edges_wanted routed) edges_fit
         where
           edges_wanted : route_edges (held_of w₂).graph [] (lent_ways m nodes edges ends heads landings roots guards bases parts returns (length m.routes) c.nodes) ≡ wanted

@@ -95,15 +95,15 @@ module _ (m : RouteImage) where
       pub calls_next : is_ne o ≡ false → compared_from ≡ compare_tags (tags_in m (a + (i + 1)) (n - (i + 1))) (tags_in m (b + (i + 1)) (k - (i + 1)))
       calls_next p = calls_on h j ∙ sym (second_decides o _ _ told p)
 
-    calls_longer : i < n → k ≤ i → compared_from ≡ Ordering.gt
+    pub calls_longer : i < n → k ≤ i → compared_from ≡ Ordering.gt
     unfolding compare_tags
     calls_longer h j = rw (tags_next a n i h, tags_end b k i j)
 
-    calls_shorter : n ≤ i → i < k → compared_from ≡ Ordering.lt
+    pub calls_shorter : n ≤ i → i < k → compared_from ≡ Ordering.lt
     unfolding compare_tags
     calls_shorter h j = rw (tags_end a n i h, tags_next b k i j)
 
-    calls_equal : n ≤ i → k ≤ i → compared_from ≡ Ordering.eq
+    pub calls_equal : n ≤ i → k ≤ i → compared_from ≡ Ordering.eq
     unfolding compare_tags
     calls_equal h j = rw (tags_end a n i h, tags_end b k i j)
 
@@ -124,7 +124,7 @@ module _ (p q : Path) where
   unfolding compare_ends end_of
   ends_handlers e f = rw (eq-eqb p.end 0 e, eq-eqb q.end 0 f)
 
-  ends_first : p.end ≡ 0 → (q.end ≡ 0 → ⊥) → compare_ends (end_of p) (end_of q) ≡ Ordering.lt
+  pub ends_first : p.end ≡ 0 → (q.end ≡ 0 → ⊥) → compare_ends (end_of p) (end_of q) ≡ Ordering.lt
   unfolding compare_ends end_of
   ends_first e f = rw (eq-eqb p.end 0 e, ne_eqb q.end 0 f) (go (eqb q.end 1))
     where
@@ -132,7 +132,7 @@ module _ (p q : Path) where
       go true = refl
       go false = refl
 
-  ends_others : p.end ≤ 2 → q.end ≤ 2 → (p.end ≡ 0 → ⊥) → compare_ends (end_of p) (end_of q) ≡ compare p.end q.end
+  pub ends_others : p.end ≤ 2 → q.end ≤ 2 → (p.end ≡ 0 → ⊥) → compare_ends (end_of p) (end_of q) ≡ compare p.end q.end
   unfolding compare_ends end_of
   ends_others h j e = go (ℕ_discrete p.end 1) (ℕ_discrete q.end 0) (ℕ_discrete q.end 1)
     where

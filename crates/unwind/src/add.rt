@@ -18,7 +18,7 @@ use crate::checks::check_routes;
 use crate::hops::Hops;
 use graph::error::AddressBuildError;
 use graph::rule::{built_count, is_graph};
-use graph::store::{Graph, sized};
+use graph::store::Graph;
 use image::read::read_routes;
 use image::section::RouteLayout;
 
@@ -32,7 +32,6 @@ pub fn add_unwind_routes(g: &mut Graph, s: &[u8], h: &mut Hops) -> Result<(), Ad
     if !is_graph(g) {
         return Err(AddressBuildError::NoGraph);
     }
-    sized(g);
     let y = read_routes(s)?;
     add_read(g, s, y, h)
 }

@@ -5,14 +5,15 @@ ghost use Rattle.graph.specs.Lent.{held_of};
 ghost use Rattle.graph.specs.Stored.{with_block, Stored};
 
 use crate::record::Block;
-use crate::store::{Graph, rows};
+use crate::store::{Graph, rows, sized};
 
 pub const MOST_BLOCKS: usize = 1024;
 
-#[tactic(auto, unfolding(crate::specs::Lent::held_of))]
+#[tactic(auto, unfolding(crate::specs::Lent::held_of), using(crate::proofs::RecordLaws::rows_read))]
 pub fn blocks(g: &Graph) -> &[Block]
     ensures { result.now ≡ (held_of g.now).graph.blocks }
 {
+    sized(g);
     &g.blocks[..rows(g.counts.blocks, MOST_BLOCKS)]
 }
 

@@ -5,14 +5,15 @@ ghost use Rattle.graph.specs.Lent.{held_of};
 ghost use Rattle.graph.specs.Stored.{with_call, Stored};
 
 use crate::record::CallSite;
-use crate::store::{Graph, rows};
+use crate::store::{Graph, rows, sized};
 
 pub const MOST_CALLS: usize = 512;
 
-#[tactic(auto, unfolding(crate::specs::Lent::held_of))]
+#[tactic(auto, unfolding(crate::specs::Lent::held_of), using(crate::proofs::RecordLaws::rows_read))]
 pub fn calls(g: &Graph) -> &[CallSite]
     ensures { result.now ≡ (held_of g.now).graph.calls }
 {
+    sized(g);
     &g.calls[..rows(g.counts.calls, MOST_CALLS)]
 }
 

@@ -5,14 +5,15 @@ ghost use Rattle.graph.specs.Lent.{held_of};
 ghost use Rattle.graph.specs.Stored.{with_edge, Stored};
 
 use crate::record::Edge;
-use crate::store::{Graph, rows};
+use crate::store::{Graph, rows, sized};
 
 pub const MOST_EDGES: usize = 4096;
 
-#[tactic(auto, unfolding(crate::specs::Lent::held_of))]
+#[tactic(auto, unfolding(crate::specs::Lent::held_of), using(crate::proofs::RecordLaws::rows_read))]
 pub fn edges(g: &Graph) -> &[Edge]
     ensures { result.now ≡ (held_of g.now).graph.edges }
 {
+    sized(g);
     &g.edges[..rows(g.counts.edges, MOST_EDGES)]
 }
 

@@ -5,14 +5,15 @@ ghost use Rattle.graph.specs.Lent.{held_of};
 ghost use Rattle.graph.specs.Stored.{with_handler, Stored};
 
 use crate::record::HandlerRecord;
-use crate::store::{Graph, rows};
+use crate::store::{Graph, rows, sized};
 
 pub const MOST_HANDLERS: usize = 32;
 
-#[tactic(auto, unfolding(crate::specs::Lent::held_of))]
+#[tactic(auto, unfolding(crate::specs::Lent::held_of), using(crate::proofs::RecordLaws::rows_read))]
 pub fn handlers(g: &Graph) -> &[HandlerRecord]
     ensures { result.now ≡ (held_of g.now).graph.handlers }
 {
+    sized(g);
     &g.handlers[..rows(g.counts.handlers, MOST_HANDLERS)]
 }
 

@@ -5,14 +5,15 @@ ghost use Rattle.graph.specs.Lent.{held_of};
 ghost use Rattle.graph.specs.Stored.{with_region, Stored};
 
 use crate::record::Region;
-use crate::store::{Graph, rows};
+use crate::store::{Graph, rows, sized};
 
 pub const MOST_REGIONS: usize = 32;
 
-#[tactic(auto, unfolding(crate::specs::Lent::held_of))]
+#[tactic(auto, unfolding(crate::specs::Lent::held_of), using(crate::proofs::RecordLaws::rows_read))]
 pub fn regions(g: &Graph) -> &[Region]
     ensures { result.now ≡ (held_of g.now).graph.regions }
 {
+    sized(g);
     &g.regions[..rows(g.counts.regions, MOST_REGIONS)]
 }
 

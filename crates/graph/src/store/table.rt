@@ -5,14 +5,15 @@ ghost use Rattle.graph.specs.Lent.{held_of};
 ghost use Rattle.graph.specs.Stored.{with_entry, Stored};
 
 use crate::record::TableEntry;
-use crate::store::{Graph, rows};
+use crate::store::{Graph, rows, sized};
 
 pub const MOST_ENTRIES: usize = 512;
 
-#[tactic(auto, unfolding(crate::specs::Lent::held_of))]
+#[tactic(auto, unfolding(crate::specs::Lent::held_of), using(crate::proofs::RecordLaws::rows_read))]
 pub fn entries(g: &Graph) -> &[TableEntry]
     ensures { result.now ≡ (held_of g.now).graph.table }
 {
+    sized(g);
     &g.table[..rows(g.counts.table, MOST_ENTRIES)]
 }
 

@@ -5,14 +5,15 @@ ghost use Rattle.graph.specs.Lent.{held_of};
 ghost use Rattle.graph.specs.Stored.{with_unresolved, Stored};
 
 use crate::record::UnresolvedTransfer;
-use crate::store::{Graph, rows};
+use crate::store::{Graph, rows, sized};
 
 pub const MOST_UNRESOLVED: usize = 1024;
 
-#[tactic(auto, unfolding(crate::specs::Lent::held_of))]
+#[tactic(auto, unfolding(crate::specs::Lent::held_of), using(crate::proofs::RecordLaws::rows_read))]
 pub fn transfers(g: &Graph) -> &[UnresolvedTransfer]
     ensures { result.now ≡ (held_of g.now).graph.unresolved }
 {
+    sized(g);
     &g.unresolved[..rows(g.counts.unresolved, MOST_UNRESOLVED)]
 }
 

@@ -31,4 +31,4 @@ add_checked-requires-clause-checked c =
 pub returns : goal.returns
 returns c =
     let stands = stands _ _ _ c.in_ok-layout.layout c.in_ok-layout.ensures.answer c.in_ok-build_read.ensures.answer c.in_ok-build_read.ensures.leaves in
-    rw (mapped _ _ c.map_err.ensures.cases) (routed_gives _ _ _ _ stands (λ e. c.if-byte_at-eq0.false (c.byte_at.ensures.0 ∙ e)) c.in_ok-layout.ensures.answer _ _ _ _ c.sized.ensures c.add_checked.ensures)
+    rw (mapped _ _ c.map_err.ensures.cases) (routed_gives _ _ _ _ stands (λ e. c.if-byte_at-eq0.false (c.byte_at.ensures.0 ∙ e)) c.in_ok-layout.ensures.answer _ _ _ _ c.add_checked.ensures)

@@ -21,9 +21,9 @@ use crate::hops::{HOP_MOST, Hops, LIST_MOST};
 use crate::tries::store::Counts;
 use crate::wants::add_route_edges;
 use graph::error::AddressBuildError;
+use graph::store::Graph;
 use graph::store::blocks::block_count;
 use graph::store::edges::{MOST_EDGES, edge_count};
-use graph::store::{Graph, sized};
 use image::section::RouteLayout;
 
 // All is decided before the first store.
@@ -161,7 +161,6 @@ fn store_addition(
     ensures graph { Laid g.old g.new (addition (held_of g.old).graph (routes_of (routes_in s.now y))).graph }
     ensures hops { HopsLaid (routes_in s.now y) h.old h.new (addition (held_of g.old).graph (routes_of (routes_in s.now y))).hops }
 {
-    sized(g);
     let blocks = block_count(g);
     add_hops(
         g, h, s, y, nodes, edges, ends, heads, landings, roots, guards, bases, parts, returners,

@@ -28,4 +28,4 @@ pub returns-clause-spells : goal.returns-clause-spells
 returns-clause-spells c = added_spells c.args.s.now c.args.g.now _ c.args.h.now _ _ (read_answer c.args.s.now c.args.g.now _ c.args.h.now _ _ (sym c.is_graph.ensures ∙ not-false _ c.if-not-is_graph.false-raw) _ c.in_ok-y.ensures.answer c.add_read.ensures)
 
 pub returns-clause-graphed : goal.returns-clause-graphed
-returns-clause-graphed c = added_graphed c.args.s.now c.args.g.now _ c.args.h.now _ _ c.sized.ensures (read_answer c.args.s.now c.args.g.now _ c.args.h.now _ _ (sym c.is_graph.ensures ∙ not-false _ c.if-not-is_graph.false-raw) _ c.in_ok-y.ensures.answer c.add_read.ensures) c.add_read.ensures.leaves
+returns-clause-graphed c = added_graphed c.args.s.now c.args.g.now _ c.args.h.now _ _ (read_answer c.args.s.now c.args.g.now _ c.args.h.now _ _ (sym c.is_graph.ensures ∙ not-false _ c.if-not-is_graph.false-raw) _ c.in_ok-y.ensures.answer c.add_read.ensures) c.add_read.ensures.leaves

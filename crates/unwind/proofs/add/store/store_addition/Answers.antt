@@ -22,7 +22,7 @@ add_route_edges-requires c = let w = c.args.g.now in
     let m = routes_in c.args.s.now c.args.y in
     let x = c.requires.at_hand in
     let l = all_lent w m x in (
-      joins_stood w m x c.add_clone_edges.ensures c.sized.ensures c.requires.sizes c.add_clone_blocks.ensures c.add_hops.ensures,
+      joins_stood w m x c.add_clone_edges.ensures c.requires.sizes c.add_clone_blocks.ensures c.add_hops.ensures,
       x.instances.slots.parts_fit,
       l.4.few,
       hops_lent w m x c.add_hops.ensures,
@@ -37,7 +37,7 @@ add_route_edges-requires c = let w = c.args.g.now in
 pub returns-clause-graph : goal.returns-clause-graph
 returns-clause-graph c = let w = c.args.g.now in
     let m = routes_in c.args.s.now c.args.y in
-    addition_laid w m c.requires.at_hand c.add_clone_edges.ensures c.sized.ensures c.requires.sizes c.add_clone_blocks.ensures c.add_route_edges.ensures
+    addition_laid w m c.requires.at_hand c.add_clone_edges.ensures c.requires.sizes c.add_clone_blocks.ensures c.add_route_edges.ensures
 
 pub returns-clause-hops : goal.returns-clause-hops
 returns-clause-hops c = let w = c.args.g.now in
